@@ -1,0 +1,2 @@
+pub mod NodeTerms
+pub mod FillLaws

@@ -1,0 +1,36 @@
+-- Which lists of nodes are a code, and the first fault of one that is none.
+use Rattle.std.specs.Prelude.{◌≡◌, ◌⊎◌, ℕ, suc, ◌+◌, ◌^◌, ◌<◌, ◌≤◌, List, [], ◌∷◌, ◌++◌, length, take, All, Contains}
+use Rattle.fx_term.specs.declared.node.NodeId.{NodeId}
+use Rattle.fx_term.specs.declared.node.Node.{Node}
+use Rattle.fx_term.specs.declared.code.CodeFault.{CodeFault}
+use Rattle.fx_term.specs.declared.code.CodeFault.TheVariants.{Child, Slot, Memory}
+use Rattle.fx_term.specs.Scope.{IsInScope}
+use Rattle.fx_term.specs.Meaning.{root_term}
+use Rattle.fx_term.specs.Tree.{all_children, IsForest, IsOneTree}
+use Rattle.fx_term.specs.Spots.{Spot, spots, IsWellPlaced}
+
+-- one tree whose term stands in no binder's scope
+pub record IsCode (nodes : List Node) : Type 0 where
+  pub fits : length nodes < 2 ^ 32
+  pub tree : IsOneTree nodes
+  pub scope : IsInScope [] (root_term nodes)
+
+abbrev node_id : ℕ → NodeId
+node_id n = record { 0 = n }
+
+-- The first fault, in the order of the tests
+pub data IsFault (nodes : List Node) : CodeFault → Type 0 where
+  no_node : length nodes ≡ 0 → IsFault nodes (Child (node_id 0))
+  too_many : 2 ^ 32 ≤ length nodes → IsFault nodes (Child (node_id 0))
+  -- a child of this node does not stand before it, or is a child already; no node before has such a child
+  stray : {id : ℕ} → length nodes < 2 ^ 32 → id < length nodes → IsForest (take id nodes) → (IsForest (take (suc id) nodes) → ⊥) → IsFault nodes (Child (node_id id))
+  -- this node is not the last, and nobody's child; each node before is somebody's
+  orphan : {id : ℕ} → length nodes < 2 ^ 32 → IsForest nodes → id + 1 < length nodes → ((j : ℕ) → j < id → Contains (all_children nodes) j) → (Contains (all_children nodes) id → ⊥) → IsFault nodes (Child (node_id id))
+  -- from the root down, this node is the first with a wrong slot
+  slot : (before after : List Spot) (s : Spot) → length nodes < 2 ^ 32 → IsOneTree nodes → spots nodes ≡ before ++ s ∷ after → All (IsWellPlaced nodes) before → (IsWellPlaced nodes s → ⊥) → IsFault nodes (Slot (node_id s.id))
+
+-- the number of a fault
+abbrev pub fault_number : CodeFault → ℕ
+fault_number (Child id) = 1
+fault_number (Slot id) = 2
+fault_number Memory = 4

@@ -1,0 +1,27 @@
+-- The term that a node of a code stands for.
+use Rattle.std.specs.Prelude.{ℕ, zero, suc, ◌-◌, Option, Some, None, List, length, slice_get}
+use Rattle.fx_term.specs.declared.node.Node.{Node}
+use Rattle.fx_term.specs.declared.node.Node.TheVariants as node
+use Rattle.fx_term.specs.Term.{Term, Pure, Raise, Canceled, Never, Let, Handle}
+
+-- a node's term, from the terms of its children
+abbrev pub assemble : Option Node → (ℕ → Term) → Term
+assemble None child = Never
+assemble (Some (node.Pure a)) child = Pure a
+assemble (Some (node.Raise a)) child = Raise a
+assemble (Some node.Canceled) child = Canceled
+assemble (Some (node.Let x a b)) child = Let x (child a.0) (child b.0)
+assemble (Some (node.Handle a x b)) child = Handle (child a.0) x (child b.0)
+
+-- the node's term, read that many levels deep
+unfoldable pub read : ℕ → List Node → ℕ → Term
+read zero nodes id = Never
+read (suc depth) nodes id = assemble (slice_get nodes id) (read depth nodes)
+
+-- the term of a node. Children stand before their parents, so a node has at most as many levels as its number and one
+unfoldable pub term_of : List Node → ℕ → Term
+term_of nodes id = read (suc id) nodes id
+
+-- the term of a code: that of its last node
+abbrev pub root_term : List Node → Term
+root_term nodes = term_of nodes (length nodes - 1)

@@ -1,0 +1,87 @@
+//! The checked code of a script.
+ghost use Rattle.std.specs.Prelude.{◌≡◌, ◌⊎◌, ◌+◌, ◌<◌, Some, length, slice_get, IfOk, IfErr, IsOkUnless};
+
+use crate::node::{Node, NodeId};
+use std::alloc::{AllocError, AllocFailed, Global};
+use std::marker::Model;
+use thiserror::Error;
+
+/// Why a list of nodes is no code: the first fault in the order of the tests.
+#[derive(Clone, Copy, PartialEq, Eq, Debug, Error)]
+pub enum CodeFault {
+    /// A child of this node does not stand before it, or is a child already; or this node, which is
+    /// not the last, is nobody's child; or, at node 0, there is no node or there are more than
+    /// 4,294,967,295.
+    #[error("node {}: a child that is not before its parent, or a node that is not one node's child", .0.0)]
+    Child(NodeId),
+    /// A binder of this node has another slot than the next, or a slot that it uses is not bound.
+    #[error("node {}: a slot that is not bound, or a binder with a wrong slot", .0.0)]
+    Slot(NodeId),
+    /// Memory ran out before a fault was found.
+    #[error("out of memory")]
+    Memory,
+}
+
+impl CodeFault {
+    ghost use Rattle.fx_term.specs.Code.{fault_number};
+
+    /// The number of the fault's kind.
+    pub fn number(&self) -> u8
+        ensures { result ≡ fault_number self.now }
+    {
+        match self {
+            CodeFault::Child(_) => 1,
+            CodeFault::Slot(_) => 2,
+            CodeFault::Memory => 4,
+        }
+    }
+}
+
+/// One well-scoped term, as the list of its nodes. Contracts see it as that list.
+#[derive(Drop)]
+pub struct Code {
+    nodes: Vec<Node>,
+}
+
+impl Model for Code {
+    ghost use Rattle.std.specs.Prelude.{List};
+    ghost use Rattle.fx_term.specs.declared.node.Node.{Node};
+
+    ghost Value = { List Node };
+
+    ghost view = { λ c. c.nodes.items };
+
+    ghost use Rattle.fx_term.specs.Code.{IsCode};
+
+    ghost invariant = { λ c. IsCode c.nodes.items };
+}
+
+impl Code {
+    ghost use Rattle.fx_term.specs.declared.code.CodeFault.TheVariants.{Memory};
+    ghost use Rattle.fx_term.specs.Code.{IsCode, IsFault};
+
+    /// The number of nodes, which is not 0.
+    pub fn len(&self) -> u32
+        ensures len { result ≡ length self.now }
+        ensures code { IsCode self.now }
+    {
+        self.nodes.len() as u32
+    }
+
+    /// The node of the whole term, which is the last.
+    pub fn root(&self) -> NodeId
+        ensures last { result.0 + 1 ≡ length self.now }
+        ensures code { IsCode self.now }
+    {
+        NodeId(self.len() - 1)
+    }
+
+    /// The node of this number.
+    pub fn node(&self, id: NodeId) -> Node
+        requires { id.0 < length self.now }
+        ensures node { slice_get self.now id.0 ≡ Some result }
+        ensures code { IsCode self.now }
+    {
+        self.nodes[id.0 as usize]
+    }
+}

@@ -1,0 +1,28 @@
+//! The words that all other crates speak: how a fiber ends, what its trace shows, and the checked
+//! code of a script.
+//!
+//! A [`Code`] is one well-scoped term, kept as a list of nodes. Its rules, in the order in which
+//! [`Code::build`] tests them:
+//!
+//! 1. There is a node, and a node's number fits in 32 bits.
+//! 2. A node's children stand before it, and no node is a child twice.
+//! 3. Each node but the last is a child, so the last one is the root.
+//! 4. From the root down, a binder has the number of names in whose scope it stands, and a name that
+//!    is used is in scope there.
+//!
+//! A `Code` never changes, and nothing but `build` makes one.
+#![tactic(auto)]
+
+mod code;
+mod done;
+mod event;
+mod memory;
+mod node;
+mod outcome;
+
+pub use code::{Code, CodeFault};
+pub use done::Done;
+pub use event::Event;
+pub use memory::Memory;
+pub use node::{Arg, Node, NodeId};
+pub use outcome::Outcome;

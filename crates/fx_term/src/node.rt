@@ -1,0 +1,27 @@
+//! The nodes of a code.
+
+/// The number of a node: its place in the list of nodes, from 0.
+#[derive(Clone, Copy, PartialEq, Eq, Debug)]
+pub struct NodeId(pub u32);
+
+/// A number, or a name, which is written as its slot: the number of names in scope where it was bound.
+#[derive(Clone, Copy, PartialEq, Eq, Debug)]
+pub enum Arg {
+    Number(u64),
+    Slot(u32),
+}
+
+/// One form of a script, with its parts in the order of the text.
+#[derive(Clone, Copy, PartialEq, Eq, Debug)]
+pub enum Node {
+    /// Gives the value.
+    Pure(Arg),
+    /// Errs with the value (`raiseError`).
+    Raise(Arg),
+    /// Cancels the fiber that runs it (`canceled`).
+    Canceled,
+    /// The first part's value, by this slot, in the second part (`flatMap`).
+    Let(Option<u32>, NodeId, NodeId),
+    /// The first part's error, by this slot, in the second part (`handleErrorWith`).
+    Handle(NodeId, Option<u32>, NodeId),
+}
