@@ -1,5 +1,5 @@
 -- Laws of registers in place of names.
-use Rattle.std.specs.Prelude.{◌≡◌, ℕ, zero, suc, ◌<◌, ◌≤◌, Bool, true, false, if◌then◌else◌, ◌==◌, nat_lt, Option, Some, None, List, slice_index}
+use Rattle.std.specs.Prelude.{◌≡◌, ℕ, suc, ◌≤◌, Bool, true, false, if◌then◌else◌, ◌==◌, nat_lt, Some, None, List, slice_index}
 use Rattle.std.proofs.Common.{refl, sym, ◌∙◌, ap, arith}
 use Rattle.std.proofs.lemmas.Bool.{ltb-true, ltb-false, lt-ltb, eqb-true, eqb-false}
 use Rattle.std.proofs.lemmas.Bool.Decides.{nat_tests}
@@ -108,7 +108,7 @@ module _ (x n : ℕ) (ns ms : List ℕ) (below : AgreeBelow x ns ms) (at : slice
   put_fill_arg (Slot y) = by_order (nat_lt y x) refl (y == x) refl (nat_lt y (suc x)) refl
     where
       by_order : (b : Bool) → nat_lt y x ≡ b → (c : Bool) → (y == x) ≡ c → (d : Bool) → nat_lt y (suc x) ≡ d
-        → put_arg x n (if b then Number (slice_index ns y) else Slot y) ≡ (if d then Number (slice_index ms y) else Slot y)
+          → put_arg x n (if b then Number (slice_index ns y) else Slot y) ≡ (if d then Number (slice_index ms y) else Slot y)
       by_order true p c q true r = ap Number (below y (ltb-true y x p))
       by_order true p c q false r = let u = ltb-true y x p in let v = ltb-false y (suc x) r in absurd (omega arith)
       by_order false p true q true r = rw q (ap Number (sym at ∙ ap (λ (i : ℕ). slice_index ms i) (sym (eqb-true y x q))))

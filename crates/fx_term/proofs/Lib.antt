@@ -1,2 +1,13 @@
-pub mod NodeTerms
+pub mod AllParts
+pub mod CodeLaws
+pub mod DistinctNumbers
+pub mod FaultLaws
 pub mod FillLaws
+pub mod NodeTerms
+pub mod PartLaws
+pub mod PlaceLaws
+pub mod ScopeLaws
+pub mod SpotLaws
+pub mod SpotsToCome
+pub mod TakenLaws
+pub mod TreeLaws

@@ -1,5 +1,5 @@
 -- The terms of nodes: they are made of those of their children, and stay as nodes are added.
-use Rattle.std.proofs.Common.{◌≡◌, ℕ, zero, suc, ◌+◌, ◌<◌, ◌≤◌, Option, Some, None, List, [], ◌∷◌, ◌++◌, length, refl, sym, ◌∙◌, ap, arith, subst, inl, inr, ◌⊎◌}
+use Rattle.std.proofs.Common.{◌≡◌, ℕ, zero, suc, ◌+◌, ◌<◌, Option, Some, None, List, [], ◌∷◌, ◌++◌, length, refl, sym, ◌∙◌, arith, subst, inl, inr}
 use Rattle.std.specs.Prelude.{slice_get, All}
 use Rattle.std.proofs.lemmas.Bool.{cases_lt}
 use Rattle.fx_term.specs.declared.node.Node.{Node}
@@ -36,21 +36,21 @@ module _ (nodes : List Node) (tree : ChildrenComeFirst nodes) where
   term_of_node id n e = rw e (assemble_same n (read id nodes) (term_of nodes) (below_children (λ j. read id nodes j ≡ read (suc j) nodes j) id (children n) (tree id n e) (λ j h. read_same id (suc j) j h (omega arith))))
 
 -- reading a list with one more element at its end
-pub get_before : (xs : List Node) (y : Node) (i : ℕ) → i < length xs → slice_get (xs ++ y ∷ []) i ≡ slice_get xs i
+pub get_before : {X : Type 0} (xs : List X) (y : X) (i : ℕ) → i < length xs → slice_get (xs ++ y ∷ []) i ≡ slice_get xs i
 get_before [] y i h = absurd (omega arith)
 get_before (x ∷ xs) y zero h = refl
 get_before (x ∷ xs) y (suc i) h = get_before xs y i (omega arith)
 
-pub get_last : (xs : List Node) (y : Node) → slice_get (xs ++ y ∷ []) (length xs) ≡ Some y
+pub get_last : {X : Type 0} (xs : List X) (y : X) → slice_get (xs ++ y ∷ []) (length xs) ≡ Some y
 get_last [] y = refl
 get_last (x ∷ xs) y = get_last xs y
 
-pub get_past : (xs : List Node) (i : ℕ) (n : Node) → slice_get xs i ≡ Some n → i < length xs
+pub get_past : {X : Type 0} (xs : List X) (i : ℕ) (n : X) → slice_get xs i ≡ Some n → i < length xs
 get_past [] i n e = absurd cc
 get_past (x ∷ xs) zero n e = omega arith
 get_past (x ∷ xs) (suc i) n e = let h = get_past xs i n e in omega arith
 
-pub length_push : (xs : List Node) (y : Node) → length (xs ++ y ∷ []) ≡ length xs + 1
+pub length_push : {X : Type 0} (xs : List X) (y : X) → length (xs ++ y ∷ []) ≡ length xs + 1
 length_push [] y = refl
 length_push (x ∷ xs) y = let h = length_push xs y in omega arith
 
@@ -72,13 +72,13 @@ module _ (xs : List Node) (y : Node) (tree : ChildrenComeFirst xs) where
 
   pub children_first_push : All (λ c. c < length xs) (children y) → ChildrenComeFirst (xs ++ y ∷ [])
   children_first_push below id n e = elim (cases_lt id (length xs)) [
-      | inl lt ↦ tree id n (sym (get_before xs y id lt) ∙ e)
-      | inr le ↦ let p = get_past (xs ++ y ∷ []) id n e in let q = length_push xs y in let at : id ≡ length xs = omega arith in
-          let e2 : slice_get (xs ++ y ∷ []) (length xs) ≡ Some n = subst (λ (i : ℕ). slice_get (xs ++ y ∷ []) i ≡ Some n) at e in
-          let last = get_last xs y in
-          let same : y ≡ n = cc in
-          subst (λ (i : ℕ). All (λ c. c < i) (children n)) (sym at) (subst (λ (m : Node). All (λ c. c < length xs) (children m)) same below)
-    ]
+    | inl lt ↦ tree id n (sym (get_before xs y id lt) ∙ e)
+    | inr le ↦ let p = get_past (xs ++ y ∷ []) id n e in let q = length_push xs y in let at : id ≡ length xs = omega arith in
+        let e2 : slice_get (xs ++ y ∷ []) (length xs) ≡ Some n = subst (λ (i : ℕ). slice_get (xs ++ y ∷ []) i ≡ Some n) at e in
+        let last = get_last xs y in
+        let same : y ≡ n = cc in
+        subst (λ (i : ℕ). All (λ c. c < i) (children n)) (sym at) (subst (λ (m : Node). All (λ c. c < length xs) (children m)) same below)
+  ]
 
   -- the term of the new node
   pub term_push : All (λ c. c < length xs) (children y) → term_of (xs ++ y ∷ []) (length xs) ≡ assemble (Some y) (term_of (xs ++ y ∷ []))

@@ -4,5 +4,7 @@ pub mod Scope
 pub mod Fill
 pub mod Meaning
 pub mod Tree
+pub mod Taken
 pub mod Spots
+pub mod Place
 pub mod Code

@@ -1,7 +1,10 @@
 //! The checked code of a script.
-ghost use Rattle.std.specs.Prelude.{◌≡◌, ◌⊎◌, ◌+◌, ◌<◌, Some, length, slice_get, IfOk, IfErr, IsOkUnless};
+ghost use Rattle.std.specs.Prelude.{◌≡◌, ◌⊎◌, ◌+◌, ◌^◌, ◌<◌, Some, length, slice_get, IfOk, IfErr, OnOk, IsOkUnless, IsErrOf};
+ghost use Rattle.fx_term.specs.Code.{IsCode, IsFault};
 
 use crate::node::{Node, NodeId};
+use crate::tree::check_tree;
+use crate::walk::check_slots;
 use std::alloc::{AllocError, AllocFailed, Global};
 use std::marker::Model;
 use thiserror::Error;
@@ -37,6 +40,48 @@ impl CodeFault {
     }
 }
 
+impl From<AllocError> for CodeFault {
+    ghost use Rattle.fx_term.specs.declared.code.CodeFault.TheVariants.{Memory};
+
+    ghost from_gives = { λ _ fault. fault ≡ Memory };
+
+    fn from(_refused: AllocError) -> CodeFault {
+        CodeFault::Memory
+    }
+}
+
+impl<T: Drop> From<AllocFailed<T>> for CodeFault {
+    ghost use Rattle.fx_term.specs.declared.code.CodeFault.TheVariants.{Memory};
+
+    ghost from_gives = { λ _ fault. fault ≡ Memory };
+
+    fn from(_refused: AllocFailed<T>) -> CodeFault {
+        CodeFault::Memory
+    }
+}
+
+/// Tests that there is a node, and that a node's number fits in 32 bits.
+fn check_count(nodes: &[Node]) -> Result<(), CodeFault>
+    ensures some_node { OnOk result (0 < length nodes.now) }
+    ensures fits { OnOk result (length nodes.now < 2 ^ 32) }
+    ensures fault { IfErr result (IsFault nodes.now) }
+{
+    if nodes.is_empty() || nodes.len() > u32::MAX as usize {
+        return Err(CodeFault::Child(NodeId(0)));
+    }
+    Ok(())
+}
+
+/// The tests in their order.
+fn check_nodes(alloc: Global, nodes: &[Node]) -> Result<(), CodeFault>
+    ensures code { OnOk result (IsCode nodes.now) }
+    ensures fault { IfErr result (λ fault. (fault ≡ CodeFault.Memory) ⊎ IsFault nodes.now fault) }
+{
+    check_count(nodes)?;
+    check_tree(alloc, nodes)?;
+    check_slots(alloc, nodes)
+}
+
 /// One well-scoped term, as the list of its nodes. Contracts see it as that list.
 #[derive(Drop)]
 pub struct Code {
@@ -57,8 +102,22 @@ impl Model for Code {
 }
 
 impl Code {
+    ghost use Rattle.fx_term.specs.declared.code.CodeFault.{CodeFault};
     ghost use Rattle.fx_term.specs.declared.code.CodeFault.TheVariants.{Memory};
-    ghost use Rattle.fx_term.specs.Code.{IsCode, IsFault};
+
+    /// The code of these nodes, of which the last is the root, for a script of so many queues.
+    /// Its answer is the first fault in the order of the tests. It takes time and memory in
+    /// proportion to the number of nodes.
+    pub fn build(alloc: Global, nodes: Vec<Node>, queues: u8) -> Result<Code, CodeFault>
+        ensures built { IfOk result (λ code. code ≡ nodes.items) }
+        ensures code { OnOk result (IsCode nodes.items) }
+        ensures accepts { IsCode nodes.items → IsOkUnless result CodeFault.Memory }
+        ensures first_fault { IfErr result (λ fault. (fault ≡ CodeFault.Memory) ⊎ IsFault nodes.items fault) }
+        ensures no_other_fault { (fault : CodeFault) → IsFault nodes.items fault → IsErrOf result fault ⊎ IsErrOf result CodeFault.Memory }
+    {
+        check_nodes(alloc, &nodes)?;
+        Ok(Code { nodes })
+    }
 
     /// The number of nodes, which is not 0.
     pub fn len(&self) -> u32
@@ -85,3 +144,6 @@ impl Code {
         self.nodes[id.0 as usize]
     }
 }
+
+#[cfg(test)]
+mod tests;

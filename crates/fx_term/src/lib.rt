@@ -19,6 +19,10 @@ mod event;
 mod memory;
 mod node;
 mod outcome;
+mod slots;
+mod taken;
+mod tree;
+mod walk;
 
 pub use code::{Code, CodeFault};
 pub use done::Done;

@@ -1,0 +1,78 @@
+-- The walk through a tree: how its spots come node by node, and that the root's term is in scope where all are well placed.
+use Rattle.std.proofs.Common.{◌≡◌, ℕ, zero, suc, ◌-◌, ◌<◌, Option, Some, None, List, [], ◌∷◌, length, get_or, refl, sym, ap, subst, arith}
+use Rattle.std.specs.Prelude.{All, slice_get}
+use Rattle.std.specs.List.{flat_map}
+use Rattle.std.proofs.lemmas.List.Elements.{All-nil, All-cons, All-head, All-tail, All-weaker}
+use Rattle.fx_term.specs.declared.node.Node.{Node}
+use Rattle.fx_term.specs.Scope.{OfValue, HasLevels, IsInScope}
+use Rattle.fx_term.specs.Meaning.{assemble, read, term_of, root_term}
+use Rattle.fx_term.specs.Tree.{ChildrenComeFirst}
+use Rattle.fx_term.specs.Spots.{Spot, parts, walk, spots_from, spots, IsWellPlaced}
+use Rattle.fx_term.proofs.AllParts.{all_from_map, all_flat_map, all_from_flat_map, flat_map_same}
+use Rattle.fx_term.proofs.NodeTerms.{term_of_node}
+use Rattle.fx_term.proofs.PartLaws.{part_ids, in_scope_node, right_node, levels_of_parts}
+use Rattle.fx_term.proofs.ScopeLaws.{AreValues}
+
+module _ (nodes : List Node) (tree : ChildrenComeFirst nodes) where
+  pub parts_before : (s : Spot) → All (λ (part : Spot). part.id < s.id) (parts (slice_get nodes s.id) s.kinds)
+  parts_before s = by_node (slice_get nodes s.id) refl
+    where
+      by_node : (o : Option Node) → slice_get nodes s.id ≡ o → All (λ (part : Spot). part.id < s.id) (parts o s.kinds)
+      by_node None e = All-nil (λ (part : Spot). part.id < s.id)
+      by_node (Some n) e = all_from_map (λ c. c < s.id) (λ (part : Spot). part.id) (parts (Some n) s.kinds) (subst (All (λ c. c < s.id)) (sym (part_ids n s.kinds)) (tree s.id n e))
+
+  -- a walk is the same at each depth above the node's number
+  walk_same : (k m : ℕ) (s : Spot) → s.id < k → s.id < m → walk k nodes s ≡ walk m nodes s
+  unfolding walk
+  walk_same zero m s p q = absurd (omega arith)
+  walk_same (suc k) zero s p q = absurd (omega arith)
+  walk_same (suc k) (suc m) s p q =
+      ap (λ (rest : List Spot). s ∷ rest) (flat_map_same (walk k nodes) (walk m nodes) (parts (slice_get nodes s.id) s.kinds)
+      (All-weaker (λ (part : Spot). part.id < s.id) (λ (part : Spot). walk k nodes part ≡ walk m nodes part) (λ part h. walk_same k m part (omega arith) (omega arith)) (parts (slice_get nodes s.id) s.kinds) (parts_before s)))
+
+  -- a node comes first, and then what stands below its parts
+  pub spots_at : (s : Spot) → spots_from nodes s ≡ s ∷ flat_map (spots_from nodes) (parts (slice_get nodes s.id) s.kinds)
+  unfolding spots_from walk
+  spots_at s =
+      ap (λ (rest : List Spot). s ∷ rest) (flat_map_same (walk s.id nodes) (spots_from nodes) (parts (slice_get nodes s.id) s.kinds)
+      (All-weaker (λ (part : Spot). part.id < s.id) (λ (part : Spot). walk s.id nodes part ≡ spots_from nodes part) (λ part h. walk_same s.id (suc part.id) part h (omega arith)) (parts (slice_get nodes s.id) s.kinds) (parts_before s)))
+
+  term_at : (id : ℕ) → term_of nodes id ≡ assemble (slice_get nodes id) (term_of nodes)
+  unfolding term_of read
+  term_at id = by_node (slice_get nodes id) refl
+    where
+      by_node : (o : Option Node) → slice_get nodes id ≡ o → term_of nodes id ≡ assemble o (term_of nodes)
+      by_node None e = rw e refl
+      by_node (Some n) e = term_of_node nodes tree id n e
+
+module _ (nodes : List Node) (tree : ChildrenComeFirst nodes) where
+  -- where all is well placed, the term is in scope
+  in_scope_from : (k : ℕ) (s : Spot) → s.id < k → AreValues s.kinds → All (IsWellPlaced nodes) (spots_from nodes s) → IsInScope s.kinds (term_of nodes s.id)
+  in_scope_from zero s lt values placed = absurd (omega arith)
+  in_scope_from (suc k) s lt values placed =
+      let ps = parts (slice_get nodes s.id) s.kinds in
+      let all : All (IsWellPlaced nodes) (s ∷ flat_map (spots_from nodes) ps) = subst (All (IsWellPlaced nodes)) (spots_at nodes tree s) placed in
+      let here = All-head (IsWellPlaced nodes) s (flat_map (spots_from nodes) ps) all in
+      let below = all_from_flat_map (IsWellPlaced nodes) (spots_from nodes) ps (All-tail (IsWellPlaced nodes) s (flat_map (spots_from nodes) ps) all) in
+      let near = parts_before nodes tree s in
+      subst (IsInScope s.kinds) (sym (term_at nodes tree s.id)) (in_scope_node (slice_get nodes s.id) s.kinds (term_of nodes) values here
+      (λ i d h v. let before : (get_or ps i d).id < s.id = near i d h in in_scope_from k (get_or ps i d) (omega arith) v (below i d h)))
+
+  -- where a term has its levels, all is well placed
+  placed_from : (k : ℕ) (s : Spot) → s.id < k → HasLevels (length s.kinds) (term_of nodes s.id) → All (IsWellPlaced nodes) (spots_from nodes s)
+  placed_from zero s lt levels = absurd (omega arith)
+  placed_from (suc k) s lt levels =
+      let ps = parts (slice_get nodes s.id) s.kinds in
+      let whole : HasLevels (length s.kinds) (assemble (slice_get nodes s.id) (term_of nodes)) = subst (HasLevels (length s.kinds)) (term_at nodes tree s.id) levels in
+      let here = right_node (slice_get nodes s.id) s.kinds (term_of nodes) whole in
+      let below = levels_of_parts (slice_get nodes s.id) s.kinds (term_of nodes) whole in
+      let near = parts_before nodes tree s in
+      subst (All (IsWellPlaced nodes)) (sym (spots_at nodes tree s)) (All-cons (IsWellPlaced nodes) s (flat_map (spots_from nodes) ps) here
+      (all_flat_map (IsWellPlaced nodes) (spots_from nodes) ps
+      (λ i d h. let before : (get_or ps i d).id < s.id = near i d h in placed_from k (get_or ps i d) (omega arith) (below i d h))))
+
+  pub root_in_scope : All (IsWellPlaced nodes) (spots nodes) → IsInScope [] (root_term nodes)
+  root_in_scope placed = in_scope_from (suc (length nodes - 1)) (record { id = length nodes - 1; kinds = [] }) (omega arith) (All-nil (λ k. k ≡ OfValue)) placed
+
+  pub root_placed : IsInScope [] (root_term nodes) → All (IsWellPlaced nodes) (spots nodes)
+  root_placed scope = placed_from (suc (length nodes - 1)) (record { id = length nodes - 1; kinds = [] }) (omega arith) scope.levels

@@ -1,0 +1,177 @@
+//! Codes and their first faults, from nodes made by hand.
+ghost use Rattle.std.specs.Prelude.{◌≡◌, length, IfOk};
+
+use super::*;
+use crate::node::Arg;
+use std::test::Fail;
+
+const ONE: Node = Node::Pure(Arg::Number(1));
+
+const CANCELED: Node = Node::Canceled;
+
+fn name(slot: u32) -> Node {
+    Node::Pure(Arg::Slot(slot))
+}
+
+fn seq(first: u32, then: u32) -> Node {
+    Node::Let(None, NodeId(first), NodeId(then))
+}
+
+fn bind(slot: u32, first: u32, then: u32) -> Node {
+    Node::Let(Some(slot), NodeId(first), NodeId(then))
+}
+
+fn handle(first: u32, slot: u32, then: u32) -> Node {
+    Node::Handle(NodeId(first), Some(slot), NodeId(then))
+}
+
+fn child(id: u32) -> CodeFault {
+    CodeFault::Child(NodeId(id))
+}
+
+fn slot(id: u32) -> CodeFault {
+    CodeFault::Slot(NodeId(id))
+}
+
+fn built(alloc: Global, nodes: &[Node]) -> Result<Code, CodeFault>
+    ensures { IfOk result (λ code. length code ≡ length nodes.now) }
+{
+    Code::build(alloc, Vec::from_slice(alloc, nodes)?, 0)
+}
+
+#[test]
+fn refuses_what_is_no_tree(rt: HostRuntime) {
+    let cases: [(&str, &[Node], CodeFault); 8] = [
+        ("no node", &[], child(0)),
+        ("its own child", &[ONE, seq(0, 1)], child(1)),
+        ("a child that is not there", &[ONE, seq(0, 7)], child(1)),
+        (
+            "a child after its parent",
+            &[seq(1, 2), ONE, CANCELED],
+            child(0),
+        ),
+        ("one child twice", &[ONE, CANCELED, seq(0, 0)], child(2)),
+        (
+            "a child of two nodes",
+            &[ONE, CANCELED, seq(0, 1), seq(2, 1)],
+            child(3),
+        ),
+        ("nobody's child", &[ONE, CANCELED, ONE, seq(0, 2)], child(1)),
+        (
+            "a child twice, before nobody's",
+            &[ONE, CANCELED, seq(1, 1)],
+            child(2),
+        ),
+    ];
+    for (what, nodes, fault) in cases {
+        assert_eq!(rt; built(rt.alloc(), nodes).err(), Some(fault), "{what}");
+    }
+}
+
+#[test]
+fn refuses_wrong_slots(rt: HostRuntime) {
+    let cases: [(&str, &[Node], CodeFault); 9] = [
+        ("a name that nothing binds", &[name(0)], slot(0)),
+        (
+            "a binder that skips a slot",
+            &[ONE, ONE, bind(1, 0, 1)],
+            slot(2),
+        ),
+        (
+            "a name in the part that gives it",
+            &[name(0), ONE, bind(0, 0, 1)],
+            slot(0),
+        ),
+        (
+            "an error's name in the part that raises it",
+            &[Node::Raise(Arg::Slot(0)), ONE, handle(0, 0, 1)],
+            slot(0),
+        ),
+        (
+            "an inner binder with the outer slot",
+            &[ONE, ONE, name(0), bind(0, 1, 2), bind(0, 0, 3)],
+            slot(3),
+        ),
+        (
+            "a name after its part",
+            &[ONE, name(0), bind(0, 0, 1), name(0), seq(2, 3)],
+            slot(3),
+        ),
+        (
+            "a parent before its child",
+            &[name(5), ONE, bind(1, 0, 1)],
+            slot(2),
+        ),
+        (
+            "the first part before the second",
+            &[name(9), name(8), seq(1, 0)],
+            slot(1),
+        ),
+        (
+            "the tree before the slots",
+            &[name(0), ONE, CANCELED, seq(0, 2)],
+            child(1),
+        ),
+    ];
+    for (what, nodes, fault) in cases {
+        assert_eq!(rt; built(rt.alloc(), nodes).err(), Some(fault), "{what}");
+    }
+}
+
+#[test]
+fn keeps_the_nodes(rt: HostRuntime) -> Result<(), Fail> {
+    let cases: [&[Node]; 3] = [
+        &[ONE],
+        &[CANCELED, ONE, seq(1, 0)],
+        &[
+            ONE,
+            Node::Raise(Arg::Slot(0)),
+            name(1),
+            handle(1, 1, 2),
+            bind(0, 0, 3),
+        ],
+    ];
+    for nodes in cases {
+        let code = built(rt.alloc(), nodes)?;
+        assert_eq!(rt; code.len() as usize, nodes.len());
+        assert_eq!(rt; code.root().0 as usize, nodes.len() - 1);
+        for id in 0..code.len() {
+            assert_eq!(rt; code.node(NodeId(id)), nodes[id as usize], "node {id}");
+        }
+    }
+    Ok(())
+}
+
+#[test]
+fn takes_a_code_as_deep_as_it_is_long(rt: HostRuntime) -> Result<(), Fail> {
+    let mut nodes = vec![in rt.alloc(); ONE]?;
+    for part in 0..100_000u32 {
+        nodes.push(ONE)?;
+        nodes.push(seq(2 * part, 2 * part + 1))?;
+    }
+    let code = Code::build(rt.alloc(), nodes, 0)?;
+    assert_eq!(rt; code.root(), NodeId(200_000));
+    Ok(())
+}
+
+#[test]
+fn says_what_is_wrong(rt: HostRuntime) -> Result<(), Fail> {
+    let cases = [
+        (
+            child(3),
+            1,
+            "node 3: a child that is not before its parent, or a node that is not one node's child",
+        ),
+        (
+            slot(4),
+            2,
+            "node 4: a slot that is not bound, or a binder with a wrong slot",
+        ),
+        (CodeFault::Memory, 4, "out of memory"),
+    ];
+    for (fault, number, text) in cases {
+        assert_eq!(rt; fault.number(), number);
+        assert_eq!(rt; fault.to_string(rt.alloc())?.as_str(), text);
+    }
+    Ok(())
+}
