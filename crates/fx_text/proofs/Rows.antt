@@ -1,0 +1,153 @@
+-- Texts and what reading gives of each, by computation.
+use Rattle.std.proofs.Common.{◌≡◌, ℕ, zero, suc, ◌+◌, ◌≤◌, ◌<◌, Some, List, [], ◌∷◌, ◌++◌, length, map, take, replicate, codes, nat_lt, true, false, Result, Ok, Err, refl, ◌∙◌, ap, arith}
+use Rattle.std.specs.List.{concat}
+use Rattle.std.proofs.lemmas.Bool.{lt-ltb, le-ltb}
+use Rattle.std.proofs.lemmas.List.{length-append, length-replicate}
+use Rattle.fx_term.specs.declared.node.Arg.TheVariants.{Number, Slot}
+use Rattle.fx_term.specs.Term.{Term, Pure, Raise, Canceled, Let, Handle}
+use Rattle.fx_text.specs.declared.fault.TextFault.{TextFault}
+use Rattle.fx_text.specs.declared.fault.TextKind.{TextKind}
+use Rattle.fx_text.specs.declared.fault.TextKind.TheVariants as kind
+use Rattle.fx_text.specs.Token.{after_spaces, next}
+use Rattle.fx_text.specs.Reading.{Meaning, opening_at, closing_at, value_at, binder_at, form_at, main_word_at, term_at, top_opening_at, script_at, reading}
+
+abbrev fault : TextKind → ℕ → Result Meaning TextFault
+fault k at = Err (record { kind = k; at = at })
+
+abbrev means : Term → Result Meaning TextFault
+means t = Ok (record { queues = []; term = t })
+
+-- ---- scripts
+
+pure_row : reading (codes "(main (pure 5))") ≡ means (Pure (Number 5))
+unfolding next opening_at closing_at value_at binder_at form_at main_word_at term_at top_opening_at script_at
+pure_row = refl
+
+greatest_number_row : reading (codes "(main (pure 018446744073709551615))") ≡ means (Pure (Number 18446744073709551615))
+unfolding next opening_at closing_at value_at binder_at form_at main_word_at term_at top_opening_at script_at
+greatest_number_row = refl
+
+canceled_row : reading (codes "(main(canceled ) )") ≡ means Canceled
+unfolding next opening_at closing_at value_at binder_at form_at main_word_at term_at top_opening_at script_at
+canceled_row = refl
+
+let_row : reading (codes "(main (let x (pure 4) (raise x)))") ≡ means (Let (Some 0) (Pure (Number 4)) (Raise (Slot 0)))
+unfolding next opening_at closing_at value_at binder_at form_at main_word_at term_at top_opening_at script_at
+let_row = refl
+
+handle_row : reading (codes "(main (handle (raise 3) e (pure e)))") ≡ means (Handle (Raise (Number 3)) (Some 0) (Pure (Slot 0)))
+unfolding next opening_at closing_at value_at binder_at form_at main_word_at term_at top_opening_at script_at
+handle_row = refl
+
+form_as_name_row : reading (codes "(main (let pure (pure 1) (pure pure)))") ≡ means (Let (Some 0) (Pure (Number 1)) (Pure (Slot 0)))
+unfolding next opening_at closing_at value_at binder_at form_at main_word_at term_at top_opening_at script_at
+form_as_name_row = refl
+
+-- a name is taken again where the first one is out of scope
+reused_name_row : reading (codes "(main (let x (let x (pure 1) (pure x)) (pure x)))") ≡ means (Let (Some 0) (Let (Some 0) (Pure (Number 1)) (Pure (Slot 0))) (Pure (Slot 0)))
+unfolding next opening_at closing_at value_at binder_at form_at main_word_at term_at top_opening_at script_at
+reused_name_row = refl
+
+-- names are numbered from the outermost on
+two_names_row : reading (codes "(main (let x (pure 1) (handle (raise x) y (let z (pure y) (raise x)))))") ≡ means (Let (Some 0) (Pure (Number 1)) (Handle (Raise (Slot 0)) (Some 1) (Let (Some 2) (Pure (Slot 1)) (Raise (Slot 0)))))
+unfolding next opening_at closing_at value_at binder_at form_at main_word_at term_at top_opening_at script_at
+two_names_row = refl
+
+-- ---- refusals, by kind
+
+byte_row : reading (codes "(main (pure 5))" ++ 0 ∷ []) ≡ fault kind.Byte 15
+unfolding next opening_at closing_at value_at binder_at form_at main_word_at term_at top_opening_at script_at
+byte_row = refl
+
+number_row : reading (codes "(main (pure 18446744073709551616))") ≡ fault kind.Number 12
+unfolding next opening_at closing_at value_at binder_at form_at main_word_at term_at top_opening_at script_at
+number_row = refl
+
+number_before_place_row : reading (codes "(main (pure 5) 5a") ≡ fault kind.Number 15
+unfolding next opening_at closing_at value_at binder_at form_at main_word_at term_at top_opening_at script_at
+number_before_place_row = refl
+
+form_row : reading (codes "(main (foo))") ≡ fault kind.Form 7
+unfolding next opening_at closing_at value_at binder_at form_at main_word_at term_at top_opening_at script_at
+form_row = refl
+
+unwanted_row : reading (codes "(main (pure))") ≡ fault kind.Unwanted 11
+unfolding next opening_at closing_at value_at binder_at form_at main_word_at term_at top_opening_at script_at
+unwanted_row = refl
+
+unknown_row : reading (codes "(main (pure x))") ≡ fault kind.Unknown 12
+unfolding next opening_at closing_at value_at binder_at form_at main_word_at term_at top_opening_at script_at
+unknown_row = refl
+
+first_part_row : reading (codes "(main (let x (pure x) (pure 1)))") ≡ fault kind.Unknown 19
+unfolding next opening_at closing_at value_at binder_at form_at main_word_at term_at top_opening_at script_at
+first_part_row = refl
+
+taken_row : reading (codes "(main (let x (pure 1) (let x (pure 2) (pure x))))") ≡ fault kind.Taken 27
+unfolding next opening_at closing_at value_at binder_at form_at main_word_at term_at top_opening_at script_at
+taken_row = refl
+
+after_main_row : reading (codes "(main (pure 5)) 1") ≡ fault kind.Main 16
+unfolding next opening_at closing_at value_at binder_at form_at main_word_at term_at top_opening_at script_at
+after_main_row = refl
+
+-- the first bytes of a script, from none on
+first_bytes_row : map (λ n. reading (take n (codes "(main (pure 5))"))) (0 ∷ 1 ∷ 2 ∷ 3 ∷ 4 ∷ 5 ∷ 6 ∷ 7 ∷ 8 ∷ 9 ∷ 10 ∷ 11 ∷ 12 ∷ 13 ∷ 14 ∷ []) ≡ (fault kind.Main 0 ∷ fault kind.Ended 1 ∷ fault kind.Form 1 ∷ fault kind.Form 1 ∷ fault kind.Form 1 ∷ fault kind.Ended 5 ∷ fault kind.Ended 6 ∷ fault kind.Ended 7 ∷ fault kind.Form 7 ∷ fault kind.Form 7 ∷ fault kind.Form 7 ∷ fault kind.Ended 11 ∷ fault kind.Ended 12 ∷ fault kind.Ended 13 ∷ fault kind.Ended 14 ∷ [])
+unfolding next opening_at closing_at value_at binder_at form_at main_word_at term_at top_opening_at script_at
+first_bytes_row = refl
+
+-- ---- 100 open parentheses
+
+abbrev times : ℕ → List ℕ → List ℕ
+times n piece = concat (replicate n piece)
+
+too_deep_row : reading (codes "(main " ++ times 100 (codes "(handle ")) ≡ fault kind.Depth 798
+unfolding next opening_at closing_at value_at binder_at form_at main_word_at term_at top_opening_at script_at
+too_deep_row = refl
+
+ended_deep_row : reading (codes "(main " ++ times 99 (codes "(handle ")) ≡ fault kind.Ended 798
+unfolding next opening_at closing_at value_at binder_at form_at main_word_at term_at top_opening_at script_at
+ended_deep_row = refl
+
+handles : ℕ → Term
+handles zero = Pure (Number 1)
+handles (suc n) = Handle (handles n) (Some 0) (Pure (Slot 0))
+
+deepest_row : reading (codes "(main " ++ times 98 (codes "(handle ") ++ codes "(pure 1)" ++ times 98 (codes " e (pure e))") ++ codes ")") ≡ means (handles 98)
+unfolding next opening_at closing_at value_at binder_at form_at main_word_at term_at top_opening_at script_at handles
+deepest_row = refl
+
+-- ---- 65,536 bytes
+
+too_long_row : (text : List ℕ) → 65536 < length text → reading text ≡ fault kind.Length 65536
+too_long_row text h = let p : nat_lt 65536 (length text) ≡ true = lt-ltb _ _ h in rw p refl
+
+abbrev spaces : ℕ → List ℕ
+spaces n = replicate n 32
+
+only_spaces : (n : ℕ) → after_spaces (spaces n) ≡ []
+only_spaces zero = refl
+only_spaces (suc n) = only_spaces n
+
+spaces_first : (n : ℕ) (text : List ℕ) → after_spaces (spaces n ++ text) ≡ after_spaces text
+spaces_first zero text = refl
+spaces_first (suc n) text = spaces_first n text
+
+spaces_row : (n : ℕ) → n ≤ 65536 → reading (spaces n) ≡ fault kind.Main n
+unfolding next top_opening_at script_at
+spaces_row n h = let long : length (spaces n) ≡ n = length-replicate n 32 in
+    let short : nat_lt 65536 (length (spaces n)) ≡ false = le-ltb _ _ (omega arith) in
+    rw (short, only_spaces n) (ap (λ (at : ℕ). fault kind.Main at) (omega arith))
+
+-- a script is the same after spaces, up to the last byte that a text may have
+padded_row : (n : ℕ) (text : List ℕ) (m : Meaning) → n + length text ≤ 65536 → script_at text ≡ Ok m → reading (spaces n ++ text) ≡ Ok m
+unfolding next top_opening_at script_at
+padded_row n text m h e =
+    let long : length (spaces n ++ text) ≡ n + length text = length-append (spaces n) text ∙ ap (λ (k : ℕ). k + length text) (length-replicate n 32) in
+    let short : nat_lt 65536 (length (spaces n ++ text)) ≡ false = le-ltb _ _ (omega arith) in
+    rw (short, spaces_first n text, e) refl
+
+-- fifteen bytes after up to 65,521 spaces
+longest_row : (n : ℕ) → n ≤ 65521 → reading (spaces n ++ codes "(main (pure 5))") ≡ means (Pure (Number 5))
+unfolding next opening_at closing_at value_at binder_at form_at main_word_at term_at top_opening_at script_at
+longest_row n h = padded_row n (codes "(main (pure 5))") (record { queues = []; term = Pure (Number 5) }) (omega arith) refl

@@ -1,0 +1,14 @@
+pub mod Fault
+pub mod Token
+pub mod Place
+pub mod Shape
+pub mod Part
+pub mod Meaning
+pub mod Reading
+pub mod Grammar
+pub mod View
+pub mod TokenView
+pub mod ScopeView
+pub mod Given
+pub mod Trees
+pub mod ReaderState

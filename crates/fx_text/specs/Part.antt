@@ -1,0 +1,46 @@
+-- What a part that is one token takes.
+use Rattle.std.specs.Prelude.{ℕ, if◌then◌else◌, Option, Some, None, List, codes, bytes_eq}
+use Rattle.std.specs.List.{find}
+use Rattle.fx_term.specs.declared.node.Arg.{Arg}
+use Rattle.fx_term.specs.declared.node.Arg.TheVariants as arg
+use Rattle.fx_term.specs.Scope.{OfValue}
+use Rattle.fx_text.specs.declared.form.Form.{Form}
+use Rattle.fx_text.specs.Token.{Token, Open, Close, Number, Name}
+use Rattle.fx_text.specs.Place.{Place, is_taken, slot_of}
+use Rattle.fx_text.specs.Shape.{forms, word_of}
+
+-- `(`
+abbrev pub opens : Token → Option (Unit {0})
+opens Open = Some tt
+opens _ = None
+
+-- `)`
+abbrev pub closes : Token → Option (Unit {0})
+closes Close = Some tt
+closes _ = None
+
+-- a slot as an argument
+abbrev pub slot_arg : Option ℕ → Option Arg
+slot_arg None = None
+slot_arg (Some x) = Some (arg.Slot x)
+
+-- a number, or the name of a value in scope
+abbrev pub value_of : Place → Token → Option Arg
+value_of p (Number n) = Some (arg.Number n)
+value_of p (Name x) = slot_arg (slot_of OfValue x p)
+value_of p _ = None
+
+-- a name that is not in scope
+abbrev pub new_name : Place → Token → Option (List ℕ)
+new_name p (Name x) = if is_taken x p then None else Some x
+new_name p _ = None
+
+-- the form whose word it is
+abbrev pub form_of : Token → Option Form
+form_of (Name x) = find (λ f. bytes_eq (word_of f) x) forms
+form_of _ = None
+
+-- the word main
+abbrev pub main_word : Token → Option (Unit {0})
+main_word (Name x) = if bytes_eq x (codes "main") then Some tt else None
+main_word _ = None

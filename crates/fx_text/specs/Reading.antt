@@ -1,0 +1,132 @@
+-- Reading from left to right, up to the first fault.
+use Rattle.std.specs.Prelude.{ℕ, zero, suc, ◌-◌, nat_lt, if◌then◌else◌, Option, Some, None, Result, Ok, Err, List, [], length}
+use Rattle.fx_term.specs.declared.node.Arg.{Arg}
+use Rattle.fx_term.specs.Term.{Term}
+use Rattle.fx_text.specs.declared.fault.TextKind.{TextKind}
+use Rattle.fx_text.specs.declared.fault.TextKind.TheVariants as kind
+use Rattle.fx_text.specs.declared.fault.TextFault.{TextFault}
+use Rattle.fx_text.specs.declared.fault.Fault.{Fault}
+use Rattle.fx_text.specs.declared.form.Form.{Form}
+use Rattle.fx_text.specs.Token.{Token, Open, Name, Stray, Misnumber, End, Lexeme, next}
+use Rattle.fx_text.specs.Place.{Place}
+use Rattle.fx_text.specs.Shape.{Shape, ends, value, binder, term, shape, main_shape}
+use Rattle.fx_text.specs.Part.{opens, closes, value_of, new_name, form_of, main_word}
+pub use Rattle.fx_text.specs.Meaning.{Meaning}
+
+-- the next step, unless there was a fault
+infixl 10 ◌>>=◌
+abbrev pub ◌>>=◌ : {A B : Type 0} → Result A Fault → (A → Result B Fault) → Result B Fault
+(Ok x) >>= f = f x
+(Err e) >>= f = Err e
+
+-- what is read, and what is left of the text
+abbrev pub Read : Type 0 → Type 0
+Read A = Result (A × List ℕ) Fault
+
+-- ---- one token
+
+-- The kind of the fault of a token that its place refuses for this reason. Byte, number and the end of the text come before the place
+abbrev pub kind_of : TextKind → Token → TextKind
+kind_of k Stray = kind.Byte
+kind_of k Misnumber = kind.Number
+kind_of k End = kind.Ended
+kind_of k _ = k
+
+-- the token is refused for this reason
+abbrev pub refused : {A : Type 0} → TextKind → Lexeme → Result A Fault
+refused k l = Err (record { kind = kind_of k l.token; left = l.from })
+
+-- what was taken of the token, or the token is refused
+abbrev pub known : {A : Type 0} → TextKind → Lexeme → Option A → Read A
+known k l None = refused k l
+known k l (Some x) = Ok (x, l.rest)
+
+-- A part that is one token: what it takes, and why it refuses a token that it does not take
+abbrev pub part_at : {A : Type 0} → (Token → Option A) → (Token → TextKind) → List ℕ → Read A
+part_at takes reason bytes = known (reason (next bytes).token) (next bytes) (takes (next bytes).token)
+
+-- a name is refused for a reason of its own, and all that is no name is not wanted
+abbrev pub at_name : TextKind → Token → TextKind
+at_name k (Name x) = k
+at_name k _ = kind.Unwanted
+
+unfoldable pub opening_at : List ℕ → Read (Unit {0})
+opening_at = part_at opens (λ _. kind.Unwanted)
+
+unfoldable pub closing_at : List ℕ → Read (Unit {0})
+closing_at = part_at closes (λ _. kind.Unwanted)
+
+unfoldable pub value_at : Place → List ℕ → Read Arg
+value_at p = part_at (value_of p) (at_name kind.Unknown)
+
+unfoldable pub binder_at : Place → List ℕ → Read (List ℕ)
+binder_at p = part_at (new_name p) (at_name kind.Taken)
+
+unfoldable pub form_at : List ℕ → Read Form
+form_at = part_at form_of (λ _. kind.Form)
+
+unfoldable pub main_word_at : List ℕ → Read (Unit {0})
+main_word_at = part_at main_word (λ _. kind.Form)
+
+-- ---- forms
+
+-- the parts of a form; terms are read by the function given
+abbrev pub parts_at : (Place → List ℕ → Read Term) → Shape → List ℕ → Read Term
+parts_at term_at (ends t) bytes = do
+  (_, rest) ← closing_at bytes
+  Ok (t, rest)
+parts_at term_at (value p go) bytes = do
+  (v, rest) ← value_at p bytes
+  parts_at term_at (go v) rest
+parts_at term_at (binder p go) bytes = do
+  (x, rest) ← binder_at p bytes
+  parts_at term_at (go x) rest
+parts_at term_at (term p go) bytes = do
+  (t, rest) ← term_at p bytes
+  parts_at term_at (go t) rest
+
+-- where no more `(` may be open, it is one too many, and each other token is not wanted
+abbrev pub too_deep : Token → TextKind
+too_deep Open = kind.Depth
+too_deep _ = kind.Unwanted
+
+-- a term, where so many more `(` may be open
+unfoldable pub term_at : ℕ → Place → List ℕ → Read Term
+term_at zero p bytes = refused (too_deep (next bytes).token) (next bytes)
+term_at (suc room) p bytes = do
+  (_, inside) ← opening_at bytes
+  (f, after) ← form_at inside
+  parts_at (term_at room) (shape f p) after
+
+-- ---- scripts
+
+-- The `(` of main. The end of the text is no end inside a form here
+abbrev pub top_opening : Lexeme → Token → Read (Unit {0})
+top_opening l Open = Ok (tt, l.rest)
+top_opening l End = Err (record { kind = kind.Main; left = l.from })
+top_opening l _ = refused kind.Form l
+
+unfoldable pub top_opening_at : List ℕ → Read (Unit {0})
+top_opening_at bytes = top_opening (next bytes) (next bytes).token
+
+-- nothing comes after main
+abbrev pub last : Meaning → Lexeme → Token → Result Meaning Fault
+last m l End = Ok m
+last m l _ = refused kind.Main l
+
+-- a whole text: main takes one of 100 `(`
+unfoldable pub script_at : List ℕ → Result Meaning Fault
+script_at text = do
+  (_, inside) ← top_opening_at text
+  (_, after) ← main_word_at inside
+  (t, rest) ← parts_at (term_at 99) main_shape after
+  last (record { queues = []; term = t }) (next rest) (next rest).token
+
+-- a fault keeps how many bytes stand from it to the end of the text
+abbrev pub at_offset : {A : Type 0} → ℕ → Result A Fault → Result A TextFault
+at_offset len (Ok x) = Ok x
+at_offset len (Err f) = Err (record { kind = f.kind; at = len - f.left })
+
+-- what the text says, or its first fault
+abbrev pub reading : List ℕ → Result Meaning TextFault
+reading text = if nat_lt 65536 (length text) then Err (record { kind = kind.Length; at = 65536 }) else at_offset (length text) (script_at text)

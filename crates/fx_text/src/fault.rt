@@ -1,0 +1,113 @@
+//! What is wrong with a text.
+ghost use Rattle.std.specs.Prelude.{◌≡◌};
+ghost use Rattle.fx_text.specs.declared.fault.ReadError.TheVariants as errors;
+ghost use Rattle.fx_text.specs.Fault.{kind_number};
+
+use std::alloc::{AllocError, AllocFailed};
+use thiserror::Error;
+
+/// The kind of a fault.
+#[derive(Clone, Copy, PartialEq, Eq, Debug, Error)]
+pub enum TextKind {
+    /// The text has more than 65,536 bytes.
+    #[error("the text has more than 65536 bytes")]
+    Length,
+    /// A byte that no token or space has.
+    #[error("no text has this byte")]
+    Byte,
+    /// A word that begins with a digit and is no number.
+    #[error("a word that begins with a digit and is no number below 18446744073709551616")]
+    Number,
+    /// The text ends inside a form.
+    #[error("the text ends inside a form")]
+    Ended,
+    /// A token after `(` that is no word of a form, or at the top before `main` another token than `(`.
+    #[error("no word of a form")]
+    Form,
+    /// Another token than its place wants.
+    #[error("not what is wanted here")]
+    Unwanted,
+    /// A name that is not in scope.
+    #[error("no such name is in scope")]
+    Unknown,
+    /// A binder whose name is in scope.
+    #[error("this name is in scope already")]
+    Taken,
+    /// A `(` where 100 are open.
+    #[error("100 parentheses are open already")]
+    Depth,
+    /// The text ends before `main`, or goes on after it.
+    #[error("a script is one main and nothing after it")]
+    Main,
+    /// Want of memory.
+    #[error("out of memory")]
+    Memory,
+}
+
+impl TextKind {
+    /// The number of the kind.
+    pub fn number(&self) -> u8
+        ensures { result ≡ kind_number self.now }
+    {
+        match self {
+            TextKind::Length => 1,
+            TextKind::Byte => 2,
+            TextKind::Number => 3,
+            TextKind::Ended => 4,
+            TextKind::Form => 5,
+            TextKind::Unwanted => 6,
+            TextKind::Unknown => 7,
+            TextKind::Taken => 8,
+            TextKind::Depth => 11,
+            TextKind::Main => 13,
+            TextKind::Memory => 14,
+        }
+    }
+}
+
+/// The first fault of a text, and the byte that it is at, from 0. For want of memory that is 0.
+#[derive(Clone, Copy, PartialEq, Eq, Debug, Error)]
+#[error("at byte {at}: {kind}")]
+pub struct TextFault {
+    pub kind: TextKind,
+    pub at: u32,
+}
+
+impl TextFault {
+    /// The number of the fault's kind.
+    pub fn number(&self) -> u8
+        ensures { result ≡ kind_number self.now.kind }
+    {
+        self.kind.number()
+    }
+}
+
+/// A fault, by how many bytes of the text stand from it to the end.
+#[derive(Clone, Copy, PartialEq, Eq, Debug)]
+pub(crate) struct Fault {
+    pub(crate) kind: TextKind,
+    pub(crate) left: usize,
+}
+
+/// Why a text could not be read.
+#[derive(Debug, Drop)]
+pub(crate) enum ReadError {
+    Memory,
+    Fault(Fault),
+}
+
+impl From<AllocError> for ReadError {
+    ghost from_gives = { λ _ e. e ≡ errors.Memory };
+
+    fn from(_refused: AllocError) -> ReadError {
+        ReadError::Memory
+    }
+}
+
+impl<T: Drop> From<AllocFailed<T>> for ReadError {
+    ghost from_gives = { λ _ e. e ≡ errors.Memory };
+
+    fn from(_refused: AllocFailed<T>) -> ReadError {
+        ReadError::Memory
+    }
+}

@@ -1,0 +1,145 @@
+//! The parts of a form that are one token.
+ghost use Rattle.std.specs.Prelude.{◌≡◌, ◌<◌, ◌^◌, length, IfOk};
+ghost use Rattle.fx_text.specs.Reading.{kind_of, opening_at, closing_at, value_at, binder_at, form_at, main_word_at, too_deep};
+ghost use Rattle.fx_text.specs.Token.{next};
+ghost use Rattle.fx_text.specs.TokenView.{view_token};
+ghost use Rattle.fx_text.specs.ScopeView.{place};
+ghost use Rattle.fx_text.specs.Given.{Gives};
+
+use crate::fault::{Fault, ReadError, TextKind};
+use crate::form::Form;
+use crate::scope::{Bound, is_bound, slot_of};
+use crate::token::{Lexeme, Token, next};
+use fx_term::Arg;
+
+fn kind_of(kind: TextKind, token: Token<'_>) -> TextKind
+    ensures { result ≡ kind_of kind (view_token token.entry) }
+{
+    match token {
+        Token::Stray => TextKind::Byte,
+        Token::Misnumber => TextKind::Number,
+        Token::End => TextKind::Ended,
+        Token::Open | Token::Close | Token::Number(_) | Token::Name(_) => kind,
+    }
+}
+
+/// The fault of a token that its place refuses for this reason.
+pub(crate) fn refused(kind: TextKind, lexeme: Lexeme<'_>) -> ReadError
+    ensures { result ≡ ReadError.Fault (record { kind = kind_of kind (view_token lexeme.entry.token); left = lexeme.entry.from }) }
+{
+    ReadError::Fault(Fault {
+        kind: kind_of(kind, lexeme.token),
+        left: lexeme.from,
+    })
+}
+
+/// `(`.
+#[tactic(auto, unfolding(crate::specs::Reading::opening_at))]
+pub(crate) fn opening(bytes: &[u8]) -> Result<&[u8], ReadError>
+    ensures read { Gives (λ x. (tt, x.now)) result (opening_at bytes.now) }
+    ensures shorter { IfOk result (λ x. length x.now < length bytes.now) }
+{
+    let lexeme = next(bytes);
+    match lexeme.token {
+        Token::Open => Ok(lexeme.rest),
+        _ => Err(refused(TextKind::Unwanted, lexeme)),
+    }
+}
+
+/// `)`.
+#[tactic(auto, unfolding(crate::specs::Reading::closing_at))]
+pub(crate) fn closing(bytes: &[u8]) -> Result<&[u8], ReadError>
+    ensures read { Gives (λ x. (tt, x.now)) result (closing_at bytes.now) }
+    ensures shorter { IfOk result (λ x. length x.now < length bytes.now) }
+{
+    let lexeme = next(bytes);
+    match lexeme.token {
+        Token::Close => Ok(lexeme.rest),
+        _ => Err(refused(TextKind::Unwanted, lexeme)),
+    }
+}
+
+/// A number, or the name of a value.
+#[tactic(auto, unfolding(crate::specs::Reading::value_at))]
+pub(crate) fn value<'a>(names: &[Bound<'a>], bytes: &'a [u8]) -> Result<(Arg, &'a [u8]), ReadError>
+    requires { length names.now < 2 ^ 32 }
+    ensures read { Gives (λ x. (x.0, x.1.now)) result (value_at (place names.now) bytes.now) }
+    ensures shorter { IfOk result (λ x. length x.1.now < length bytes.now) }
+{
+    let lexeme = next(bytes);
+    match lexeme.token {
+        Token::Number(n) => Ok((Arg::Number(n), lexeme.rest)),
+        Token::Name(name) => match slot_of(names, name) {
+            None => Err(refused(TextKind::Unknown, lexeme)),
+            Some(slot) => Ok((Arg::Slot(slot as u32), lexeme.rest)),
+        },
+        _ => Err(refused(TextKind::Unwanted, lexeme)),
+    }
+}
+
+/// A name that is not in scope.
+#[tactic(auto, unfolding(crate::specs::Reading::binder_at))]
+pub(crate) fn binder<'a>(
+    names: &[Bound<'a>],
+    bytes: &'a [u8],
+) -> Result<(&'a [u8], &'a [u8]), ReadError>
+    ensures read { Gives (λ x. (x.0.now, x.1.now)) result (binder_at (place names.now) bytes.now) }
+    ensures shorter { IfOk result (λ x. length x.1.now < length bytes.now) }
+{
+    let lexeme = next(bytes);
+    match lexeme.token {
+        Token::Name(name) => {
+            if is_bound(names, name) {
+                return Err(refused(TextKind::Taken, lexeme));
+            }
+            Ok((name, lexeme.rest))
+        }
+        _ => Err(refused(TextKind::Unwanted, lexeme)),
+    }
+}
+
+/// The word of a form.
+#[tactic(auto, unfolding(crate::specs::Reading::form_at))]
+pub(crate) fn form(bytes: &[u8]) -> Result<(Form, &[u8]), ReadError>
+    ensures read { Gives (λ x. (x.0, x.1.now)) result (form_at bytes.now) }
+    ensures shorter { IfOk result (λ x. length x.1.now < length bytes.now) }
+{
+    let lexeme = next(bytes);
+    match lexeme.token {
+        Token::Name(name) => match Form::of_word(name) {
+            None => Err(refused(TextKind::Form, lexeme)),
+            Some(form) => Ok((form, lexeme.rest)),
+        },
+        _ => Err(refused(TextKind::Form, lexeme)),
+    }
+}
+
+/// The word `main`.
+#[tactic(auto, unfolding(crate::specs::Reading::main_word_at))]
+pub(crate) fn main_word(bytes: &[u8]) -> Result<&[u8], ReadError>
+    ensures read { Gives (λ x. (tt, x.now)) result (main_word_at bytes.now) }
+    ensures shorter { IfOk result (λ x. length x.now < length bytes.now) }
+{
+    let lexeme = next(bytes);
+    match lexeme.token {
+        Token::Name(name) => {
+            if name == b"main".as_slice() {
+                return Ok(lexeme.rest);
+            }
+            Err(refused(TextKind::Form, lexeme))
+        }
+        _ => Err(refused(TextKind::Form, lexeme)),
+    }
+}
+
+/// The fault where a term has to begin and no more `(` may be open.
+pub(crate) fn too_deep(bytes: &[u8]) -> ReadError
+    ensures { ReadError.Fault (record { kind = kind_of (too_deep (next bytes.now).token) (next bytes.now).token; left = (next bytes.now).from }) ≡ result }
+{
+    let lexeme = next(bytes);
+    let kind = match lexeme.token {
+        Token::Open => TextKind::Depth,
+        _ => TextKind::Unwanted,
+    };
+    refused(kind, lexeme)
+}

@@ -1,0 +1,140 @@
+//! Reads whole scripts.
+ghost use Rattle.std.specs.Prelude.{◌≡◌, ◌≤◌, [], Ok, length, IfOk, IsOkUnless};
+ghost use Rattle.fx_term.specs.Code.{IsCode};
+ghost use Rattle.fx_term.specs.Meaning.{root_term};
+ghost use Rattle.fx_term.specs.Tree.{IsOneTree};
+ghost use Rattle.fx_text.specs.Token.{next};
+ghost use Rattle.fx_text.specs.Reading.{Meaning, last, top_opening_at, script_at, reading};
+ghost use Rattle.fx_text.specs.Grammar.{IsScript};
+ghost use Rattle.fx_text.specs.Given.{Gives};
+ghost use Rattle.fx_text.specs.View.{Answers, meaning};
+
+use crate::fault::{Fault, ReadError, TextFault, TextKind};
+use crate::part::{closing, main_word, refused};
+use crate::reader::Reader;
+use crate::token::{Token, next};
+use fx_term::{Code, CodeFault, Node};
+use std::alloc::Global;
+
+/// A queue of a script.
+#[derive(Drop)]
+pub struct QueueDecl {
+    pub name: String,
+    pub cap: u32,
+}
+
+/// A script: its term as checked code, and its queues in the order of the text.
+#[derive(Drop)]
+pub struct Script {
+    pub code: Code,
+    pub queues: Vec<QueueDecl>,
+}
+
+/// The script that the text says, or the text's first fault. It takes time and memory in proportion
+/// to the length of the text.
+pub fn parse(alloc: Global, text: &[u8]) -> Result<Script, TextFault>
+    // What is read is in the grammar.
+    ensures found { IfOk result (λ s. IsScript text.now (meaning s)) }
+    // What is in the grammar is read, unless memory runs out.
+    ensures only { (m : Meaning) → IsScript text.now m → Answers result (Ok m) }
+    // Which fault it is, and where.
+    ensures exact { Answers result (reading text.now) }
+{
+    read_all(alloc, text)
+}
+
+fn read_all(alloc: Global, text: &[u8]) -> Result<Script, TextFault>
+    ensures { Answers result (reading text.now) }
+{
+    if text.len() > 65536 {
+        return Err(TextFault {
+            kind: TextKind::Length,
+            at: 65536,
+        });
+    }
+    match read_script(alloc, text) {
+        Ok(script) => Ok(script),
+        Err(ReadError::Memory) => Err(TextFault {
+            kind: TextKind::Memory,
+            at: 0,
+        }),
+        Err(ReadError::Fault(fault)) => Err(TextFault {
+            kind: fault.kind,
+            at: text.len().saturating_sub(fault.left) as u32,
+        }),
+    }
+}
+
+fn read_script(alloc: Global, text: &[u8]) -> Result<Script, ReadError>
+    requires { length text.now ≤ 65536 }
+    ensures { Gives meaning result (script_at text.now) }
+{
+    let nodes = main_nodes(alloc, text)?;
+    let code = checked(alloc, nodes)?;
+    Ok(Script {
+        code,
+        queues: Vec::new(alloc),
+    })
+}
+
+/// The nodes of main, of which the last is the root.
+#[tactic(auto, unfolding(crate::specs::Reading::script_at))]
+fn main_nodes(alloc: Global, text: &[u8]) -> Result<Vec<Node>, ReadError>
+    requires { length text.now ≤ 65536 }
+    ensures read { Gives (λ nodes. record { queues = []; term = root_term nodes.items }) result (script_at text.now) }
+    ensures tree { IfOk result (λ nodes. IsOneTree nodes.items) }
+    ensures short { IfOk result (λ nodes. length nodes.items ≤ 65536) }
+{
+    let rest = top_opening(text)?;
+    let rest = main_word(rest)?;
+    let mut reader = Reader {
+        names: Vec::new(alloc),
+        nodes: Vec::new(alloc),
+    };
+    // Of 100 parentheses that may be open, main has one.
+    let (_root, rest) = reader.term(99, rest)?;
+    let rest = closing(rest)?;
+    last(rest)?;
+    Ok(reader.nodes)
+}
+
+/// The `(` of main.
+#[tactic(auto, unfolding(crate::specs::Reading::top_opening_at))]
+fn top_opening(bytes: &[u8]) -> Result<&[u8], ReadError>
+    ensures read { Gives (λ x. (tt, x.now)) result (top_opening_at bytes.now) }
+    ensures within { IfOk result (λ x. length x.now ≤ length bytes.now) }
+{
+    let lexeme = next(bytes);
+    match lexeme.token {
+        Token::Open => Ok(lexeme.rest),
+        Token::End => Err(ReadError::Fault(Fault {
+            kind: TextKind::Main,
+            left: lexeme.from,
+        })),
+        _ => Err(refused(TextKind::Form, lexeme)),
+    }
+}
+
+/// Nothing comes after main.
+fn last(bytes: &[u8]) -> Result<(), ReadError>
+    ensures { (m : Meaning) → Gives (λ _. m) result (last m (next bytes.now) (next bytes.now).token) }
+{
+    let lexeme = next(bytes);
+    match lexeme.token {
+        Token::End => Ok(()),
+        _ => Err(refused(TextKind::Main, lexeme)),
+    }
+}
+
+/// The nodes as a code, which they are.
+fn checked(alloc: Global, nodes: Vec<Node>) -> Result<Code, ReadError>
+    requires { IsCode nodes.items }
+    ensures code { IfOk result (λ code. code ≡ nodes.items) }
+    ensures only_memory { IsOkUnless result ReadError.Memory }
+{
+    match Code::build(alloc, nodes, 0) {
+        Ok(code) => Ok(code),
+        Err(CodeFault::Memory) => Err(ReadError::Memory),
+        Err(CodeFault::Child(_) | CodeFault::Slot(_)) => unreachable!(),
+    }
+}

@@ -1,0 +1,153 @@
+//! Texts and what the language says of each.
+use super::*;
+use std::alloc::{AllocError, Global};
+use std::test::Fail;
+
+/// Texts that are refused, the number of the fault's kind, and the byte that it is at.
+const REFUSED: [(&[u8], u8, u32); 12] = [
+    (b"(main (pure 5))\0", 2, 15),
+    (b"(main (pure 18446744073709551616))", 3, 12),
+    (b"(main (pure 5) 5a", 3, 15),
+    (b"(main (foo))", 5, 7),
+    (b"main", 5, 0),
+    (b"(main (pure))", 6, 11),
+    (b"(main (let x (pure 1) (pure x) (pure 2)))", 6, 31),
+    (b"(main (pure x))", 7, 12),
+    (b"(main (let x (pure x) (pure 1)))", 7, 19),
+    (b"(main (let x (pure 1) (let x (pure 2) (pure x))))", 8, 27),
+    (b"(main (pure 5)) 1", 13, 16),
+    (b"(main (pure 5)) (main (pure 5))", 13, 16),
+];
+
+/// For each number of first bytes of `(main (pure 5))`, the refusal of these.
+const FIRST_BYTES: [(u8, u32); 15] = [
+    (13, 0),
+    (4, 1),
+    (5, 1),
+    (5, 1),
+    (5, 1),
+    (4, 5),
+    (4, 6),
+    (4, 7),
+    (5, 7),
+    (5, 7),
+    (5, 7),
+    (4, 11),
+    (4, 12),
+    (4, 13),
+    (4, 14),
+];
+
+/// The number of the fault's kind and where it is, or `None` for a script.
+fn refusal(rt: &HostRuntime, text: &[u8]) -> Option<(u8, u32)> {
+    match parse(rt.alloc(), text) {
+        Ok(_) => None,
+        Err(fault) => Some((fault.number(), fault.at)),
+    }
+}
+
+/// So many times this piece, between two others.
+fn repeated(
+    alloc: Global,
+    before: &[u8],
+    piece: &[u8],
+    times: usize,
+    after: &[u8],
+) -> Result<Vec<u8>, AllocError> {
+    let mut text = Vec::new(alloc);
+    text.extend_from_slice(before)?;
+    for _ in 0..times {
+        text.extend_from_slice(piece)?;
+    }
+    text.extend_from_slice(after)?;
+    Ok(text)
+}
+
+#[test]
+fn refuses_what_is_no_script(rt: HostRuntime) {
+    for (text, kind, at) in REFUSED {
+        assert_eq!(rt; refusal(&rt, text), Some((kind, at)));
+    }
+}
+
+#[test]
+fn refuses_the_first_bytes_of_a_script(rt: HostRuntime) {
+    let whole = b"(main (pure 5))";
+    for (n, row) in FIRST_BYTES.iter().enumerate() {
+        assert_eq!(rt;
+            refusal(&rt, &whole[..n]),
+            Some(*row),
+            "the first {n} bytes"
+        );
+    }
+    assert_eq!(rt; refusal(&rt, whole), None);
+}
+
+#[test]
+fn limits_the_length(rt: HostRuntime) -> Result<(), Fail> {
+    let alloc = rt.alloc();
+    let main = b"(main (pure 5))";
+    assert_eq!(rt;
+        refusal(&rt, &repeated(alloc, b"", b" ", 65537, b"")?),
+        Some((1, 65536))
+    );
+    assert_eq!(rt;
+        refusal(&rt, &repeated(alloc, b"", b" ", 65536, b"")?),
+        Some((13, 65536))
+    );
+    assert_eq!(rt;
+        refusal(&rt, &repeated(alloc, main, b"\n", 65521, b"")?),
+        None
+    );
+    assert_eq!(rt;
+        refusal(&rt, &repeated(alloc, main, b"\n", 65522, b"")?),
+        Some((1, 65536))
+    );
+    Ok(())
+}
+
+#[test]
+fn limits_the_open_parentheses(rt: HostRuntime) -> Result<(), Fail> {
+    let alloc = rt.alloc();
+    assert_eq!(rt;
+        refusal(&rt, &repeated(alloc, b"(main ", b"(handle ", 100, b"")?),
+        Some((11, 798))
+    );
+    assert_eq!(rt;
+        refusal(&rt, &repeated(alloc, b"(main ", b"(handle ", 99, b"")?),
+        Some((4, 798))
+    );
+    let deepest = repeated(alloc, b"(main ", b"(handle ", 98, b"(pure 1)")?;
+    assert_eq!(rt;
+        refusal(&rt, &repeated(alloc, &deepest, b" e (pure e))", 98, b")")?),
+        None
+    );
+    Ok(())
+}
+
+#[test]
+fn reads_scripts(rt: HostRuntime) -> Result<(), Fail> {
+    let reused = parse(
+        rt.alloc(),
+        b"(main (let x (let x (pure 1) (pure x)) (handle (raise x) y (pure y))))",
+    )?;
+    assert_eq!(rt; reused.code.len(), 7);
+    assert!(rt; reused.queues.is_empty());
+    let canceled = parse(rt.alloc(), b"\t(main\r\n(canceled ) )")?;
+    assert_eq!(rt; canceled.code.len(), 1);
+    Ok(())
+}
+
+#[test]
+fn says_what_is_wrong(rt: HostRuntime) -> Result<(), Fail> {
+    let unknown = TextFault {
+        kind: TextKind::Unknown,
+        at: 12,
+    };
+    assert_eq!(rt; unknown.number(), 7);
+    assert_eq!(rt;
+        format!(in rt.alloc(); "{unknown}")?.as_str(),
+        "at byte 12: no such name is in scope"
+    );
+    Ok(())
+}
