@@ -1,0 +1,56 @@
+-- What makes an answer to a text, and what a replay writes of it.
+use Rattle.std.proofs.Common.{◌≡◌, ◌⊎◌, ℕ, ◌<◌, Option, Some, None, Result, Ok, Err, List, length, take, inl, inr, refl, sym, ◌∙◌, ap, subst, true, arith}
+use Rattle.std.specs.Prelude.{IfSome, nat_lt}
+use Rattle.std.specs.Io.KnownBytes.{Appends}
+use Rattle.std.proofs.lemmas.Bool.{cases_lt, lt-ltb}
+use Rattle.std.proofs.lemmas.List.{take_all, length-take}
+use Rattle.fx_term.specs.declared.outcome.Outcome.{Outcome}
+use Rattle.fx_text.specs.declared.fault.TextFault.{TextFault}
+use Rattle.fx_text.specs.declared.fault.TextKind.TheVariants as kind
+use Rattle.fx_text.specs.Fault.{kind_number}
+use Rattle.fx_text.specs.Reading.{Meaning, reading}
+use Rattle.fx_text.specs.Grammar.{IsScript}
+use Rattle.fibers.specs.Run.{IsOutcome}
+use Rattle.fibers.specs.Text.{report_text, refusal_text}
+use Rattle.fibers.specs.Answer.{IsAnswer, replayed, refused}
+use Rattle.fibers.specs.Replay.{WritesAnswer, WritesFront}
+
+pub answer_replayed : (text : List ℕ) (m : Meaning) (o : Outcome) (written : List ℕ) → IsScript text m → IsOutcome m.term o → written ≡ report_text o → IsAnswer text 0 written
+answer_replayed text m o written s e w = rw w (replayed s e)
+
+-- the fault of a text is not want of memory, so the text is no script and this is its first fault
+pub answer_refused : (text : List ℕ) (f : TextFault) (number : ℕ) (written : List ℕ) → (f.kind ≡ kind.Memory → ⊥)
+    → ((m : Meaning) → IsScript text m → (f ≡ record { kind = kind.Memory; at = 0 }) ⊎ (◌≡◌ {A = Result Meaning TextFault} (Ok m) (Err f)))
+    → ((f ≡ record { kind = kind.Memory; at = 0 }) ⊎ (reading text ≡ Err f))
+    → number ≡ kind_number f.kind → written ≡ refusal_text number f.at → IsAnswer text 3 written
+answer_refused text f number written ample only (inl e) n w = absurd (ample (ap (λ (g : TextFault). g.kind) e))
+answer_refused text f number written ample only (inr e) n w = rw (w, n) (refused no_script e)
+  where
+    no_script : (m : Meaning) → IsScript text m → ⊥
+    no_script m s = elim (only m s) [ inl e ↦ ample (ap (λ (g : TextFault). g.kind) e) | inr e ↦ cc ]
+
+-- a text that is too long has that for its first fault
+read_long : (text : List ℕ) → 65536 < length text → reading text ≡ Err (record { kind = kind.Length; at = 65536 })
+read_long text h = let long : nat_lt 65536 (length text) ≡ true = lt-ltb _ _ h in rw long refl
+
+-- so all such texts have one answer
+answer_long : (text other : List ℕ) (status : ℕ) (written : List ℕ) → 65536 < length text → 65536 < length other → IsAnswer text status written → IsAnswer other status written
+answer_long text other _ _ h k (replayed s e) = absurd (let short = s.short in omega arith)
+answer_long text other _ _ h k (refused no_script e) = refused (λ m s. let short = s.short in omega arith) (read_long other k ∙ sym (read_long text h) ∙ e)
+
+-- the answer to the part of a text that was read is that to the text
+pub answer_all : (all text : List ℕ) (status : ℕ) (written : List ℕ) → text ≡ take 65537 all → IsAnswer text status written → IsAnswer all status written
+answer_all all text status written e a = elim (cases_lt (length all) 65537) [
+  | inl lt ↦ let whole : text ≡ all = e ∙ take_all 65537 all (omega arith) in subst (λ (t : List ℕ). IsAnswer t status written) whole a
+  | inr le ↦ let long : 65536 < length text = rw e (simp length-take (omega arith)) in answer_long text all status written long (omega arith) a
+]
+
+pub writes_answer : (left : Option (List ℕ)) (text : List ℕ) (status : ℕ) (written : List ℕ) (old new : Option (List ℕ)) → IfSome left (λ all. text ≡ take 65537 all) → IsAnswer text status written → Appends old new written
+    → IfSome left (λ all. WritesAnswer all status old new)
+writes_answer None text status written old new e a w = tt
+writes_answer (Some all) text status written old new e a w = record { written = written; answer = answer_all all text status written e a; appended = w }
+
+pub writes_front : (left : Option (List ℕ)) (text : List ℕ) (status : ℕ) (whole : List ℕ) (count : ℕ) (old new : Option (List ℕ)) → IfSome left (λ all. text ≡ take 65537 all) → IsAnswer text status whole → count < length whole → Appends old new (take count whole)
+    → IfSome left (λ all. WritesFront all old new)
+writes_front None text status whole count old new e a h w = tt
+writes_front (Some all) text status whole count old new e a h w = record { status = status; whole = whole; answer = answer_all all text status whole e a; count = count; short = h; appended = w }

@@ -1,0 +1,15 @@
+pub mod Bytes
+pub mod Answered
+pub mod Simple
+pub mod Names
+pub mod CodeTerms
+pub mod Moves
+pub mod Outcomes
+pub mod Rows
+pub mod Endings
+pub mod Registers
+pub mod FillNothing
+pub mod Contexts
+pub mod Rules
+pub mod Work
+pub mod Alone

@@ -1,0 +1,118 @@
+-- Simple terms and the names that are not bound in them.
+use Rattle.std.proofs.Common.{◌≡◌, ◌⊎◌, inl, inr, ℕ, Bool, true, false, ◌==◌, if◌then◌else◌, ◌<◌, Option, Some, None, refl, arith}
+use Rattle.std.proofs.lemmas.Bool.{eqb-false, cases_lt}
+use Rattle.fx_term.specs.declared.node.Arg.{Arg}
+use Rattle.fx_term.specs.declared.node.Arg.TheVariants.{Number, Slot}
+use Rattle.fx_term.specs.Term.{Term, Pure, Raise, Canceled, Let, Handle, Finished, put_arg, put, put_named}
+use Rattle.fx_term.specs.Scope.{IsArgBelow, IsBinderAt, bound_under, HasLevels}
+use Rattle.fibers.specs.Simple.{IsSimple}
+
+-- the argument is a number, or one of these names
+abbrev pub IsArgOver : (ℕ → Type 0) → Arg → Type 0
+IsArgOver names (Number n) = Unit {0}
+IsArgOver names (Slot x) = names x
+
+-- the names under a binder
+abbrev pub names_under : Option ℕ → (ℕ → Type 0) → ℕ → Type 0
+names_under None names y = names y
+names_under (Some x) names y = (y ≡ x) ⊎ names y
+
+-- a simple term in which each name is bound, or among these
+abbrev pub IsSimpleOver : (ℕ → Type 0) → Term → Type 0
+IsSimpleOver names (Pure a) = IsArgOver names a
+IsSimpleOver names (Raise a) = IsArgOver names a
+IsSimpleOver names Canceled = Unit {0}
+IsSimpleOver names (Let x a b) = IsSimpleOver names a × IsSimpleOver (names_under x names) b
+IsSimpleOver names (Handle a x b) = IsSimpleOver names a × IsSimpleOver (names_under x names) b
+IsSimpleOver names (Finished v) = Unit {0}
+IsSimpleOver names _ = ⊥
+
+pub over_is_simple : (names : ℕ → Type 0) (t : Term) → IsSimpleOver names t → IsSimple t
+over_is_simple names (Pure a) h = tt
+over_is_simple names (Raise a) h = tt
+over_is_simple names Canceled h = tt
+over_is_simple names (Let x a b) h = (over_is_simple names a h.0, over_is_simple (names_under x names) b h.1)
+over_is_simple names (Handle a x b) h = (over_is_simple names a h.0, over_is_simple (names_under x names) b h.1)
+over_is_simple names (Finished v) h = tt
+over_is_simple names _ h = absurd h
+
+-- a term over these names is one over more
+under_more : (P Q : ℕ → Type 0) (x : Option ℕ) → ((y : ℕ) → P y → Q y) → (y : ℕ) → names_under x P y → names_under x Q y
+under_more P Q None f y h = f y h
+under_more P Q (Some x) f y (inl e) = inl e
+under_more P Q (Some x) f y (inr p) = inr (f y p)
+
+arg_more : (P Q : ℕ → Type 0) (a : Arg) → ((y : ℕ) → P y → Q y) → IsArgOver P a → IsArgOver Q a
+arg_more P Q (Number n) f h = tt
+arg_more P Q (Slot x) f h = f x h
+
+over_more : (P Q : ℕ → Type 0) (t : Term) → ((y : ℕ) → P y → Q y) → IsSimpleOver P t → IsSimpleOver Q t
+over_more P Q (Pure a) f h = arg_more P Q a f h
+over_more P Q (Raise a) f h = arg_more P Q a f h
+over_more P Q Canceled f h = tt
+over_more P Q (Let x a b) f h = (over_more P Q a f h.0, over_more (names_under x P) (names_under x Q) b (under_more P Q x f) h.1)
+over_more P Q (Handle a x b) f h = (over_more P Q a f h.0, over_more (names_under x P) (names_under x Q) b (under_more P Q x f) h.1)
+over_more P Q (Finished v) f h = tt
+over_more P Q _ f h = absurd h
+
+-- two binders bind the same names in either order
+swap_names : (P : ℕ → Type 0) (x : ℕ) (z : Option ℕ) (y : ℕ) → names_under z (names_under (Some x) P) y → names_under (Some x) (names_under z P) y
+swap_names P x None y h = h
+swap_names P x (Some z) y (inl e) = inr (inl e)
+swap_names P x (Some z) y (inr (inl e)) = inl e
+swap_names P x (Some z) y (inr (inr p)) = inr (inr p)
+
+over_swap : (P : ℕ → Type 0) (x : ℕ) (z : Option ℕ) (t : Term) → IsSimpleOver (names_under z (names_under (Some x) P)) t → IsSimpleOver (names_under (Some x) (names_under z P)) t
+over_swap P x z t h = over_more (names_under z (names_under (Some x) P)) (names_under (Some x) (names_under z P)) t (swap_names P x z) h
+
+-- a number for a name takes that name away
+arg_put : (P : ℕ → Type 0) (x n : ℕ) (a : Arg) → IsArgOver (names_under (Some x) P) a → IsArgOver P (put_arg x n a)
+arg_put P x n (Number m) h = tt
+arg_put P x n (Slot y) h = by_test (y == x) refl h
+  where
+    by_test : (b : Bool) → (y == x) ≡ b → (y ≡ x) ⊎ P y → IsArgOver P (if b then Number n else Slot y)
+    by_test true e h = tt
+    by_test false e (inl same) = absurd (eqb-false y x e same)
+    by_test false e (inr p) = p
+
+over_put : (P : ℕ → Type 0) (x n : ℕ) (t : Term) → IsSimpleOver (names_under (Some x) P) t → IsSimpleOver P (put x n t)
+over_put P x n (Pure a) h = arg_put P x n a h
+over_put P x n (Raise a) h = arg_put P x n a h
+over_put P x n Canceled h = tt
+over_put P x n (Let z a b) h = (over_put P x n a h.0, over_put (names_under z P) x n b (over_swap P x z b h.1))
+over_put P x n (Handle a z b) h = (over_put P x n a h.0, over_put (names_under z P) x n b (over_swap P x z b h.1))
+over_put P x n (Finished v) h = tt
+over_put P x n _ h = absurd h
+
+pub over_put_named : (P : ℕ → Type 0) (x : Option ℕ) (n : ℕ) (t : Term) → IsSimpleOver (names_under x P) t → IsSimpleOver P (put_named x n t)
+over_put_named P None n t h = h
+over_put_named P (Some x) n t h = over_put P x n t h
+
+arg_below : (bound : ℕ) (a : Arg) → IsArgBelow bound a → IsArgOver (λ y. y < bound) a
+arg_below bound (Number n) h = tt
+arg_below bound (Slot x) h = h
+
+-- under a binder that has the next number
+below_under : (bound : ℕ) (x : Option ℕ) → IsBinderAt bound x → (y : ℕ) → y < bound_under bound x → names_under x (λ z. z < bound) y
+below_under bound None e y h = h
+below_under bound (Some x) e y h = elim (cases_lt y bound) [ inl lt ↦ inr lt | inr le ↦ inl (omega arith) ]
+
+over_under : (bound : ℕ) (x : Option ℕ) (t : Term) → IsBinderAt bound x → IsSimpleOver (λ y. y < bound_under bound x) t → IsSimpleOver (names_under x (λ y. y < bound)) t
+over_under bound x t e h = over_more (λ y. y < bound_under bound x) (names_under x (λ y. y < bound)) t (below_under bound x e) h
+
+-- the names that a term of a code does not bind are below the number of names in scope
+over_below : (bound : ℕ) (t : Term) → IsSimple t → HasLevels bound t → IsSimpleOver (λ y. y < bound) t
+over_below bound (Pure a) s h = arg_below bound a h
+over_below bound (Raise a) s h = arg_below bound a h
+over_below bound Canceled s h = tt
+over_below bound (Let x a b) s h = (over_below bound a s.0 h.0, over_under bound x b h.1 (over_below (bound_under bound x) b s.1 h.2))
+over_below bound (Handle a x b) s h = (over_below bound a s.0 h.0, over_under bound x b h.1 (over_below (bound_under bound x) b s.1 h.2))
+over_below bound (Finished v) s h = tt
+over_below bound _ s h = absurd s
+
+-- no name
+abbrev pub none : ℕ → Type 0
+none y = ⊥
+
+pub over_none : (t : Term) → IsSimple t → HasLevels 0 t → IsSimpleOver none t
+over_none t s h = over_more (λ y. y < 0) none t (λ y p. absurd (omega arith)) (over_below 0 t s h)

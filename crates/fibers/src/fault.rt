@@ -1,0 +1,34 @@
+//! Why a replay gave no text, or not all of it.
+ghost use Rattle.std.specs.Prelude.{◌≡◌};
+
+use fx_term::Memory;
+use thiserror::Error;
+
+/// Why a script was not replayed, or its text not written whole.
+#[derive(Clone, Copy, PartialEq, Eq, Debug, Error)]
+pub enum PlainFault {
+    /// The reader answered an error. Nothing was written.
+    #[error("the script cannot be read")]
+    Read,
+    /// The writer answered an error, or took no byte. A prefix of the text was written.
+    #[error("the report cannot be written")]
+    Write,
+    /// Memory ran out. Nothing was written.
+    #[error("out of memory")]
+    Memory,
+}
+
+impl PlainFault {
+    ghost use Rattle.fibers.specs.Fault.{plain_fault_number};
+
+    /// The number of the fault.
+    pub fn number(&self) -> u8
+        ensures { result ≡ plain_fault_number self.now }
+    {
+        match self {
+            PlainFault::Read => 1,
+            PlainFault::Write => 2,
+            PlainFault::Memory => 3,
+        }
+    }
+}

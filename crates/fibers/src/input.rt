@@ -1,0 +1,46 @@
+//! Reads the text of a script.
+ghost use Rattle.std.specs.Prelude.{◌≡◌, ◌≢◌, ◌+◌, ◌<◌, ◌≤◌, ◌++◌, List, ℕ, length, take, IfOk, IfErr, IfSome};
+ghost use Rattle.std.specs.Io.KnownBytes.{Consumes, IsAtEnd};
+ghost use Rattle.fibers.specs.declared.fault.PlainFault.TheVariants.{Write};
+ghost use Rattle.fibers.specs.Input.{TakesPiece};
+
+use crate::fault::PlainFault;
+use std::alloc::Global;
+use std::io::Read;
+
+/// One byte more than a script may have, so that a text that is too long is known to be.
+pub const MOST: usize = 65_537;
+
+const PIECE: usize = 4096;
+
+/// Reads one piece of the text, of at most `room` bytes, and appends it. An empty one is the end.
+fn read_piece<R: Read>(reader: &mut R, text: &mut Vec<u8>, room: usize) -> Result<usize, PlainFault>
+    requires { 0 < room }
+    ensures piece { IfOk result (λ n. (n ≤ room) × TakesPiece (R.remaining reader.old) (R.remaining reader.new) text.old.items text.new.items n) }
+    ensures fault { IfErr result (λ fault. fault ≢ Write) }
+{
+    let mut piece = [0u8; PIECE];
+    let wanted = room.min(PIECE);
+    match reader.read(&mut piece[..wanted]) {
+        Err(_) => Err(PlainFault::Read),
+        Ok(n) => match text.extend_from_slice(&piece[..n]) {
+            Err(_) => Err(PlainFault::Memory),
+            Ok(()) => Ok(n),
+        },
+    }
+}
+
+/// The text that the reader has left: all of it, or its first 65,537 bytes where it has more.
+pub(crate) fn read_text<R: Read>(alloc: Global, reader: &mut R) -> Result<Vec<u8>, PlainFault>
+    ensures text { IfOk result (λ text. IfSome (R.remaining reader.old) (λ all. text.items ≡ take 65537 all)) }
+    ensures fault { IfErr result (λ fault. fault ≢ Write) }
+{
+    let mut text = Vec::new(alloc);
+    while text.len() < MOST {
+        let room = MOST - text.len();
+        if read_piece(reader, &mut text, room)? == 0 {
+            break;
+        }
+    }
+    Ok(text)
+}

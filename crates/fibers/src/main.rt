@@ -1,0 +1,73 @@
+//! `fibers`: runs a script of cancellable fibers and prints how each one ended.
+//!
+//! A script goes through the modules in this order:
+//!
+//! 1. `input` reads its text, and no more than one byte past what a script may have.
+//! 2. `fx_text` reads the text, and answers the script or the first fault.
+//! 3. `machine` runs the script's term, one rule a step, to its outcome.
+//! 4. `report` makes the text of the report, or the line of a refusal.
+//! 5. `output` writes that text, which was whole before the first write.
+//!
+//! `replay` joins them, and its contract tells bytes to bytes what the program does. What is written
+//! is never more than a front of that text.
+#![tactic(auto)]
+
+pub mod fault;
+mod input;
+pub mod laws;
+mod machine;
+mod output;
+pub mod replay;
+mod report;
+
+use fault::PlainFault;
+use replay::replay_text;
+use std::process::ExitCode;
+use std::{env, io};
+
+const USAGE: &str =
+    "usage: fibers [check F | replay F [SCHEDULE] | trace F [SCHEDULE] | run F WORKERS]";
+
+/// The status after words that are no call of the program.
+const OTHER_WORDS: u8 = 2;
+
+/// The status where the script cannot be read.
+const UNREADABLE: u8 = 4;
+
+/// The status after any other fault.
+const FAULT: u8 = 5;
+
+/// Says why there is no report, or no whole one, and gives the status.
+fn told(rt: &impl Eprint, fault: PlainFault) -> u8 {
+    let (words, status) = match fault {
+        PlainFault::Read => ("cannot read -", UNREADABLE),
+        PlainFault::Write => ("fault write", FAULT),
+        PlainFault::Memory => ("fault memory", FAULT),
+    };
+    // Nobody is left to tell where standard error takes nothing.
+    let _ = eprintln!(rt; "{words}");
+    status
+}
+
+/// Runs the script on standard input, and gives the status.
+fn run_input(rt: &HostRuntime) -> u8 {
+    match replay_text(rt.alloc(), &mut rt.reader(), &[], &mut io::writer(rt)) {
+        Ok(status) => status,
+        Err(fault) => told(rt, fault),
+    }
+}
+
+fn main(rt: HostRuntime) -> ExitCode {
+    let status = match env::args(&rt) {
+        Err(_) => told(&rt, PlainFault::Memory),
+        Ok(words) => {
+            if words.count() > 1 {
+                let _ = eprintln!(rt; "{USAGE}");
+                OTHER_WORDS
+            } else {
+                run_input(&rt)
+            }
+        }
+    };
+    ExitCode::from(status)
+}

@@ -1,0 +1,77 @@
+//! From the text of a script to its printed report.
+ghost use Rattle.std.specs.Prelude.{◌≡◌, [], IfOk, string_bytes};
+ghost use Rattle.fibers.specs.Answer.{IsAnswer};
+ghost use Rattle.fibers.specs.Replay.{Replays};
+
+use crate::fault::PlainFault;
+use crate::input::read_text;
+use crate::machine::run;
+use crate::output::write_text;
+use crate::report::{fiber_line, refusal_text};
+use fx_term::Memory;
+use fx_text::{Pick, TextKind, parse};
+use std::alloc::Global;
+use std::io::{Read, Write};
+
+/// The status of a replay after which all fibers have ended.
+pub const ENDED: u8 = 0;
+
+/// The status of a text that is no script.
+pub const REFUSED: u8 = 3;
+
+/// What a text is answered with: the status, and what is printed.
+#[derive(Drop)]
+struct Answer {
+    status: u8,
+    text: String,
+}
+
+fn answer_to(alloc: Global, text: &[u8]) -> Result<Answer, Memory>
+    ensures { IfOk result (λ answer. IsAnswer text.now answer.status (string_bytes answer.text)) }
+{
+    match parse(alloc, text) {
+        Ok(script) => {
+            let outcome = run(alloc, &script.code)?;
+            let text = fiber_line(alloc, 0, outcome)?;
+            Ok(Answer {
+                status: ENDED,
+                text,
+            })
+        }
+        Err(fault) => match fault.kind {
+            TextKind::Memory => Err(Memory),
+            _ => {
+                let text = refusal_text(alloc, fault.number(), fault.at)?;
+                Ok(Answer {
+                    status: REFUSED,
+                    text,
+                })
+            }
+        },
+    }
+}
+
+/// Reads a script until the reader's end or until 65,537 bytes are in hand, runs its main fiber and
+/// writes the report, or one line where the text is refused. It answers 0 where all fibers ended,
+/// and 3 where the text was refused. No schedule is read yet, so the list of picks is empty.
+pub fn replay_text<R: Read, W: Write>(
+    alloc: Global,
+    reader: &mut R,
+    picks: &[Pick],
+    writer: &mut W,
+) -> Result<u8, PlainFault>
+    requires { picks.now ≡ [] }
+    ensures { Replays (R.remaining reader.old) result (W.contents writer.old) (W.contents writer.new) }
+{
+    let text = read_text(alloc, reader)?;
+    match answer_to(alloc, &text) {
+        Err(Memory) => Err(PlainFault::Memory),
+        Ok(answer) => {
+            write_text(writer, answer.text.as_bytes())?;
+            Ok(answer.status)
+        }
+    }
+}
+
+#[cfg(test)]
+mod tests;

@@ -1,0 +1,215 @@
+use super::*;
+use std::io;
+use std::test::Fail;
+
+/// The status of a replay of this text, and what it printed.
+fn replayed(alloc: Global, text: &[u8]) -> Result<(u8, Vec<u8>), Fail> {
+    let mut reader = text;
+    let mut printed = Vec::new(alloc);
+    let status = replay_text(alloc, &mut reader, &[], &mut printed)?;
+    Ok((status, printed))
+}
+
+/// A text of the same piece so many times, between two others.
+fn repeated(
+    alloc: Global,
+    first: &[u8],
+    piece: &[u8],
+    times: usize,
+    last: &[u8],
+) -> Result<Vec<u8>, Fail> {
+    let mut text = Vec::new(alloc);
+    text.extend_from_slice(first)?;
+    for _ in 0..times {
+        text.extend_from_slice(piece)?;
+    }
+    text.extend_from_slice(last)?;
+    Ok(text)
+}
+
+#[test]
+fn outcome_of_the_main_fiber_is_printed(rt: HostRuntime) -> Result<(), Fail> {
+    for (script, line) in [
+        ("(main (pure 5))", "fiber 0 succeeded 5\n"),
+        ("(main (raise 0))", "fiber 0 errored 0\n"),
+        (
+            "(main (pure 18446744073709551615))",
+            "fiber 0 succeeded 18446744073709551615\n",
+        ),
+        ("(main (let x (pure 4) (raise x)))", "fiber 0 errored 4\n"),
+        (
+            "(main (handle (raise 3) e (pure e)))",
+            "fiber 0 succeeded 3\n",
+        ),
+        (
+            "(main (handle (canceled) e (pure 1)))",
+            "fiber 0 canceled\n",
+        ),
+        ("(main (let x (raise 3) (pure x)))", "fiber 0 errored 3\n"),
+        (
+            "(main (handle (pure 7) e (raise e)))",
+            "fiber 0 succeeded 7\n",
+        ),
+        (
+            "(main (let x (pure 1) (let y (pure 2) (pure x))))",
+            "fiber 0 succeeded 1\n",
+        ),
+        (
+            "(main (let x (let y (pure 1) (pure y)) (let z (pure 2) (pure x))))",
+            "fiber 0 succeeded 1\n",
+        ),
+        ("(main (let x (canceled) (pure x)))", "fiber 0 canceled\n"),
+    ] {
+        let (status, printed) = replayed(rt.alloc(), script.as_bytes())?;
+        assert_eq!(rt; printed.as_slice(), line.as_bytes(), "{script}");
+        assert_eq!(rt; status, ENDED, "{script}");
+    }
+    Ok(())
+}
+
+#[test]
+fn text_that_is_no_script_is_refused(rt: HostRuntime) -> Result<(), Fail> {
+    for (script, line) in [
+        ("(main (pure x))", "refused 7 at 12\n"),
+        ("(main (pure 18446744073709551616))", "refused 3 at 12\n"),
+        ("(main (foo))", "refused 5 at 7\n"),
+        ("(main (pure))", "refused 6 at 11\n"),
+        (
+            "(main (let x (pure 1) (let x (pure 2) (pure x))))",
+            "refused 8 at 27\n",
+        ),
+        ("(main (pure 5)) 1", "refused 13 at 16\n"),
+        ("(main (pure 5))\0", "refused 2 at 15\n"),
+        ("", "refused 13 at 0\n"),
+        ("(main (pure 5)", "refused 4 at 14\n"),
+    ] {
+        let (status, printed) = replayed(rt.alloc(), script.as_bytes())?;
+        assert_eq!(rt; printed.as_slice(), line.as_bytes(), "{script}");
+        assert_eq!(rt; status, REFUSED, "{script}");
+    }
+    Ok(())
+}
+
+#[test]
+fn limit_of_open_parentheses_is_100(rt: HostRuntime) -> Result<(), Fail> {
+    let mut text = repeated(rt.alloc(), b"(main ", b"(handle ", 98, b"(raise 9)")?;
+    for _ in 0..98 {
+        text.extend_from_slice(b" e (pure e))")?;
+    }
+    text.extend_from_slice(b")")?;
+    let (status, printed) = replayed(rt.alloc(), &text)?;
+    assert_eq!(rt; printed.as_slice(), b"fiber 0 succeeded 9\n".as_slice());
+    assert_eq!(rt; status, ENDED);
+
+    let text = repeated(rt.alloc(), b"(main ", b"(handle ", 99, b"(raise 9)")?;
+    let (status, printed) = replayed(rt.alloc(), &text)?;
+    assert_eq!(rt; printed.as_slice(), b"refused 11 at 798\n".as_slice());
+    assert_eq!(rt; status, REFUSED);
+    Ok(())
+}
+
+#[test]
+fn limit_of_a_text_is_65536_bytes(rt: HostRuntime) -> Result<(), Fail> {
+    let script = b"(main (pure 5))";
+    for (spaces, line) in [
+        (65_521, "fiber 0 succeeded 5\n"),
+        (65_522, "refused 1 at 65536\n"),
+        (70_000, "refused 1 at 65536\n"),
+    ] {
+        let text = repeated(rt.alloc(), script, b" ", spaces, b"")?;
+        let (_, printed) = replayed(rt.alloc(), &text)?;
+        assert_eq!(rt; printed.as_slice(), line.as_bytes(), "{spaces} spaces");
+    }
+    Ok(())
+}
+
+/// Gives a text byte by byte, and then an error.
+#[derive(Drop)]
+struct Broken<'a> {
+    text: &'a [u8],
+}
+
+impl Read for Broken<'_> {
+    fn read(&mut self, buf: &mut [u8]) -> io::Result<usize> {
+        let Some((first, rest)) = self.text.split_first() else {
+            return Err(io::Error::from(io::ErrorKind::Other));
+        };
+        if buf.is_empty() {
+            return Ok(0);
+        }
+        buf[0] = *first;
+        self.text = rest;
+        Ok(1)
+    }
+}
+
+#[test]
+fn reader_that_fails_leaves_nothing_written(rt: HostRuntime) -> Result<(), Fail> {
+    let script = b"(main (pure 5))";
+    for given in 0..=15 {
+        let mut reader = Broken {
+            text: &script[..given],
+        };
+        let mut printed = Vec::new(rt.alloc());
+        let fault = replay_text(rt.alloc(), &mut reader, &[], &mut printed);
+        assert_eq!(rt; fault, Err(PlainFault::Read), "after {given} bytes");
+        assert!(rt; printed.is_empty(), "after {given} bytes");
+    }
+    Ok(())
+}
+
+/// Takes so many bytes, one at a time, and then answers an error.
+#[derive(Drop)]
+struct Full {
+    taken: Vec<u8>,
+    room: usize,
+}
+
+impl Write for Full {
+    fn write(&mut self, buf: &[u8]) -> io::Result<usize> {
+        let Some(first) = buf.first() else {
+            return Ok(0);
+        };
+        if self.taken.len() >= self.room {
+            return Err(io::Error::from(io::ErrorKind::Other));
+        }
+        self.taken.push(*first)?;
+        Ok(1)
+    }
+
+    fn flush(&mut self) -> io::Result<()> {
+        Ok(())
+    }
+}
+
+#[test]
+fn writer_that_fails_has_a_front_of_the_text(rt: HostRuntime) -> Result<(), Fail> {
+    let whole = b"fiber 0 succeeded 5\n";
+    for room in 0..=20 {
+        let mut reader = b"(main (pure 5))".as_slice();
+        let mut writer = Full {
+            taken: Vec::new(rt.alloc()),
+            room,
+        };
+        let status = replay_text(rt.alloc(), &mut reader, &[], &mut writer);
+        let wanted = if room < 20 {
+            Err(PlainFault::Write)
+        } else {
+            Ok(ENDED)
+        };
+        assert_eq!(rt; status, wanted, "room for {room}");
+        assert_eq!(rt; writer.taken.as_slice(), &whole[..room], "room for {room}");
+    }
+    Ok(())
+}
+
+#[test]
+fn faults_have_their_numbers(rt: HostRuntime) {
+    for (fault, number) in [
+        (PlainFault::Read, 1),
+        (PlainFault::Write, 2),
+        (PlainFault::Memory, 3),
+    ] {
+        assert_eq!(rt; fault.number(), number);
+    }
+}
