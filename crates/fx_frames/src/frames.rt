@@ -1,0 +1,114 @@
+//! The contexts that a fiber has entered.
+ghost use Rattle.std.specs.Prelude.{◌≡◌, List, [], ◌∷◌, OnOk, OnErr, MatchOption};
+ghost use Rattle.fx_frames.specs.Frames.{cleanups_of};
+
+use crate::frame::Frame;
+use crate::unwinding::Unwinding;
+use fx_term::Memory;
+use std::alloc::Global;
+use std::marker::Model;
+
+/// The contexts, seen as the list of them, the innermost first.
+#[derive(Drop)]
+pub struct Frames {
+    items: Vec<Frame>,
+}
+
+impl Model for Frames {
+    ghost use Rattle.std.specs.Prelude.{List, reverse};
+    ghost use Rattle.fx_frames.specs.declared.frame.Frame.{Frame};
+
+    ghost Value = { List Frame };
+
+    ghost view = { λ f. reverse f.items.items };
+}
+
+impl Frames {
+    ghost use Rattle.fx_frames.specs.declared.frame.Frame.{Frame};
+
+    /// No contexts.
+    pub fn new(alloc: Global) -> Frames
+        ensures { result ≡ [] }
+    {
+        Frames {
+            items: Vec::new(alloc),
+        }
+    }
+
+    /// Enters a context.
+    pub fn push(&mut self, frame: Frame) -> Result<(), Memory>
+        ensures ok { OnOk result (self.new ≡ frame ∷ self.old) }
+        ensures err { OnErr result (self.new ≡ self.old) }
+    {
+        self.items.push(frame)?;
+        Ok(())
+    }
+
+    /// The innermost context.
+    pub fn last(&self) -> Option<Frame>
+        ensures { MatchOption result (self.now ≡ []) (λ frame. (outer : List Frame) × (self.now ≡ frame ∷ outer)) }
+    {
+        self.items.last().copied()
+    }
+
+    /// Takes the innermost context off.
+    pub fn pop(&mut self) -> Option<Frame>
+        ensures taken { MatchOption result ((self.old ≡ []) × (self.new ≡ [])) (λ frame. self.old ≡ frame ∷ self.new) }
+        ensures rest { (frame : Frame) (outer : List Frame) → self.old ≡ frame ∷ outer → self.new ≡ outer }
+    {
+        self.items.pop()
+    }
+
+    /// Gives all contexts up for their clean-ups.
+    pub fn unwind(self) -> Unwinding
+        ensures { result ≡ cleanups_of self }
+    {
+        Unwinding::of(self.items)
+    }
+}
+
+#[cfg(test)]
+mod tests {
+    use super::Frames;
+    use crate::cleanup::Cleanup;
+    use crate::frame::Frame;
+    use fx_mask::Region;
+    use fx_term::NodeId;
+    use std::test::Fail;
+
+    #[test]
+    fn contexts_end_at_the_inside(rt: HostRuntime) -> Result<(), Fail> {
+        let rows = [
+            ("let", Frame::Let(Some(2), NodeId(5))),
+            ("handle", Frame::Handle(None, NodeId(4))),
+            ("oncancel", Frame::OnCancel(NodeId(3))),
+            ("mask", Frame::Masked),
+            ("poll", Frame::Opened(Region(6), true)),
+        ];
+        let mut frames = Frames::new(rt.alloc());
+        for (_, frame) in rows {
+            frames.push(frame)?;
+        }
+        for (row, frame) in rows.into_iter().rev() {
+            assert_eq!(rt; frames.last(), Some(frame), "{row}");
+            assert_eq!(rt; frames.pop(), Some(frame), "{row}");
+        }
+        assert_eq!(rt; frames.last(), None);
+        assert_eq!(rt; frames.pop(), None);
+        Ok(())
+    }
+
+    #[test]
+    fn finalizers_from_the_inside(rt: HostRuntime) -> Result<(), Fail> {
+        let mut frames = Frames::new(rt.alloc());
+        frames.push(Frame::OnCancel(NodeId(3)))?;
+        frames.push(Frame::Let(None, NodeId(5)))?;
+        frames.push(Frame::OnCancel(NodeId(7)))?;
+        let mut unwinding = frames.unwind();
+        assert_eq!(rt; unwinding.next(), Some(Cleanup::Finalizer(NodeId(7))));
+        assert_eq!(rt; unwinding.next(), Some(Cleanup::Finalizer(NodeId(3))));
+        assert_eq!(rt; unwinding.next(), None);
+        assert_eq!(rt; unwinding.next(), None);
+        Ok(())
+    }
+}

@@ -1,0 +1,34 @@
+//! The contexts that a fiber has entered, and what they leave to be done where it is canceled.
+//!
+//! A context waits for the result of the part that stands in it. A canceled fiber gives all its
+//! contexts up for their clean-ups, which then run one by one, from the inside out.
+//!
+//! | context | the part that stands in it | its clean-up |
+//! |---|---|---|
+//! | `Let`, `Handle` | the first part | none |
+//! | `OnCancel` | the first part | the finalizer |
+//! | `Masked` | the inside of a mask | none |
+//! | `Opened` | the inside of a poll | none |
+//!
+//! | what is done | the contexts, the innermost first |
+//! |---|---|
+//! | `new` | none |
+//! | `push` | that one, and all that were |
+//! | `pop` | all but the innermost |
+//! | `unwind` | none: its `Unwinding` has their clean-ups, of which each `next` takes the innermost |
+//!
+//! 1. A context is entered and left at the inner end alone.
+//! 2. Each clean-up comes once, from the inside out, and none is left out.
+//! 3. An `Unwinding` that has come to its end stays there.
+//! 4. `unwind` and `next` take no memory. Where it runs out in `push`, nothing has changed.
+#![tactic(auto)]
+
+mod cleanup;
+mod frame;
+mod frames;
+mod unwinding;
+
+pub use cleanup::Cleanup;
+pub use frame::Frame;
+pub use frames::Frames;
+pub use unwinding::Unwinding;

@@ -1,0 +1,158 @@
+//! The closed regions of the place where a fiber stands.
+ghost use Rattle.std.specs.Prelude.{◌≡◌, ◌≢◌, ℕ, ◌^◌, ◌<◌, List, [], ◌∷◌, IsTrue, MatchBool, OnOk, OnErr, IfOk};
+ghost use Rattle.fx_mask.specs.Closing as closing;
+ghost use Rattle.fx_mask.specs.Closing.{Closing, without_region, is_none_closed};
+ghost use Rattle.fx_mask.specs.Masks.{closed_by, entered, IsOpened};
+
+use fx_term::Memory;
+use std::alloc::Global;
+use std::marker::Model;
+
+/// The number of a region.
+#[derive(Clone, Copy, PartialEq, Eq, Debug)]
+pub struct Region(pub u64);
+
+/// One thing that closes a place.
+#[derive(Clone, Copy, PartialEq, Eq, Debug)]
+enum Member {
+    Region(Region),
+    Seal,
+}
+
+/// The closed regions, with the number of regions ever entered and of those that are opened.
+#[derive(Drop)]
+pub struct Masks {
+    // the innermost last, with room for the opened ones above
+    members: Vec<Member>,
+    entries: u64,
+    opened: usize,
+}
+
+impl Model for Masks {
+    ghost use Rattle.std.specs.Prelude.{◌+◌, ◌≤◌, vec_len, vec_capacity};
+    ghost use Rattle.fx_mask.specs.Closing.{MasksView};
+    ghost use Rattle.fx_mask.specs.View.{closings_of};
+
+    ghost Value = { MasksView };
+
+    ghost view = { λ m. record { regions = closings_of m.members.items; entries = m.entries; opened = m.opened } };
+
+    ghost invariant = { λ m. vec_len m.members + m.opened ≤ vec_capacity m.members };
+}
+
+impl Masks {
+    ghost use Rattle.fx_mask.specs.View.{closing_of};
+
+    /// Masks that close nothing.
+    pub fn new(alloc: Global) -> Masks
+        ensures { result ≡ record { regions = []; entries = 0; opened = 0 } }
+    {
+        Masks {
+            members: Vec::new(alloc),
+            entries: 0,
+            opened: 0,
+        }
+    }
+
+    /// Whether nothing closes the place.
+    pub fn is_open(&self) -> bool
+        ensures { result ≡ is_none_closed self.now.regions }
+    {
+        self.members.is_empty()
+    }
+
+    /// The number of regions entered so far, which is the number of the next one.
+    pub fn entries(&self) -> u64
+        ensures { result ≡ self.now.entries }
+    {
+        self.entries
+    }
+
+    /// Closes a new region, and gives its number.
+    pub fn enter(&mut self) -> Result<Region, Memory>
+        requires { self.old.entries < 2 ^ 63 }
+        ensures region { IfOk result (λ region. region.0 ≡ self.old.entries) }
+        ensures ok { OnOk result (self.new ≡ entered self.old) }
+        ensures err { OnErr result (self.new ≡ self.old) }
+    {
+        let region = Region(self.entries);
+        self.close(Member::Region(region))?;
+        self.entries += 1;
+        Ok(region)
+    }
+
+    /// Closes the place by a seal.
+    pub fn seal(&mut self) -> Result<(), Memory>
+        ensures ok { OnOk result (self.new ≡ closed_by closing.Seal self.old) }
+        ensures err { OnErr result (self.new ≡ self.old) }
+    {
+        self.close(Member::Seal)
+    }
+
+    /// Adds the innermost, with room left for the opened regions.
+    fn close(&mut self, member: Member) -> Result<(), Memory>
+        ensures ok { OnOk result (self.new ≡ closed_by (closing_of member) self.old) }
+        ensures err { OnErr result (self.new ≡ self.old) }
+    {
+        self.members.reserve(self.opened + 1)?;
+        self.members.push_reserved(member);
+        Ok(())
+    }
+
+    /// Takes the innermost off, a region that is left or a seal.
+    pub fn leave(&mut self)
+        requires { self.old.regions ≢ [] }
+        ensures { (c : Closing) (outer : List Closing) → self.old.regions ≡ c ∷ outer → self.new ≡ record self.old { regions = outer } }
+    {
+        let _ = self.members.pop();
+    }
+
+    /// Opens the region where it is the innermost, and answers whether it was.
+    pub fn open(&mut self, region: Region) -> bool
+        ensures innermost { (outer : List Closing) → self.old.regions ≡ closing.Region region.0 ∷ outer → IsTrue result }
+        ensures opened { MatchBool result (IsOpened region.0 self.old self.new) (self.new ≡ self.old) }
+        ensures regions { self.new.regions ≡ without_region region.0 self.old.regions }
+    {
+        if self.members.last().copied() != Some(Member::Region(region)) {
+            return false;
+        }
+        self.members.pop();
+        self.opened += 1;
+        true
+    }
+
+    /// Closes a region again that was opened, as the innermost. Room for it was kept.
+    pub fn reclose(&mut self, region: Region)
+        requires { 0 < self.old.opened }
+        ensures { IsOpened region.0 self.new self.old }
+    {
+        self.members.push_reserved(Member::Region(region));
+        self.opened -= 1;
+    }
+}
+
+#[cfg(test)]
+mod tests {
+    use super::{Masks, Region};
+    use std::test::Fail;
+
+    #[test]
+    fn regions_open_from_the_inside(rt: HostRuntime) -> Result<(), Fail> {
+        let mut masks = Masks::new(rt.alloc());
+        assert_eq!(rt; masks.enter()?, Region(0));
+        assert_eq!(rt; masks.enter()?, Region(1));
+        assert_eq!(rt; masks.open(Region(0)), false);
+        assert_eq!(rt; masks.open(Region(1)), true);
+        assert_eq!(rt; masks.is_open(), false);
+        assert_eq!(rt; masks.open(Region(0)), true);
+        assert_eq!(rt; masks.is_open(), true);
+        masks.reclose(Region(0));
+        masks.reclose(Region(1));
+        masks.leave();
+        masks.leave();
+        assert_eq!(rt; masks.is_open(), true);
+        masks.seal()?;
+        assert_eq!(rt; masks.is_open(), false);
+        Ok(())
+    }
+}
