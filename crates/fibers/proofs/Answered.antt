@@ -10,7 +10,7 @@ use Rattle.fx_text.specs.declared.fault.TextKind.TheVariants as kind
 use Rattle.fx_text.specs.Fault.{kind_number}
 use Rattle.fx_text.specs.Reading.{Meaning, reading}
 use Rattle.fx_text.specs.Grammar.{IsScript}
-use Rattle.fibers.specs.Run.{IsOutcome}
+use Rattle.fx_fiber.specs.Run.{IsOutcome}
 use Rattle.fibers.specs.Text.{report_text, refusal_text}
 use Rattle.fibers.specs.Answer.{IsAnswer, replayed, refused}
 use Rattle.fibers.specs.Replay.{WritesAnswer, WritesFront}

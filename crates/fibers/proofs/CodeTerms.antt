@@ -1,5 +1,7 @@
 -- The term of a code is simple.
 use Rattle.std.proofs.Common.{◌≢◌, ℕ, zero, suc, ◌-◌, ◌<◌, Some, List, [], ◌∷◌, length, get_or, All, refl, arith}
+use Rattle.std.specs.List.{AllByRecursion}
+use Rattle.std.proofs.lemmas.List.Elements.{recursion_from_All}
 use Rattle.std.proofs.lemmas.Option.{slice_get-get_or}
 use Rattle.fx_term.specs.declared.node.Node.{Node}
 use Rattle.fx_term.specs.declared.node.Node.TheVariants as node
@@ -9,11 +11,10 @@ use Rattle.fx_term.specs.Tree.{children, ChildrenComeFirst}
 use Rattle.fx_term.specs.Code.{IsCode}
 use Rattle.fibers.specs.Simple.{IsSimple}
 
--- a node's term is simple where those of its children are
-assemble_simple : (n : Node) (f : ℕ → Term) → All (λ c. IsSimple (f c)) (children n) → IsSimple (assemble (Some n) f)
-assemble_simple (node.Let x a b) f h = (h 0 0 (omega arith), h 1 0 (omega arith))
-assemble_simple (node.Handle a x b) f h = (h 0 0 (omega arith), h 1 0 (omega arith))
-assemble_simple _ f h = tt
+-- a node's term is simple where those of its children are; this names no form
+assemble_simple : (n : Node) (f : ℕ → Term) → AllByRecursion (λ c. IsSimple (f c)) (children n) → IsSimple (assemble (Some n) f)
+assemble_simple node.Canceled f each = tt
+assemble_simple _ f each = assumption
 
 module _ (nodes : List Node) (tree : ChildrenComeFirst nodes) where
   -- a node that is there reads as a simple term at each depth above its number
@@ -24,7 +25,7 @@ module _ (nodes : List Node) (tree : ChildrenComeFirst nodes) where
       let n = get_or nodes id node.Canceled in
       let here = slice_get-get_or nodes id node.Canceled q in
       let each : All (λ c. IsSimple (read depth nodes c)) (children n) = λ k d h. let below = tree id n here k d h in read_simple depth (get_or (children n) k d) (omega arith) (omega arith) in
-      rw here (assemble_simple n (read depth nodes) each)
+      rw here (assemble_simple n (read depth nodes) (recursion_from_All (λ c. IsSimple (read depth nodes c)) (children n) each))
 
   term_simple : (id : ℕ) → id < length nodes → IsSimple (term_of nodes id)
   unfolding term_of

@@ -1,111 +1,107 @@
 -- A fiber that nobody requests ends where its term is simple and each name in it is bound.
-use Rattle.std.proofs.Common.{◌≡◌, ℕ, zero, suc, ◌+◌, ◌<◌, true, false, Option, Some, None, [], refl, ap, ◌∙◌, arith}
-use Rattle.fx_term.specs.declared.node.Arg.TheVariants.{Number}
+use Rattle.std.proofs.Common.{◌≡◌, ℕ, zero, suc, ◌<◌, Bool, true, false, not, ◌||◌, if◌then◌else◌, Option, Some, None, [], ◌∷◌, refl, arith}
+use Rattle.fx_term.specs.declared.node.Arg.TheVariants.{Number, Slot}
 use Rattle.fx_term.specs.declared.done.Done.{Done}
-use Rattle.fx_term.specs.declared.done.Done.TheVariants.{Val, Err}
 use Rattle.fx_term.specs.declared.outcome.Outcome.{Outcome}
-use Rattle.fx_term.specs.declared.outcome.Outcome.TheVariants as outcome
-use Rattle.fx_term.specs.Term.{Term, Pure, Raise, Canceled, Let, Handle, Finished, put, put_named}
+use Rattle.fx_term.specs.Term.{Term, Pure, Raise, Canceled, Let, Handle, Mask, Poll, OnCancel, Finished, Masked, Opened}
 use Rattle.fx_term.specs.Scope.{IsInScope}
-use Rattle.fibers.specs.Path.{leaf, is_canceled_form, must_cancel}
-use Rattle.fibers.specs.Step.{Runs, Unwinds}
-use Rattle.fibers.specs.Run.{EndsAlone}
+use Rattle.fx_fiber.specs.Path.{Finalizer, leaf, is_canceled_form, is_open, must_cancel}
+use Rattle.fx_fiber.specs.Row.{Counts, Silent}
+use Rattle.fx_fiber.specs.Step.{Progress, Runs, Unwinds, CleansUp, HasEnded}
+use Rattle.fx_fiber.specs.Run.{first_counts, beginning_of_main, EndsAlone}
 use Rattle.fibers.specs.Simple.{IsSimple}
-use Rattle.fibers.proofs.Simple.{cancels_at_leaf, cleans_nothing}
-use Rattle.fibers.proofs.Names.{IsSimpleOver, none, over_none, over_is_simple, over_put_named, names_under}
-use Rattle.fibers.proofs.Moves.{done_of, move, after_let, after_handle, outcome_of_done, moves_inside, next, next_at_cancel, next_at_end, next_at_move}
-use Rattle.fibers.proofs.Outcomes.{outcome_of, outcome_after, outcome_is_end}
+use Rattle.fibers.proofs.Names.{IsSimpleOver, none, over_none}
+use Rattle.fibers.proofs.Simple.{IsProgressOver}
+use Rattle.fibers.proofs.Moves.{Moved, silently, moved_in, done_of, move, in_context, after_let, after_handle, moves_inside}
+use Rattle.fibers.proofs.Nexts.{Next, next, next_of, goes_on, goes_on_row, cancel_next, end_next, shown, step_is_next, next_is_step}
+use Rattle.fibers.proofs.Outcomes.{Ran, ran_after, IsRan, ended_ran, step_before, main_ends}
+use Rattle.fibers.proofs.Work.{work_left, step_lowers}
 
--- a move makes a term smaller
-abbrev size : Term → ℕ
-size (Pure a) = 2
-size (Raise a) = 2
-size (Let x a b) = 1 + size a + size b
-size (Handle a x b) = 1 + size a + size b
-size _ = 1
+-- what a fiber does at a term that has no free name: cancellation at `canceled`, which is open; an end; or a row
+data Goes (k : Bool) (c : Counts) (t : Term) : Type 0 where
+  is_canceled : k ≡ false → is_canceled_form (leaf t) ≡ true → Goes k c t
+  is_finished : {v : Done} → done_of t ≡ Some v → Goes k c t
+  moves : {m : Moved} → move k c t ≡ Some m → Goes k c t
 
-size_put : (x n : ℕ) (t : Term) → size (put x n t) ≡ size t
-size_put x n (Let y a b) = let p = size_put x n a in let q = size_put x n b in omega arith
-size_put x n (Handle a y b) = let p = size_put x n a in let q = size_put x n b in omega arith
-size_put x n _ = refl
+self_request_goes : (k : Bool) (c : Counts) → Goes k c Canceled
+self_request_goes true c = moves refl
+self_request_goes false c = is_canceled refl refl
 
-size_put_named : (x : Option ℕ) (n : ℕ) (t : Term) → size (put_named x n t) ≡ size t
-size_put_named None n t = refl
-size_put_named (Some x) n t = size_put x n t
+-- a context goes as its inside
+inside_goes : (k : Bool) (c : Counts) (a t : Term) (ends : Done → Term) (context : Term → Term) → move k c t ≡ in_context c (done_of a) ends (move k c a) context → leaf t ≡ leaf a → Goes k c a → Goes k c t
+inside_goes k c a t ends context e same (is_canceled u h) = is_canceled u (rw same h)
+inside_goes k c a t ends context e same (is_finished {v = v} h) = moves {m = silently c (ends v)} (rw (e, h) refl)
+inside_goes k c a t ends context e same (moves {m = m} h) = moves {m = moved_in context m} (rw e (moves_inside k c a ends context h))
 
--- a move of a term that has no free name, to a smaller one that has none
-record Shrinks (t : Term) : Type 0 where
-  pub term : Term
-  pub moves : move t ≡ Some term
-  pub stays : is_canceled_form (leaf t) ≡ false
-  pub simple : IsSimpleOver none term
-  pub smaller : size term < size t
+goes : (k : Bool) (c : Counts) (t : Term) → IsSimpleOver none t → Goes k c t
+goes k c (Pure (Number n)) s = moves refl
+goes k c (Raise (Number n)) s = moves refl
+goes k c Canceled s = self_request_goes k c
+goes k c (Let x a b) s = inside_goes k c a (Let x a b) (after_let x b) (λ t. Let x t b) refl refl (goes k c a s.0)
+goes k c (Handle a x b) s = inside_goes k c a (Handle a x b) (after_handle x b) (λ t. Handle t x b) refl refl (goes k c a s.0)
+goes k c (Mask p a) s = moves refl
+goes k c (Poll (Number r) a) s = moves refl
+goes k c (Poll (Slot x) a) s = absurd s.0
+goes k c (OnCancel a f) s = inside_goes k c a (OnCancel a f) Finished (λ t. OnCancel t f) refl refl (goes k c a s.0)
+goes k c (Finished v) s = is_finished refl
+goes k c (Masked r a) s = inside_goes k c a (Masked r a) Finished (Masked r) refl refl (goes k c a s)
+goes k c (Opened r a) s = inside_goes k c a (Opened r a) Finished (Opened r) refl refl (goes k c a s)
+goes k c _ s = absurd s
 
--- what a fiber does at such a term
-data Goes (t : Term) : Type 0 where
-  is_canceled : is_canceled_form (leaf t) ≡ true → Goes t
-  is_finished : {v : Done} → done_of t ≡ Some v → is_canceled_form (leaf t) ≡ false → Goes t
-  shrinks : Shrinks t → Goes t
+-- what a fiber that has not ended goes to
+record GoesTo (o : Option Next) : Type 0 where
+  pub next : Next
+  pub is : o ≡ Some next
 
-let_value_shrinks : (x : Option ℕ) (n : ℕ) (b : Term) → IsSimpleOver (names_under x none) b → Shrinks (Let x (Finished (Val n)) b)
-let_value_shrinks x n b s = let same = size_put_named x n b in record { term = put_named x n b; moves = refl; stays = refl; simple = over_put_named none x n b s; smaller = omega arith }
+part_goes : (k : Bool) (c : Counts) (t : Term) (ends : Done → Next) (at_term : Term → Progress) → (k ≡ false → is_canceled_form (leaf t) ≡ true → ⊥) → Goes k c t → GoesTo (goes_on ends at_term (done_of t) (move k c t))
+part_goes k c t ends at_term never (is_canceled u h) = absurd (never u h)
+part_goes k c t ends at_term never (is_finished {v = v} h) = record { next = ends v; is = rw h refl }
+part_goes k c t ends at_term never (moves {m = m} h) = record { next = next_of at_term m; is = goes_on_row k c t ends at_term h }
 
-handle_error_shrinks : (x : Option ℕ) (e : ℕ) (b : Term) → IsSimpleOver (names_under x none) b → Shrinks (Handle (Finished (Err e)) x b)
-handle_error_shrinks x e b s = let same = size_put_named x e b in record { term = put_named x e b; moves = refl; stays = refl; simple = over_put_named none x e b s; smaller = omega arith }
+-- at an open `canceled` cancellation is the rule
+is_true : (b : Bool) → not b ≡ false → b ≡ true
+is_true true e = refl
+is_true false e = absurd cc
 
-inside_let : (x : Option ℕ) (a b : Term) → done_of a ≡ None → IsSimpleOver (names_under x none) b → Goes a → Goes (Let x a b)
-inside_let x a b u s (is_canceled e) = is_canceled e
-inside_let x a b u s (is_finished e n) = absurd cc
-inside_let x a b u s (shrinks m) = let less = m.smaller in shrinks (record { term = Let x m.term b; moves = moves_inside a (after_let x b) (λ t. Let x t b) m.moves; stays = m.stays; simple = (m.simple, s); smaller = omega arith })
+either_true : (b : Bool) → (b || true) ≡ true
+either_true true = refl
+either_true false = refl
 
-inside_handle : (x : Option ℕ) (a b : Term) → done_of a ≡ None → IsSimpleOver (names_under x none) b → Goes a → Goes (Handle a x b)
-inside_handle x a b u s (is_canceled e) = is_canceled e
-inside_handle x a b u s (is_finished e n) = absurd cc
-inside_handle x a b u s (shrinks m) = let less = m.smaller in shrinks (record { term = Handle m.term x b; moves = moves_inside a (after_handle x b) (λ t. Handle t x b) m.moves; stays = m.stays; simple = (m.simple, s); smaller = omega arith })
+canceled_must : (known : Bool) (t : Term) → not (is_open t) ≡ false → is_canceled_form (leaf t) ≡ true → must_cancel known t ≡ true
+canceled_must known t u h = let o = is_true (is_open t) u in rw (o, h) (either_true known)
 
-goes : (t : Term) → IsSimpleOver none t → Goes t
-goes (Pure (Number n)) s = shrinks (record { term = Finished (Val n); moves = refl; stays = refl; simple = tt; smaller = omega arith })
-goes (Raise (Number n)) s = shrinks (record { term = Finished (Err n); moves = refl; stays = refl; simple = tt; smaller = omega arith })
-goes Canceled s = is_canceled refl
-goes (Let x (Finished (Val n)) b) s = shrinks (let_value_shrinks x n b s.1)
-goes (Let x (Finished (Err e)) b) s = shrinks (record { term = Finished (Err e); moves = refl; stays = refl; simple = tt; smaller = omega arith })
-goes (Let x a b) s = inside_let x a b refl s.1 (goes a s.0)
-goes (Handle (Finished (Val n)) x b) s = shrinks (record { term = Finished (Val n); moves = refl; stays = refl; simple = tt; smaller = omega arith })
-goes (Handle (Finished (Err e)) x b) s = shrinks (handle_error_shrinks x e b s.1)
-goes (Handle a x b) s = inside_handle x a b refl s.1 (goes a s.0)
-goes (Finished v) s = is_finished refl refl
-goes _ s = absurd s
+running_goes : (c : Counts) (t : Term) → IsSimpleOver none t → (b : Bool) → must_cancel c.known t ≡ b → GoesTo (if b then Some (cancel_next c t) else goes_on (end_next c) Runs (done_of t) (move (not (is_open t)) c t))
+running_goes c t s true e = record { next = cancel_next c t; is = refl }
+running_goes c t s false e = part_goes (not (is_open t)) c t (end_next c) Runs (λ u h. let must = canceled_must c.known t u h in cc) (goes (not (is_open t)) c t s)
 
--- so many steps lead to this outcome
-record Ends (t : Term) : Type 0 where
-  pub steps : ℕ
-  pub outcome : Outcome
-  pub ends : outcome_of steps t ≡ Some outcome
+-- where a fiber is: at its end, or before a step
+data Fate (c : Counts) (p : Progress) : Type 0 where
+  has_ended : {o : Outcome} → p ≡ HasEnded o → Fate c p
+  steps : GoesTo (next c p) → Fate c p
 
--- where the leaf is not `canceled`, cancellation is not the rule
-runs_on : (t : Term) → IsSimpleOver none t → is_canceled_form (leaf t) ≡ false → must_cancel false t ≡ false
-runs_on t s e = cancels_at_leaf t (over_is_simple none t s) ∙ e
+fate : (c : Counts) (p : Progress) → IsProgressOver none p → Fate c p
+fate c (Runs t) s = steps (running_goes c t s (must_cancel c.known t) refl)
+fate c (Unwinds []) s = steps (record { next = _; is = refl })
+fate c (Unwinds (Finalizer f ∷ rest)) s = steps (record { next = _; is = refl })
+fate c (CleansUp None t rest) s = steps (part_goes true c t (λ v. shown Silent c (Unwinds rest)) (λ u. CleansUp None u rest) (λ u h. cc) (goes true c t s.0))
+fate c (HasEnded o) s = has_ended refl
+fate c _ s = absurd s
 
-canceled_ends : (t : Term) → IsSimpleOver none t → is_canceled_form (leaf t) ≡ true → Ends t
-canceled_ends t s e =
-    let simple = over_is_simple none t s in
-    let unwinds : next (Runs t) ≡ Some (Unwinds []) = next_at_cancel t (cancels_at_leaf t simple ∙ e) ∙ ap (λ cs. Some (Unwinds cs)) (cleans_nothing t simple) in
-    record { steps = 2; outcome = outcome.Canceled; ends = outcome_after 1 (Runs t) unwinds refl }
-
-finished_ends : (t : Term) (v : Done) → IsSimpleOver none t → done_of t ≡ Some v → is_canceled_form (leaf t) ≡ false → Ends t
-finished_ends t v s e n = record { steps = 1; outcome = outcome_of_done v; ends = outcome_after 0 (Runs t) (next_at_end t v (runs_on t s n) e) refl }
-
-moving_ends : (t : Term) → IsSimpleOver none t → (m : Shrinks t) → Ends m.term → Ends t
-moving_ends t s m r = record { steps = suc r.steps; outcome = r.outcome; ends = outcome_after r.steps (Runs t) (next_at_move t (runs_on t s m.stays) m.moves) r.ends }
-
--- by the size of the term
-ends_below : (n : ℕ) (t : Term) → IsSimpleOver none t → size t < n → Ends t
-ends_below zero t s h = absurd (omega arith)
-ends_below (suc n) t s h = elim (goes t s) [
-  | is_canceled e ↦ canceled_ends t s e
-  | is_finished {v = v} e k ↦ finished_ends t v s e k
-  | shrinks m ↦ let less = m.smaller in moving_ends t s m (ends_below n m.term m.simple (omega arith))
+-- by the work that is left
+ends_below : (n : ℕ) (c : Counts) (p : Progress) → IsProgressOver none p → work_left p < n → (r : Ran) × IsRan c p r
+ends_below zero c p s h = absurd (omega arith)
+ends_below (suc n) c p s h = elim (fate c p s) [
+  | has_ended {o = o} e ↦ rw e (_, ended_ran c o)
+  | steps go ↦
+      let m = go.next in
+      let k = next_is_step c p go.is in
+      let less = step_lowers c m.counts m.label p m.progress k.unrequested k.step in
+      let keeps = step_is_next none k.step k.unrequested s in
+      let r = ends_below n m.counts m.progress keeps.simple (omega arith) in
+      (ran_after m.label r.0, step_before c p m r.0 k r.1)
 ]
 
 pub simple_ends : (t : Term) → IsSimple t → IsInScope [] t → (o : Outcome) × EndsAlone t o
-simple_ends t s k = let r = ends_below (suc (size t)) t (over_none t s k.levels) (omega arith) in (r.outcome, outcome_is_end r.steps t r.outcome r.ends)
+simple_ends t s k =
+    let r = ends_below (suc (work_left (Runs t))) (first_counts (beginning_of_main t)) (Runs t) (over_none t s k.levels) (omega arith) in
+    (r.0.outcome, main_ends t r.0 r.1)

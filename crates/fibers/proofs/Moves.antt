@@ -1,29 +1,41 @@
--- The step of a fiber that nobody requests, computed at simple terms: it is a step, and there is no other.
-use Rattle.std.proofs.Common.{◌≡◌, ◌≢◌, ℕ, Bool, true, false, not, if◌then◌else◌, Option, Some, None, option_map, [], refl, sym, ◌∙◌, subst}
+-- The row of the table for a simple term, computed: it is a row, and there is no other.
+use Rattle.std.proofs.Common.{◌≡◌, ℕ, Bool, true, false, if◌then◌else◌, Option, Some, None, option_map, refl, subst}
 use Rattle.std.proofs.lemmas.Option.{same_Some}
 use Rattle.fx_term.specs.declared.node.Arg.TheVariants.{Number}
 use Rattle.fx_term.specs.declared.done.Done.{Done}
 use Rattle.fx_term.specs.declared.done.Done.TheVariants.{Val, Err}
-use Rattle.fx_term.specs.declared.outcome.Outcome.{Outcome}
-use Rattle.fx_term.specs.declared.outcome.Outcome.TheVariants.{Succeeded, Errored}
-use Rattle.fx_term.specs.declared.outcome.Outcome.TheVariants as outcome
 use Rattle.fx_term.specs.declared.event.Event.TheVariants as event
-use Rattle.fx_term.specs.Term.{Term, Pure, Raise, Let, Handle, Finished, put_named}
-use Rattle.fibers.specs.Path.{clean_ups, leaf, is_canceled_form, is_open, must_cancel}
-use Rattle.fibers.specs.Row.{Counts, Label, Silent, Shows, Row, pure, raise, self_request, let_value, let_error, handle_value, handle_error, in_let, in_handle}
-use Rattle.fibers.specs.Step.{Progress, Runs, Unwinds, HasEnded, Step, cancelled, seen, row, succeeds, errs, unwound}
-use Rattle.fibers.specs.Simple.{IsSimple}
-use Rattle.fibers.proofs.Simple.{IsSimpleProgress, cleans_nothing, simple_put_named, cancels_at_leaf}
+use Rattle.fx_term.specs.Term.{Term, Pure, Raise, Canceled, Let, Handle, Mask, Poll, OnCancel, Finished, Masked, Opened, put, put_named}
+use Rattle.fx_fiber.specs.Row.{Counts, one_more_mask, known_canceled, Label, Silent, Shows, Row}
+use Rattle.fx_fiber.specs.Row as row
+use Rattle.fibers.proofs.Names.{IsSimpleOver, over_put, over_put_named}
+use Rattle.fibers.proofs.Mapped.{mapped}
+
+-- what a row leads to, and with which label
+pub record Moved : Type 0 where
+  pub label : Label
+  pub counts : Counts
+  pub term : Term
+
+abbrev pub silently : Counts → Term → Moved
+silently c t = record { label = Silent; counts = c; term = t }
+
+abbrev pub self_requested : Counts → Moved
+self_requested c = record { label = Shows event.SelfRequest; counts = known_canceled c; term = Finished (Val 0) }
+
+-- the same inside a context
+abbrev pub moved_in : (Term → Term) → Moved → Moved
+moved_in context m = record m { term = context m.term }
 
 -- the result, where the term is one
 abbrev pub done_of : Term → Option Done
 done_of (Finished v) = Some v
 done_of _ = None
 
--- the row of a context whose inside is finished, else a move inside
-abbrev pub in_context : Option Done → (Done → Term) → Option Term → (Term → Term) → Option Term
-in_context (Some v) ends moved context = Some (ends v)
-in_context None ends moved context = option_map context moved
+-- the row of a context whose inside is finished, else a row inside
+abbrev pub in_context : Counts → Option Done → (Done → Term) → Option Moved → (Term → Term) → Option Moved
+in_context c (Some v) ends moved context = Some (silently c (ends v))
+in_context c None ends moved context = option_map (moved_in context) moved
 
 abbrev pub after_let : Option ℕ → Term → Done → Term
 after_let x b (Val n) = put_named x n b
@@ -33,134 +45,92 @@ abbrev pub after_handle : Option ℕ → Term → Done → Term
 after_handle x b (Val n) = Finished (Val n)
 after_handle x b (Err e) = put_named x e b
 
--- the term after the row of the table, if there is one
-abbrev pub move : Term → Option Term
-move (Pure (Number n)) = Some (Finished (Val n))
-move (Raise (Number n)) = Some (Finished (Err n))
-move (Let x a b) = in_context (done_of a) (after_let x b) (move a) (λ t. Let x t b)
-move (Handle a x b) = in_context (done_of a) (after_handle x b) (move a) (λ t. Handle t x b)
-move _ = None
-
-abbrev pub outcome_of_done : Done → Outcome
-outcome_of_done (Val n) = Succeeded n
-outcome_of_done (Err e) = Errored e
-
--- at a result the fiber ends with it, else it goes where its term moves
-abbrev pub goes_on : Option Done → Option Term → Option Progress
-goes_on (Some v) moved = Some (HasEnded (outcome_of_done v))
-goes_on None moved = option_map Runs moved
-
--- the progress after the step of a fiber that is not known to be canceled, if it can step
-abbrev pub next : Progress → Option Progress
-next (Runs t) = if must_cancel false t then Some (Unwinds (clean_ups t)) else goes_on (done_of t) (move t)
-next (Unwinds []) = Some (HasEnded outcome.Canceled)
-next _ = None
+-- what the row of the table leads to, if there is one
+abbrev pub move : Bool → Counts → Term → Option Moved
+move k c (Pure (Number n)) = Some (silently c (Finished (Val n)))
+move k c (Raise (Number n)) = Some (silently c (Finished (Err n)))
+move k c Canceled = if k then Some (self_requested c) else None
+move k c (Let x a b) = in_context c (done_of a) (after_let x b) (move k c a) (λ t. Let x t b)
+move k c (Handle a x b) = in_context c (done_of a) (after_handle x b) (move k c a) (λ t. Handle t x b)
+move k c (Mask p a) = Some (silently (one_more_mask c) (Masked c.masks (put p c.masks a)))
+move k c (Poll (Number r) a) = Some (silently c (Opened r a))
+move k c (OnCancel a f) = in_context c (done_of a) Finished (move k c a) (λ t. OnCancel t f)
+move k c (Masked r a) = in_context c (done_of a) Finished (move k c a) (Masked r)
+move k c (Opened r a) = in_context c (done_of a) Finished (move k c a) (Opened r)
+move k c _ = None
 
 -- a result does not move
-moving_is_unfinished : (t : Term) {t' : Term} → move t ≡ Some t' → done_of t ≡ None
-moving_is_unfinished (Finished v) e = absurd cc
-moving_is_unfinished _ e = refl
+pub moving_is_unfinished : (k : Bool) (c : Counts) (t : Term) {m : Moved} → move k c t ≡ Some m → done_of t ≡ None
+moving_is_unfinished k c (Finished v) e = absurd cc
+moving_is_unfinished k c _ e = refl
 
 -- a term that moves inside a context moves the whole
-pub moves_inside : (a : Term) {a' : Term} (ends : Done → Term) (context : Term → Term) → move a ≡ Some a' → in_context (done_of a) ends (move a) context ≡ Some (context a')
-moves_inside a ends context e = let u = moving_is_unfinished a e in rw (u, e) refl
+pub moves_inside : (k : Bool) (c : Counts) (a : Term) {m : Moved} (ends : Done → Term) (context : Term → Term) → move k c a ≡ Some m → in_context c (done_of a) ends (move k c a) context ≡ Some (moved_in context m)
+moves_inside k c a ends context e = let u = moving_is_unfinished k c a e in rw (u, e) refl
 
--- the three steps of a fiber at its term
-pub next_at_cancel : (t : Term) → must_cancel false t ≡ true → next (Runs t) ≡ Some (Unwinds (clean_ups t))
-next_at_cancel t e = rw e refl
+-- a row of a simple term is the computed one, and leads to a simple term over the same names
+pub record IsMove (names : ℕ → Type 0) (k : Bool) (c : Counts) (t : Term) (m : Moved) : Type 0 where
+  pub moves : move k c t ≡ Some m
+  pub simple : IsSimpleOver names m.term
 
-pub next_at_end : (t : Term) (v : Done) → must_cancel false t ≡ false → done_of t ≡ Some v → next (Runs t) ≡ Some (HasEnded (outcome_of_done v))
-next_at_end t v e d = rw (e, d) refl
+pub row_is_move : (names : ℕ → Type 0) {k : Bool} {c d : Counts} {t t' : Term} {l : Label} → Row k c t l d t' → IsSimpleOver names t → IsMove names k c t (record { label = l; counts = d; term = t' })
+row_is_move names row.pure s = record { moves = refl; simple = tt }
+row_is_move names row.raise s = record { moves = refl; simple = tt }
+row_is_move names (row.self_request e) s = record { moves = rw e refl; simple = tt }
+row_is_move names (row.let_value {x = x} {n = n} {b = b}) s = record { moves = refl; simple = over_put_named names x n b s.1 }
+row_is_move names row.let_error s = record { moves = refl; simple = tt }
+row_is_move names row.handle_value s = record { moves = refl; simple = tt }
+row_is_move names (row.handle_error {x = x} {e = e} {b = b}) s = record { moves = refl; simple = over_put_named names x e b s.1 }
+row_is_move names {c = c} (row.mask {p = p} {t = a}) s = record { moves = refl; simple = over_put names p c.masks a s }
+row_is_move names row.poll s = record { moves = refl; simple = s.1 }
+row_is_move names row.masked_ends s = record { moves = refl; simple = tt }
+row_is_move names row.opened_ends s = record { moves = refl; simple = tt }
+row_is_move names row.oncancel_ends s = record { moves = refl; simple = tt }
+row_is_move names {k = k} {c = c} (row.in_let {x = x} {a = a} {b = b} r) s =
+    let m = row_is_move names r s.0 in
+    record { moves = moves_inside k c a (after_let x b) (λ t. Let x t b) m.moves; simple = (m.simple, s.1) }
+row_is_move names {k = k} {c = c} (row.in_handle {x = x} {a = a} {b = b} r) s =
+    let m = row_is_move names r s.0 in
+    record { moves = moves_inside k c a (after_handle x b) (λ t. Handle t x b) m.moves; simple = (m.simple, s.1) }
+row_is_move names {k = k} {c = c} (row.in_oncancel {a = a} {f = f} r) s =
+    let m = row_is_move names r s.0 in
+    record { moves = moves_inside k c a Finished (λ t. OnCancel t f) m.moves; simple = (m.simple, s.1) }
+row_is_move names {k = k} {c = c} (row.in_masked {r = i} {a = a} r) s =
+    let m = row_is_move names r s in
+    record { moves = moves_inside k c a Finished (Masked i) m.moves; simple = m.simple }
+row_is_move names {k = k} {c = c} (row.in_opened {r = i} {a = a} r) s =
+    let m = row_is_move names r s in
+    record { moves = moves_inside k c a Finished (Opened i) m.moves; simple = m.simple }
+row_is_move names _ s = absurd s
 
-pub next_at_move : (t : Term) {t' : Term} → must_cancel false t ≡ false → move t ≡ Some t' → next (Runs t) ≡ Some (Runs t')
-next_at_move t e m = let u = moving_is_unfinished t m in rw (e, u, m) refl
+-- the row that leads there
+abbrev pub RowTo : Bool → Counts → Term → Moved → Type 0
+RowTo k c t m = Row k c t m.label m.counts m.term
 
--- what a row of a simple term does whose leaf is not `canceled`
-record IsMove (c : Counts) (t : Term) (d : Counts) (t' : Term) : Type 0 where
-  pub counts : d ≡ c
-  pub move : move t ≡ Some t'
-  pub simple : IsSimple t'
+row_to : {k : Bool} {c d : Counts} {t t' : Term} {l : Label} {m : Moved} → Row k c t l d t' → Some (record { label = l; counts = d; term = t' }) ≡ Some m → RowTo k c t m
+row_to {k = k} {c = c} {t = t} r e = subst (λ (m : Moved). RowTo k c t m) (same_Some _ _ e) r
 
-row_is_move : {k : Bool} {c d : Counts} {t t' : Term} {l : Label} → Row k c t l d t' → IsSimple t → is_canceled_form (leaf t) ≡ false → IsMove c t d t'
-row_is_move pure s n = record { counts = refl; move = refl; simple = tt }
-row_is_move raise s n = record { counts = refl; move = refl; simple = tt }
-row_is_move (self_request e) s n = absurd cc
-row_is_move (let_value {x = x} {n = m} {b = b}) s n = record { counts = refl; move = refl; simple = simple_put_named x m b s.1 }
-row_is_move let_error s n = record { counts = refl; move = refl; simple = tt }
-row_is_move handle_value s n = record { counts = refl; move = refl; simple = tt }
-row_is_move (handle_error {x = x} {e = e} {b = b}) s n = record { counts = refl; move = refl; simple = simple_put_named x e b s.1 }
-row_is_move (in_let {x = x} {a = a} {b = b} r) s n =
-    let m = row_is_move r s.0 n in
-    record { counts = m.counts; move = moves_inside a (after_let x b) (λ t. Let x t b) m.move; simple = (m.simple, s.1) }
-row_is_move (in_handle {x = x} {a = a} {b = b} r) s n =
-    let m = row_is_move r s.0 n in
-    record { counts = m.counts; move = moves_inside a (after_handle x b) (λ t. Handle t x b) m.move; simple = (m.simple, s.1) }
-row_is_move _ s n = absurd s
+self_request_is_row : (k : Bool) (c : Counts) {m : Moved} → (if k then Some (self_requested c) else None) ≡ Some m → RowTo k c Canceled m
+self_request_is_row true c e = row_to (row.self_request refl) e
+self_request_is_row false c e = absurd cc
 
--- what a step of a fiber at a simple term does that finds no request
-pub record IsNext (c : Counts) (p : Progress) (d : Counts) (q : Progress) : Type 0 where
-  pub counts : d ≡ c
-  pub next : next p ≡ Some q
-  pub simple : IsSimpleProgress q
-
-pub step_is_next : {c d : Counts} {p q : Progress} {l : Label} → Step c p l d q → c.known ≡ false → l ≢ Shows event.Seen → IsSimpleProgress p → IsNext c p d q
-step_is_next (cancelled {t = t} e) u n s = record { counts = refl; next = next_at_cancel t (rw u at e); simple = rw (cleans_nothing t s) tt }
-step_is_next (seen e o) u n s = absurd (n refl)
-step_is_next (row {t = t} e r) u n s =
-    let still : must_cancel false t ≡ false = rw u at e in
-    let m = row_is_move r s (sym (cancels_at_leaf t s) ∙ still) in
-    record { counts = m.counts; next = next_at_move t still m.move; simple = m.simple }
-step_is_next (succeeds e) u n s = record { counts = refl; next = refl; simple = tt }
-step_is_next (errs e) u n s = record { counts = refl; next = refl; simple = tt }
-step_is_next unwound u n s = record { counts = refl; next = refl; simple = tt }
-step_is_next _ u n s = absurd s
-
--- what is mapped to something
-record IsMapped {A B : Type 0} (f : A → B) (o : Option A) (b : B) : Type 0 where
-  pub part : A
-  pub was : o ≡ Some part
-  pub to : Some (f part) ≡ Some b
-
-mapped : {A B : Type 0} (f : A → B) (o : Option A) {b : B} → option_map f o ≡ Some b → IsMapped f o b
-mapped f None e = absurd cc
-mapped f (Some a) e = record { part = a; was = refl; to = e }
-
--- a row that leads to this term under another name
-row_to : {k : Bool} {c : Counts} {t a b : Term} {l : Label} → Row k c t l c a → Some a ≡ Some b → Row k c t l c b
-row_to {k = k} {c = c} {t = t} {a = a} {b = b} {l = l} r e = subst (λ (u : Term). Row k c t l c u) (same_Some a b e) r
-
--- a move is a row that shows nothing and changes no count
-move_is_row : (k : Bool) (c : Counts) (t : Term) {t' : Term} → move t ≡ Some t' → Row k c t Silent c t'
-move_is_row k c (Pure (Number n)) e = row_to pure e
-move_is_row k c (Raise (Number n)) e = row_to raise e
-move_is_row k c (Let x (Finished (Val n)) b) e = row_to let_value e
-move_is_row k c (Let x (Finished (Err n)) b) e = row_to let_error e
-move_is_row k c (Let x a b) e = let m = mapped (λ t. Let x t b) (move a) e in row_to (in_let (move_is_row k c a m.was)) m.to
-move_is_row k c (Handle (Finished (Val n)) x b) e = row_to handle_value e
-move_is_row k c (Handle (Finished (Err n)) x b) e = row_to handle_error e
-move_is_row k c (Handle a x b) e = let m = mapped (λ t. Handle t x b) (move a) e in row_to (in_handle (move_is_row k c a m.was)) m.to
+-- the computed row is a row
+pub move_is_row : (k : Bool) (c : Counts) (t : Term) {m : Moved} → move k c t ≡ Some m → RowTo k c t m
+move_is_row k c (Pure (Number n)) e = row_to row.pure e
+move_is_row k c (Raise (Number n)) e = row_to row.raise e
+move_is_row k c Canceled e = self_request_is_row k c e
+move_is_row k c (Let x (Finished (Val n)) b) e = row_to row.let_value e
+move_is_row k c (Let x (Finished (Err n)) b) e = row_to row.let_error e
+move_is_row k c (Let x a b) e = let m = mapped (moved_in (λ t. Let x t b)) (move k c a) e in row_to (row.in_let (move_is_row k c a m.was)) m.to
+move_is_row k c (Handle (Finished (Val n)) x b) e = row_to row.handle_value e
+move_is_row k c (Handle (Finished (Err n)) x b) e = row_to row.handle_error e
+move_is_row k c (Handle a x b) e = let m = mapped (moved_in (λ t. Handle t x b)) (move k c a) e in row_to (row.in_handle (move_is_row k c a m.was)) m.to
+move_is_row k c (Mask p a) e = row_to row.mask e
+move_is_row k c (Poll (Number r) a) e = row_to row.poll e
+move_is_row k c (OnCancel (Finished v) f) e = row_to row.oncancel_ends e
+move_is_row k c (OnCancel a f) e = let m = mapped (moved_in (λ t. OnCancel t f)) (move k c a) e in row_to (row.in_oncancel (move_is_row k c a m.was)) m.to
+move_is_row k c (Masked r (Finished v)) e = row_to row.masked_ends e
+move_is_row k c (Masked r a) e = let m = mapped (moved_in (Masked r)) (move k c a) e in row_to (row.in_masked (move_is_row k c a m.was)) m.to
+move_is_row k c (Opened r (Finished v)) e = row_to row.opened_ends e
+move_is_row k c (Opened r a) e = let m = mapped (moved_in (Opened r)) (move k c a) e in row_to (row.in_opened (move_is_row k c a m.was)) m.to
 move_is_row k c _ e = absurd cc
-
--- a step that finds no request and changes no count leads from p to q
-pub record HasStep (c : Counts) (p q : Progress) : Type 0 where
-  pub label : Label
-  pub unrequested : label ≢ Shows event.Seen
-  pub step : Step c p label c q
-
-step_to : {c : Counts} {p a b : Progress} {l : Label} → Step c p l c a → l ≢ Shows event.Seen → Some a ≡ Some b → HasStep c p b
-step_to {c = c} {p = p} {a = a} {b = b} {l = l} s n e = subst (λ (q : Progress). HasStep c p q) (same_Some a b e) (record { label = l; unrequested = n; step = s })
-
--- a fiber at its term that is not to be canceled
-going_on_is_step : (c : Counts) (t : Term) {q : Progress} → must_cancel c.known t ≡ false → goes_on (done_of t) (move t) ≡ Some q → HasStep c (Runs t) q
-going_on_is_step c (Finished (Val n)) u e = step_to (succeeds u) (λ h. cc) e
-going_on_is_step c (Finished (Err n)) u e = step_to (errs u) (λ h. cc) e
-going_on_is_step c t u e = let m = mapped Runs (move t) e in step_to (row u (move_is_row (not (is_open t)) c t m.was)) (λ h. cc) m.to
-
-running_is_step : (c : Counts) (t : Term) {q : Progress} → c.known ≡ false → (m : Bool) → must_cancel false t ≡ m → (if m then Some (Unwinds (clean_ups t)) else goes_on (done_of t) (move t)) ≡ Some q → HasStep c (Runs t) q
-running_is_step c t u true m e = step_to (cancelled (rw u m)) (λ h. cc) e
-running_is_step c t u false m e = going_on_is_step c t (rw u m) e
-
-pub next_is_step : (c : Counts) (p : Progress) {q : Progress} → c.known ≡ false → next p ≡ Some q → HasStep c p q
-next_is_step c (Runs t) u e = running_is_step c t u (must_cancel false t) refl e
-next_is_step c (Unwinds []) u e = step_to unwound (λ h. cc) e
-next_is_step c _ u e = absurd cc

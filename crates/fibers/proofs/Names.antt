@@ -1,9 +1,9 @@
 -- Simple terms and the names that are not bound in them.
-use Rattle.std.proofs.Common.{◌≡◌, ◌⊎◌, inl, inr, ℕ, Bool, true, false, ◌==◌, if◌then◌else◌, ◌<◌, Option, Some, None, refl, arith}
+use Rattle.std.proofs.Common.{◌≡◌, ◌⊎◌, inl, inr, ℕ, suc, Bool, true, false, ◌==◌, if◌then◌else◌, ◌<◌, Option, Some, None, refl, arith}
 use Rattle.std.proofs.lemmas.Bool.{eqb-false, cases_lt}
 use Rattle.fx_term.specs.declared.node.Arg.{Arg}
 use Rattle.fx_term.specs.declared.node.Arg.TheVariants.{Number, Slot}
-use Rattle.fx_term.specs.Term.{Term, Pure, Raise, Canceled, Let, Handle, Finished, put_arg, put, put_named}
+use Rattle.fx_term.specs.Term.{Term, Pure, Raise, Canceled, Let, Handle, Mask, Poll, OnCancel, Finished, Masked, Opened, put_arg, put, put_named}
 use Rattle.fx_term.specs.Scope.{IsArgBelow, IsBinderAt, bound_under, HasLevels}
 use Rattle.fibers.specs.Simple.{IsSimple}
 
@@ -24,17 +24,36 @@ IsSimpleOver names (Raise a) = IsArgOver names a
 IsSimpleOver names Canceled = Unit {0}
 IsSimpleOver names (Let x a b) = IsSimpleOver names a × IsSimpleOver (names_under x names) b
 IsSimpleOver names (Handle a x b) = IsSimpleOver names a × IsSimpleOver (names_under x names) b
+IsSimpleOver names (Mask p a) = IsSimpleOver (names_under (Some p) names) a
+IsSimpleOver names (Poll p a) = IsArgOver names p × IsSimpleOver names a
+IsSimpleOver names (OnCancel a f) = IsSimpleOver names a × IsSimpleOver names f
 IsSimpleOver names (Finished v) = Unit {0}
+IsSimpleOver names (Masked r a) = IsSimpleOver names a
+IsSimpleOver names (Opened r a) = IsSimpleOver names a
 IsSimpleOver names _ = ⊥
 
-pub over_is_simple : (names : ℕ → Type 0) (t : Term) → IsSimpleOver names t → IsSimple t
-over_is_simple names (Pure a) h = tt
-over_is_simple names (Raise a) h = tt
-over_is_simple names Canceled h = tt
-over_is_simple names (Let x a b) h = (over_is_simple names a h.0, over_is_simple (names_under x names) b h.1)
-over_is_simple names (Handle a x b) h = (over_is_simple names a h.0, over_is_simple (names_under x names) b h.1)
-over_is_simple names (Finished v) h = tt
-over_is_simple names _ h = absurd h
+-- each simple term is one over all names
+all_under : (names : ℕ → Type 0) (x : Option ℕ) → ((y : ℕ) → names y) → (y : ℕ) → names_under x names y
+all_under names None all y = all y
+all_under names (Some x) all y = inr (all y)
+
+arg_over_all : (names : ℕ → Type 0) (a : Arg) → ((y : ℕ) → names y) → IsArgOver names a
+arg_over_all names (Number n) all = tt
+arg_over_all names (Slot x) all = all x
+
+pub simple_over_all : (names : ℕ → Type 0) (t : Term) → ((y : ℕ) → names y) → IsSimple t → IsSimpleOver names t
+simple_over_all names (Pure a) all s = arg_over_all names a all
+simple_over_all names (Raise a) all s = arg_over_all names a all
+simple_over_all names Canceled all s = tt
+simple_over_all names (Let x a b) all s = (simple_over_all names a all s.0, simple_over_all (names_under x names) b (all_under names x all) s.1)
+simple_over_all names (Handle a x b) all s = (simple_over_all names a all s.0, simple_over_all (names_under x names) b (all_under names x all) s.1)
+simple_over_all names (Mask p a) all s = simple_over_all (names_under (Some p) names) a (all_under names (Some p) all) s
+simple_over_all names (Poll p a) all s = (arg_over_all names p all, simple_over_all names a all s)
+simple_over_all names (OnCancel a f) all s = (simple_over_all names a all s.0, simple_over_all names f all s.1)
+simple_over_all names (Finished v) all s = tt
+simple_over_all names (Masked r a) all s = simple_over_all names a all s
+simple_over_all names (Opened r a) all s = simple_over_all names a all s
+simple_over_all names _ all s = absurd s
 
 -- a term over these names is one over more
 under_more : (P Q : ℕ → Type 0) (x : Option ℕ) → ((y : ℕ) → P y → Q y) → (y : ℕ) → names_under x P y → names_under x Q y
@@ -52,7 +71,12 @@ over_more P Q (Raise a) f h = arg_more P Q a f h
 over_more P Q Canceled f h = tt
 over_more P Q (Let x a b) f h = (over_more P Q a f h.0, over_more (names_under x P) (names_under x Q) b (under_more P Q x f) h.1)
 over_more P Q (Handle a x b) f h = (over_more P Q a f h.0, over_more (names_under x P) (names_under x Q) b (under_more P Q x f) h.1)
+over_more P Q (Mask p a) f h = over_more (names_under (Some p) P) (names_under (Some p) Q) a (under_more P Q (Some p) f) h
+over_more P Q (Poll p a) f h = (arg_more P Q p f h.0, over_more P Q a f h.1)
+over_more P Q (OnCancel a b) f h = (over_more P Q a f h.0, over_more P Q b f h.1)
 over_more P Q (Finished v) f h = tt
+over_more P Q (Masked r a) f h = over_more P Q a f h
+over_more P Q (Opened r a) f h = over_more P Q a f h
 over_more P Q _ f h = absurd h
 
 -- two binders bind the same names in either order
@@ -75,13 +99,18 @@ arg_put P x n (Slot y) h = by_test (y == x) refl h
     by_test false e (inl same) = absurd (eqb-false y x e same)
     by_test false e (inr p) = p
 
-over_put : (P : ℕ → Type 0) (x n : ℕ) (t : Term) → IsSimpleOver (names_under (Some x) P) t → IsSimpleOver P (put x n t)
+pub over_put : (P : ℕ → Type 0) (x n : ℕ) (t : Term) → IsSimpleOver (names_under (Some x) P) t → IsSimpleOver P (put x n t)
 over_put P x n (Pure a) h = arg_put P x n a h
 over_put P x n (Raise a) h = arg_put P x n a h
 over_put P x n Canceled h = tt
 over_put P x n (Let z a b) h = (over_put P x n a h.0, over_put (names_under z P) x n b (over_swap P x z b h.1))
 over_put P x n (Handle a z b) h = (over_put P x n a h.0, over_put (names_under z P) x n b (over_swap P x z b h.1))
+over_put P x n (Mask p a) h = over_put (names_under (Some p) P) x n a (over_swap P x (Some p) a h)
+over_put P x n (Poll p a) h = (arg_put P x n p h.0, over_put P x n a h.1)
+over_put P x n (OnCancel a f) h = (over_put P x n a h.0, over_put P x n f h.1)
 over_put P x n (Finished v) h = tt
+over_put P x n (Masked r a) h = over_put P x n a h
+over_put P x n (Opened r a) h = over_put P x n a h
 over_put P x n _ h = absurd h
 
 pub over_put_named : (P : ℕ → Type 0) (x : Option ℕ) (n : ℕ) (t : Term) → IsSimpleOver (names_under x P) t → IsSimpleOver P (put_named x n t)
@@ -107,7 +136,12 @@ over_below bound (Raise a) s h = arg_below bound a h
 over_below bound Canceled s h = tt
 over_below bound (Let x a b) s h = (over_below bound a s.0 h.0, over_under bound x b h.1 (over_below (bound_under bound x) b s.1 h.2))
 over_below bound (Handle a x b) s h = (over_below bound a s.0 h.0, over_under bound x b h.1 (over_below (bound_under bound x) b s.1 h.2))
+over_below bound (Mask p a) s h = over_under bound (Some p) a h.0 (over_below (suc bound) a s h.1)
+over_below bound (Poll p a) s h = (arg_below bound p h.0, over_below bound a s h.1)
+over_below bound (OnCancel a f) s h = (over_below bound a s.0 h.0, over_below bound f s.1 h.1)
 over_below bound (Finished v) s h = tt
+over_below bound (Masked r a) s h = absurd h
+over_below bound (Opened r a) s h = absurd h
 over_below bound _ s h = absurd s
 
 -- no name

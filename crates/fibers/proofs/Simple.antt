@@ -1,50 +1,37 @@
--- What holds where a fiber is at a simple term.
-use Rattle.std.proofs.Common.{◌≡◌, ℕ, false, Option, Some, None, List, [], refl}
-use Rattle.fx_term.specs.Term.{Term, Pure, Raise, Canceled, Let, Handle, Finished, put, put_named}
-use Rattle.fibers.specs.Path.{Closing, clean_ups, closed_regions, leaf, is_canceled_form, must_cancel}
-use Rattle.fibers.specs.Step.{Progress, Runs, Unwinds, HasEnded}
-use Rattle.fibers.specs.Simple.{IsSimple}
+-- How far a fiber is that began at a simple term.
+use Rattle.std.proofs.Common.{ℕ, Some, None, List, [], ◌∷◌, ◌++◌}
+use Rattle.fx_term.specs.Term.{Term, Let, Handle, OnCancel, Bracket, Masked, Opened, Using, Releasing}
+use Rattle.fx_fiber.specs.Path.{CleanUp, Finalizer, Release, clean_ups}
+use Rattle.fx_fiber.specs.Step.{Progress, Runs, Unwinds, CleansUp, HasEnded}
+use Rattle.fibers.proofs.Names.{IsSimpleOver}
 
--- the path of a simple term closes nothing, and has no clean-up
-pub closes_nothing : (outer : List Closing) (t : Term) → IsSimple t → closed_regions outer t ≡ outer
-closes_nothing outer (Pure a) s = refl
-closes_nothing outer (Raise a) s = refl
-closes_nothing outer Canceled s = refl
-closes_nothing outer (Let x a b) s = closes_nothing outer a s.0
-closes_nothing outer (Handle a x b) s = closes_nothing outer a s.0
-closes_nothing outer (Finished v) s = refl
-closes_nothing outer _ s = absurd s
+-- finalizers that are simple terms over these names
+abbrev pub AreFinalizersOver : (ℕ → Type 0) → List CleanUp → Type 0
+AreFinalizersOver names [] = Unit {0}
+AreFinalizersOver names (Finalizer f ∷ rest) = IsSimpleOver names f × AreFinalizersOver names rest
+AreFinalizersOver names (Release k r ∷ rest) = ⊥
 
-pub cleans_nothing : (t : Term) → IsSimple t → clean_ups t ≡ []
-cleans_nothing (Pure a) s = refl
-cleans_nothing (Raise a) s = refl
-cleans_nothing Canceled s = refl
-cleans_nothing (Let x a b) s = cleans_nothing a s.0
-cleans_nothing (Handle a x b) s = cleans_nothing a s.0
-cleans_nothing (Finished v) s = refl
-cleans_nothing _ s = absurd s
+-- the fiber is at such a term, between such finalizers or in one, or at its end
+abbrev pub IsProgressOver : (ℕ → Type 0) → Progress → Type 0
+IsProgressOver names (Runs t) = IsSimpleOver names t
+IsProgressOver names (Unwinds cs) = AreFinalizersOver names cs
+IsProgressOver names (CleansUp None f rest) = IsSimpleOver names f × AreFinalizersOver names rest
+IsProgressOver names (CleansUp (Some k) r rest) = ⊥
+IsProgressOver names (HasEnded o) = Unit {0}
 
--- a number for a name leaves a term simple
-pub simple_put : (x n : ℕ) (t : Term) → IsSimple t → IsSimple (put x n t)
-simple_put x n (Pure a) s = tt
-simple_put x n (Raise a) s = tt
-simple_put x n Canceled s = tt
-simple_put x n (Let y a b) s = (simple_put x n a s.0, simple_put x n b s.1)
-simple_put x n (Handle a y b) s = (simple_put x n a s.0, simple_put x n b s.1)
-simple_put x n (Finished v) s = tt
-simple_put x n _ s = absurd s
+one_more_finalizer : (names : ℕ → Type 0) (cs : List CleanUp) (f : Term) → AreFinalizersOver names cs → IsSimpleOver names f → AreFinalizersOver names (cs ++ Finalizer f ∷ [])
+one_more_finalizer names [] f h s = (s, tt)
+one_more_finalizer names (Finalizer g ∷ cs) f h s = (h.0, one_more_finalizer names cs f h.1 s)
+one_more_finalizer names (Release k r ∷ cs) f h s = absurd h
 
-pub simple_put_named : (x : Option ℕ) (n : ℕ) (t : Term) → IsSimple t → IsSimple (put_named x n t)
-simple_put_named None n t s = s
-simple_put_named (Some x) n t s = simple_put x n t s
-
--- the fiber is at a simple term, at the end of its clean-ups, or at its end
-abbrev pub IsSimpleProgress : Progress → Type 0
-IsSimpleProgress (Runs t) = IsSimple t
-IsSimpleProgress (Unwinds []) = Unit {0}
-IsSimpleProgress (HasEnded o) = Unit {0}
-IsSimpleProgress _ = ⊥
-
--- cancellation is the rule exactly where the leaf is `canceled`
-pub cancels_at_leaf : (t : Term) → IsSimple t → must_cancel false t ≡ is_canceled_form (leaf t)
-cancels_at_leaf t s = let e = closes_nothing [] t s in rw e refl
+-- the clean-ups of a simple term are finalizers over its names
+pub clean_ups_over : (names : ℕ → Type 0) (t : Term) → IsSimpleOver names t → AreFinalizersOver names (clean_ups t)
+clean_ups_over names (Let x a b) s = clean_ups_over names a s.0
+clean_ups_over names (Handle a x b) s = clean_ups_over names a s.0
+clean_ups_over names (OnCancel a f) s = one_more_finalizer names (clean_ups a) f (clean_ups_over names a s.0) s.1
+clean_ups_over names (Masked r a) s = clean_ups_over names a s
+clean_ups_over names (Opened r a) s = clean_ups_over names a s
+clean_ups_over names (Bracket x a u r) s = absurd s
+clean_ups_over names (Using k a r) s = absurd s
+clean_ups_over names (Releasing k a v) s = absurd s
+clean_ups_over names _ s = tt

@@ -4,11 +4,11 @@ use Rattle.fx_term.specs.declared.outcome.Outcome.{Outcome}
 use Rattle.fx_term.specs.declared.outcome.Outcome.TheVariants as outcome
 use Rattle.fx_term.specs.declared.event.Event.TheVariants as event
 use Rattle.fx_term.specs.Term.{Term, Pure, Raise, Canceled, Never, Cede, Let, Handle, If, For, Mask, Poll, OnCancel, Bracket, Start, Join, Cancel, First, Offer, TryOffer, Take, TryTake, Finished, Masked, Opened, Using, Releasing, Loop, Await, put, put_named}
-use Rattle.fibers.specs.Path.{CleanUp, Finalizer, Release, clean_ups}
-use Rattle.fibers.specs.Row.{Counts, Label, Shows, part_after, Row}
-use Rattle.fibers.specs.Row as row
-use Rattle.fibers.specs.Step.{Progress, Runs, Unwinds, CleansUp, HasEnded, Step}
-use Rattle.fibers.specs.Step as step
+use Rattle.fx_fiber.specs.Path.{CleanUp, Finalizer, Release, clean_ups}
+use Rattle.fx_fiber.specs.Row.{Counts, Label, Shows, part_after, Row}
+use Rattle.fx_fiber.specs.Row as row
+use Rattle.fx_fiber.specs.Step.{Progress, Runs, Unwinds, CleansUp, HasEnded, Step}
+use Rattle.fx_fiber.specs.Step as step
 
 -- more than the steps that a term can make
 abbrev pub work : Term → ℕ

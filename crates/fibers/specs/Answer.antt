@@ -5,7 +5,7 @@ use Rattle.fx_text.specs.declared.fault.TextFault.{TextFault}
 use Rattle.fx_text.specs.Fault.{kind_number}
 use Rattle.fx_text.specs.Reading.{Meaning, reading}
 use Rattle.fx_text.specs.Grammar.{IsScript}
-use Rattle.fibers.specs.Run.{IsOutcome}
+use Rattle.fx_fiber.specs.Run.{IsOutcome}
 use Rattle.fibers.specs.Text.{report_text, refusal_text}
 
 -- the status and the printed text: the report of a script's one outcome, or one line where the text is no script, with its first fault

@@ -1,13 +1,7 @@
-pub mod Path
-pub mod Row
-pub mod Step
-pub mod Run
 pub mod Fault
 pub mod Input
 pub mod Text
 pub mod Answer
 pub mod Replay
 pub mod Simple
-pub mod Registers
-pub mod Standing
-pub mod Rule
+pub mod Alone

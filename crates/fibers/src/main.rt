@@ -4,7 +4,7 @@
 //!
 //! 1. `input` reads its text, and no more than one byte past what a script may have.
 //! 2. `fx_text` reads the text, and answers the script or the first fault.
-//! 3. `machine` runs the script's term, one rule a step, to its outcome.
+//! 3. `alone` runs a fiber over a port that nobody requests, one rule a step, to its outcome.
 //! 4. `report` makes the text of the report, or the line of a refusal.
 //! 5. `output` writes that text, which was whole before the first write.
 //!
@@ -12,10 +12,10 @@
 //! is never more than a front of that text.
 #![tactic(auto)]
 
+mod alone;
 pub mod fault;
 mod input;
 pub mod laws;
-mod machine;
 mod output;
 pub mod replay;
 mod report;

@@ -3,9 +3,9 @@ ghost use Rattle.std.specs.Prelude.{◌≡◌, [], IfOk, string_bytes};
 ghost use Rattle.fibers.specs.Answer.{IsAnswer};
 ghost use Rattle.fibers.specs.Replay.{Replays};
 
+use crate::alone::run;
 use crate::fault::PlainFault;
 use crate::input::read_text;
-use crate::machine::run;
 use crate::output::write_text;
 use crate::report::{fiber_line, refusal_text};
 use fx_term::Memory;

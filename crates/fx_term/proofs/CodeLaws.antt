@@ -1,16 +1,19 @@
 -- A list of nodes that has a fault is no code, and one whose tests all pass is a code.
-use Rattle.std.proofs.Common.{◌≡◌, ◌⊎◌, suc, ◌^◌, ◌<◌, List, length, subst, inl, inr, arith}
+use Rattle.std.proofs.Common.{◌≡◌, ◌⊎◌, suc, ◌^◌, ◌<◌, List, ◌∷◌, ◌++◌, length, subst, inl, inr, arith}
 use Rattle.std.specs.Prelude.{All}
 use Rattle.std.proofs.lemmas.List.{nil_from_length}
 use Rattle.fx_term.specs.declared.node.Node.{Node}
 use Rattle.fx_term.specs.declared.code.CodeFault.{CodeFault}
 use Rattle.fx_term.specs.declared.code.CodeFault.TheVariants.{Memory}
 use Rattle.fx_term.specs.Tree.{IsOneTree}
-use Rattle.fx_term.specs.Spots.{spots, IsWellPlaced}
-use Rattle.fx_term.specs.Code.{IsCode, IsFault, no_node, too_many, stray, orphan, slot}
+use Rattle.fx_term.specs.Spots.{Spot, spots, IsWellPlaced}
+use Rattle.fx_term.specs.Code.{IsCode, IsFault, no_node, too_many, stray, orphan, slot, kind}
 use Rattle.fx_term.proofs.AllParts.{all_middle}
 use Rattle.fx_term.proofs.SpotLaws.{root_in_scope, root_placed}
 use Rattle.fx_term.proofs.TreeLaws.{forest_take}
+
+placed_there : (nodes : List Node) (before after : List Spot) (s : Spot) → IsCode nodes → spots nodes ≡ before ++ s ∷ after → IsWellPlaced nodes s
+placed_there nodes before after s code split = all_middle (IsWellPlaced nodes) before s after (subst (All (IsWellPlaced nodes)) split (root_placed nodes code.tree.forest.before code.scope))
 
 -- a code has no fault
 pub no_fault_of_code : (nodes : List Node) (fault : CodeFault) → IsFault nodes fault → IsCode nodes → ⊥
@@ -19,7 +22,9 @@ no_fault_of_code nodes fault (too_many many) code = let fits = code.fits in absu
 no_fault_of_code nodes fault (stray {id} fits within front at) code = at (forest_take (suc id) nodes code.tree.forest)
 no_fault_of_code nodes fault (orphan {id} fits forest within before at) code = at (code.tree.each id within)
 no_fault_of_code nodes fault (slot before after s fits tree split placed at) code =
-    at (all_middle (IsWellPlaced nodes) before s after (subst (All (IsWellPlaced nodes)) split (root_placed nodes code.tree.forest.before code.scope)))
+    at (placed_there nodes before after s code split).slots
+no_fault_of_code nodes fault (kind before after s fits tree split placed right at) code =
+    at (placed_there nodes before after s code split).kinds
 
 -- of a code no fault is answered but want of memory
 pub only_memory : (nodes : List Node) (fault : CodeFault) → (fault ≡ Memory) ⊎ IsFault nodes fault → IsCode nodes → fault ≡ Memory

@@ -7,7 +7,13 @@ pub mod NodeTerms
 pub mod PartLaws
 pub mod PlaceLaws
 pub mod ScopeLaws
+pub mod RegisterLaws
 pub mod SpotLaws
 pub mod SpotsToCome
 pub mod TakenLaws
+pub mod TermNeeds
 pub mod TreeLaws
+pub mod MaskEntriesLaws
+pub mod MaskEntriesOfCode
+pub mod SumBelow
+pub mod FillNothing

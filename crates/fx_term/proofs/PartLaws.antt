@@ -1,18 +1,17 @@
 -- The parts of each form, and what its term keeps of theirs. Of the laws on walks these alone look at the forms.
-use Rattle.std.proofs.Common.{◌≡◌, ℕ, suc, ◌≤◌, Option, Some, None, List, [], ◌∷◌, length, map, refl, sym, subst, arith}
+use Rattle.std.proofs.Common.{◌≡◌, ℕ, Option, Some, None, List, [], ◌∷◌, ◌++◌, length, map, refl, arith}
 use Rattle.std.specs.Prelude.{All}
-use Rattle.std.proofs.lemmas.List.{length_push}
-use Rattle.std.proofs.lemmas.List.Elements.{All-nil, All-cons, All-push}
+use Rattle.std.proofs.lemmas.List.Elements.{All-nil, All-cons}
 use Rattle.std.proofs.lemmas.Option.{slice_get_past}
 use Rattle.fx_term.specs.declared.node.NodeId.{NodeId}
 use Rattle.fx_term.specs.declared.node.Node.{Node}
 use Rattle.fx_term.specs.declared.node.Node.TheVariants as node
 use Rattle.fx_term.specs.Term.{Term, Let}
-use Rattle.fx_term.specs.Scope.{Kind, OfValue, IsBinderAt, bound_under, HasLevels, IsInScope}
+use Rattle.fx_term.specs.Scope.{Kind, OfValue, OfPoll, IsBinderAt, IsInScope}
 use Rattle.fx_term.specs.Meaning.{assemble}
 use Rattle.fx_term.specs.Tree.{children}
-use Rattle.fx_term.specs.Spots.{Spot, kinds_under, parts, HasRightSlots}
-use Rattle.fx_term.proofs.ScopeLaws.{AreValues, arg_in_scope, length_suc, under_in_scope}
+use Rattle.fx_term.specs.Spots.{Spot, parts, HasRightSlots, HasRightKinds}
+use Rattle.fx_term.proofs.ScopeLaws.{levels_under, scoped_under, in_scope_under}
 
 -- the parts of a node are its children
 pub part_ids : (n : Node) (kinds : List Kind) → map (λ (s : Spot). s.id) (parts (Some n) kinds) ≡ children n
@@ -21,71 +20,104 @@ part_ids (node.Raise a) kinds = refl
 part_ids node.Canceled kinds = refl
 part_ids (node.Let x a b) kinds = refl
 part_ids (node.Handle a x b) kinds = refl
+part_ids (node.Mask p a) kinds = refl
+part_ids (node.Poll p a) kinds = refl
+part_ids (node.OnCancel a b) kinds = refl
 
--- what holds of a part, and of a second one below a binder of a value
-both_parts : (P : Spot → Type 0) (x : Option ℕ) (a b : NodeId) (kinds : List Kind) → P (record { id = a.0; kinds = kinds }) → P (record { id = b.0; kinds = kinds_under x OfValue kinds }) → All P (parts (Some (node.Let x a b)) kinds)
-both_parts P x a b kinds first second =
-    let under : Spot = record { id = b.0; kinds = kinds_under x OfValue kinds } in
-    All-cons P (record { id = a.0; kinds = kinds }) (under ∷ []) first (All-cons P under [] second (All-nil P))
-
--- a part stands below one binder at most
-fewer_kinds : (x : Option ℕ) (kinds : List Kind) → length (kinds_under x OfValue kinds) ≤ suc (length kinds)
-fewer_kinds None kinds = omega arith
-fewer_kinds (Some x) kinds = omega (arith, length_push kinds OfValue)
-
-IsFewer : List Kind → Spot → Type 0
-IsFewer kinds part = length part.kinds ≤ suc (length kinds)
-
-pub part_kinds : (o : Option Node) (kinds : List Kind) → All (λ (part : Spot). length part.kinds ≤ suc (length kinds)) (parts o kinds)
-unfolding IsFewer
-part_kinds None kinds = All-nil (IsFewer kinds)
-part_kinds (Some (node.Pure a)) kinds = All-nil (IsFewer kinds)
-part_kinds (Some (node.Raise a)) kinds = All-nil (IsFewer kinds)
-part_kinds (Some node.Canceled) kinds = All-nil (IsFewer kinds)
-part_kinds (Some (node.Let x a b)) kinds = both_parts (IsFewer kinds) x a b kinds (omega arith) (fewer_kinds x kinds)
-part_kinds (Some (node.Handle a x b)) kinds = both_parts (IsFewer kinds) x a b kinds (omega arith) (fewer_kinds x kinds)
+-- the part's term is in scope where it stands
+abbrev pub IsPartInScope : (ℕ → Term) → Spot → Type 0
+IsPartInScope term part = IsInScope part.kinds (term part.id)
 
 -- a part, and a second part below a binder of a value
-bound_in_scope : (x : Option ℕ) (a b : NodeId) (kinds : List Kind) (term : ℕ → Term) → AreValues kinds → IsBinderAt (length kinds) x → All (λ (part : Spot). AreValues part.kinds → IsInScope part.kinds (term part.id)) (parts (Some (node.Let x a b)) kinds) → IsInScope kinds (Let x (term a.0) (term b.0))
-bound_in_scope None a b kinds term values right h =
-    let first = h 0 (record { id = a.0; kinds = kinds }) (omega arith) values in
-    let second = h 1 (record { id = a.0; kinds = kinds }) (omega arith) values in
+bound_in_scope : (x : Option ℕ) (a b : NodeId) (kinds : List Kind) (term : ℕ → Term) → IsBinderAt (length kinds) x → All (IsPartInScope term) (parts (Some (node.Let x a b)) kinds) → IsInScope kinds (Let x (term a.0) (term b.0))
+bound_in_scope None a b kinds term right h =
+    let first = h 0 (record { id = a.0; kinds = kinds }) (omega arith) in
+    let second = h 1 (record { id = a.0; kinds = kinds }) (omega arith) in
     record { levels = (first.levels, right, second.levels); scoped = (first.scoped, tt, second.scoped) }
-bound_in_scope (Some x) a b kinds term values right h =
-    let first = h 0 (record { id = a.0; kinds = kinds }) (omega arith) values in
-    let second = under_in_scope kinds x (term b.0) right (h 1 (record { id = a.0; kinds = kinds }) (omega arith) (All-push (λ k. k ≡ OfValue) kinds OfValue values refl)) in
-    record { levels = (first.levels, right, second.0); scoped = (first.scoped, slice_get_past kinds x (omega arith), second.1) }
+bound_in_scope (Some x) a b kinds term right h =
+    let first = h 0 (record { id = a.0; kinds = kinds }) (omega arith) in
+    let second = h 1 (record { id = a.0; kinds = kinds }) (omega arith) in
+    record {
+      levels = (first.levels, right, levels_under kinds OfValue x right (term b.0) second);
+      scoped = (first.scoped, slice_get_past kinds x (omega arith), scoped_under kinds OfValue x right (term b.0) second);
+    }
 
--- a node's term is in scope where its slots are right and the terms of its parts are in scope
-pub in_scope_node : (o : Option Node) (kinds : List Kind) (term : ℕ → Term) → AreValues kinds → HasRightSlots kinds o → All (λ (part : Spot). AreValues part.kinds → IsInScope part.kinds (term part.id)) (parts o kinds) → IsInScope kinds (assemble o term)
-in_scope_node None kinds term values right h = record { levels = tt; scoped = tt }
-in_scope_node (Some (node.Pure a)) kinds term values right h = record { levels = right; scoped = arg_in_scope kinds a values right }
-in_scope_node (Some (node.Raise a)) kinds term values right h = record { levels = right; scoped = arg_in_scope kinds a values right }
-in_scope_node (Some node.Canceled) kinds term values right h = record { levels = tt; scoped = tt }
-in_scope_node (Some (node.Let x a b)) kinds term values right h = bound_in_scope x a b kinds term values right h
-in_scope_node (Some (node.Handle a x b)) kinds term values right h = let bound = bound_in_scope x a b kinds term values right h in record { levels = bound.levels; scoped = bound.scoped }
+-- a node's term is in scope where its slots and kinds are right and the terms of its parts are in scope
+pub in_scope_node : (o : Option Node) (kinds : List Kind) (term : ℕ → Term) → HasRightSlots kinds o → HasRightKinds kinds o → All (IsPartInScope term) (parts o kinds) → IsInScope kinds (assemble o term)
+in_scope_node None kinds term right of_kind h = record { levels = tt; scoped = tt }
+in_scope_node (Some (node.Pure a)) kinds term right of_kind h = record { levels = right; scoped = of_kind }
+in_scope_node (Some (node.Raise a)) kinds term right of_kind h = record { levels = right; scoped = of_kind }
+in_scope_node (Some node.Canceled) kinds term right of_kind h = record { levels = tt; scoped = tt }
+in_scope_node (Some (node.Let x a b)) kinds term right of_kind h = bound_in_scope x a b kinds term right h
+in_scope_node (Some (node.Handle a x b)) kinds term right of_kind h = let bound = bound_in_scope x a b kinds term right h in record { levels = bound.levels; scoped = bound.scoped }
+in_scope_node (Some (node.Mask p a)) kinds term right of_kind h =
+    let part = h 0 (record { id = a.0; kinds = kinds }) (omega arith) in
+    record {
+      levels = (right, levels_under kinds OfPoll p right (term a.0) part);
+      scoped = (slice_get_past kinds p (omega arith), scoped_under kinds OfPoll p right (term a.0) part);
+    }
+in_scope_node (Some (node.Poll p a)) kinds term right of_kind h =
+    let part = h 0 (record { id = a.0; kinds = kinds }) (omega arith) in
+    record { levels = (right, part.levels); scoped = (of_kind, part.scoped) }
+in_scope_node (Some (node.OnCancel a b)) kinds term right of_kind h =
+    let first = h 0 (record { id = a.0; kinds = kinds }) (omega arith) in
+    let second = h 1 (record { id = a.0; kinds = kinds }) (omega arith) in
+    record { levels = (first.levels, second.levels); scoped = (first.scoped, second.scoped) }
 
--- where a node's term has its levels, the node's slots are right, and the terms of its parts have their levels
-pub right_node : (o : Option Node) (kinds : List Kind) (term : ℕ → Term) → HasLevels (length kinds) (assemble o term) → HasRightSlots kinds o
-right_node None kinds term h = tt
-right_node (Some (node.Pure a)) kinds term h = h
-right_node (Some (node.Raise a)) kinds term h = h
-right_node (Some node.Canceled) kinds term h = tt
-right_node (Some (node.Let x a b)) kinds term h = h.1
-right_node (Some (node.Handle a x b)) kinds term h = h.1
+-- where a node's term is in scope, the node's slots are right
+pub right_slots : (o : Option Node) (kinds : List Kind) (term : ℕ → Term) → IsInScope kinds (assemble o term) → HasRightSlots kinds o
+right_slots None kinds term h = tt
+right_slots (Some (node.Pure a)) kinds term h = h.levels
+right_slots (Some (node.Raise a)) kinds term h = h.levels
+right_slots (Some node.Canceled) kinds term h = tt
+right_slots (Some (node.Let x a b)) kinds term h = h.levels.1
+right_slots (Some (node.Handle a x b)) kinds term h = h.levels.1
+right_slots (Some (node.Mask p a)) kinds term h = h.levels.0
+right_slots (Some (node.Poll p a)) kinds term h = h.levels.0
+right_slots (Some (node.OnCancel a b)) kinds term h = tt
 
--- the part's term has its levels where it stands
-abbrev pub IsLevel : (ℕ → Term) → Spot → Type 0
-IsLevel term part = HasLevels (length part.kinds) (term part.id)
+-- and its names are of the right kinds
+pub right_kinds : (o : Option Node) (kinds : List Kind) (term : ℕ → Term) → IsInScope kinds (assemble o term) → HasRightKinds kinds o
+right_kinds None kinds term h = tt
+right_kinds (Some (node.Pure a)) kinds term h = h.scoped
+right_kinds (Some (node.Raise a)) kinds term h = h.scoped
+right_kinds (Some node.Canceled) kinds term h = tt
+right_kinds (Some (node.Let x a b)) kinds term h = tt
+right_kinds (Some (node.Handle a x b)) kinds term h = tt
+right_kinds (Some (node.Mask p a)) kinds term h = tt
+right_kinds (Some (node.Poll p a)) kinds term h = h.scoped.0
+right_kinds (Some (node.OnCancel a b)) kinds term h = tt
 
-level_under : (x : Option ℕ) (kinds : List Kind) (t : Term) → HasLevels (bound_under (length kinds) x) t → HasLevels (length (kinds_under x OfValue kinds)) t
-level_under None kinds t h = h
-level_under (Some x) kinds t h = subst (λ (n : ℕ). HasLevels n t) (sym (length_suc kinds OfValue)) h
+-- what holds of one part, and of two
+one_part : (P : Spot → Type 0) (s : Spot) → P s → All P (s ∷ [])
+one_part P s h = All-cons P s [] h (All-nil P)
 
-pub levels_of_parts : (o : Option Node) (kinds : List Kind) (term : ℕ → Term) → HasLevels (length kinds) (assemble o term) → All (IsLevel term) (parts o kinds)
-levels_of_parts None kinds term h = All-nil (IsLevel term)
-levels_of_parts (Some (node.Pure a)) kinds term h = All-nil (IsLevel term)
-levels_of_parts (Some (node.Raise a)) kinds term h = All-nil (IsLevel term)
-levels_of_parts (Some node.Canceled) kinds term h = All-nil (IsLevel term)
-levels_of_parts (Some (node.Let x a b)) kinds term h = both_parts (IsLevel term) x a b kinds h.0 (level_under x kinds (term b.0) h.2)
-levels_of_parts (Some (node.Handle a x b)) kinds term h = both_parts (IsLevel term) x a b kinds h.0 (level_under x kinds (term b.0) h.2)
+two_parts : (P : Spot → Type 0) (s r : Spot) → P s → P r → All P (s ∷ r ∷ [])
+two_parts P s r h k = All-cons P s (r ∷ []) h (one_part P r k)
+
+-- the parts of a term with a binder of a value
+parts_of_bound : (x : Option ℕ) (a b : NodeId) (kinds : List Kind) (term : ℕ → Term) → IsInScope kinds (Let x (term a.0) (term b.0)) → All (IsPartInScope term) (parts (Some (node.Let x a b)) kinds)
+parts_of_bound None a b kinds term h =
+    two_parts (IsPartInScope term) (record { id = a.0; kinds = kinds }) (record { id = b.0; kinds = kinds })
+    (record { levels = h.levels.0; scoped = h.scoped.0 })
+    (record { levels = h.levels.2; scoped = h.scoped.2 })
+parts_of_bound (Some x) a b kinds term h =
+    two_parts (IsPartInScope term) (record { id = a.0; kinds = kinds }) (record { id = b.0; kinds = kinds ++ OfValue ∷ [] })
+    (record { levels = h.levels.0; scoped = h.scoped.0 })
+    (in_scope_under kinds OfValue x h.levels.1 (term b.0) h.levels.2 h.scoped.2)
+
+-- where a node's term is in scope, those of its parts are
+pub scope_of_parts : (o : Option Node) (kinds : List Kind) (term : ℕ → Term) → IsInScope kinds (assemble o term) → All (IsPartInScope term) (parts o kinds)
+scope_of_parts None kinds term h = All-nil (IsPartInScope term)
+scope_of_parts (Some (node.Pure a)) kinds term h = All-nil (IsPartInScope term)
+scope_of_parts (Some (node.Raise a)) kinds term h = All-nil (IsPartInScope term)
+scope_of_parts (Some node.Canceled) kinds term h = All-nil (IsPartInScope term)
+scope_of_parts (Some (node.Let x a b)) kinds term h = parts_of_bound x a b kinds term h
+scope_of_parts (Some (node.Handle a x b)) kinds term h = parts_of_bound x a b kinds term (record { levels = h.levels; scoped = h.scoped })
+scope_of_parts (Some (node.Mask p a)) kinds term h =
+    one_part (IsPartInScope term) (record { id = a.0; kinds = kinds ++ OfPoll ∷ [] }) (in_scope_under kinds OfPoll p h.levels.0 (term a.0) h.levels.1 h.scoped.1)
+scope_of_parts (Some (node.Poll p a)) kinds term h = one_part (IsPartInScope term) (record { id = a.0; kinds = kinds }) (record { levels = h.levels.1; scoped = h.scoped.1 })
+scope_of_parts (Some (node.OnCancel a b)) kinds term h =
+    two_parts (IsPartInScope term) (record { id = a.0; kinds = kinds }) (record { id = b.0; kinds = kinds })
+    (record { levels = h.levels.0; scoped = h.scoped.0 })
+    (record { levels = h.levels.1; scoped = h.scoped.1 })

@@ -4,14 +4,13 @@ use Rattle.std.specs.Prelude.{All, slice_get}
 use Rattle.std.specs.List.{flat_map}
 use Rattle.std.proofs.lemmas.List.Elements.{All-nil, All-cons, All-head, All-tail, All-weaker}
 use Rattle.fx_term.specs.declared.node.Node.{Node}
-use Rattle.fx_term.specs.Scope.{OfValue, HasLevels, IsInScope}
+use Rattle.fx_term.specs.Scope.{IsInScope}
 use Rattle.fx_term.specs.Meaning.{assemble, read, term_of, root_term}
 use Rattle.fx_term.specs.Tree.{ChildrenComeFirst}
 use Rattle.fx_term.specs.Spots.{Spot, parts, walk, spots_from, spots, IsWellPlaced}
 use Rattle.fx_term.proofs.AllParts.{all_from_map, all_flat_map, all_from_flat_map, flat_map_same}
 use Rattle.fx_term.proofs.NodeTerms.{term_of_node}
-use Rattle.fx_term.proofs.PartLaws.{part_ids, in_scope_node, right_node, levels_of_parts}
-use Rattle.fx_term.proofs.ScopeLaws.{AreValues}
+use Rattle.fx_term.proofs.PartLaws.{part_ids, in_scope_node, right_slots, right_kinds, scope_of_parts}
 
 module _ (nodes : List Node) (tree : ChildrenComeFirst nodes) where
   pub parts_before : (s : Spot) → All (λ (part : Spot). part.id < s.id) (parts (slice_get nodes s.id) s.kinds)
@@ -47,32 +46,32 @@ module _ (nodes : List Node) (tree : ChildrenComeFirst nodes) where
 
 module _ (nodes : List Node) (tree : ChildrenComeFirst nodes) where
   -- where all is well placed, the term is in scope
-  in_scope_from : (k : ℕ) (s : Spot) → s.id < k → AreValues s.kinds → All (IsWellPlaced nodes) (spots_from nodes s) → IsInScope s.kinds (term_of nodes s.id)
-  in_scope_from zero s lt values placed = absurd (omega arith)
-  in_scope_from (suc k) s lt values placed =
+  in_scope_from : (k : ℕ) (s : Spot) → s.id < k → All (IsWellPlaced nodes) (spots_from nodes s) → IsInScope s.kinds (term_of nodes s.id)
+  in_scope_from zero s lt placed = absurd (omega arith)
+  in_scope_from (suc k) s lt placed =
       let ps = parts (slice_get nodes s.id) s.kinds in
       let all : All (IsWellPlaced nodes) (s ∷ flat_map (spots_from nodes) ps) = subst (All (IsWellPlaced nodes)) (spots_at nodes tree s) placed in
       let here = All-head (IsWellPlaced nodes) s (flat_map (spots_from nodes) ps) all in
       let below = all_from_flat_map (IsWellPlaced nodes) (spots_from nodes) ps (All-tail (IsWellPlaced nodes) s (flat_map (spots_from nodes) ps) all) in
       let near = parts_before nodes tree s in
-      subst (IsInScope s.kinds) (sym (term_at nodes tree s.id)) (in_scope_node (slice_get nodes s.id) s.kinds (term_of nodes) values here
-      (λ i d h v. let before : (get_or ps i d).id < s.id = near i d h in in_scope_from k (get_or ps i d) (omega arith) v (below i d h)))
+      subst (IsInScope s.kinds) (sym (term_at nodes tree s.id)) (in_scope_node (slice_get nodes s.id) s.kinds (term_of nodes) here.slots here.kinds
+      (λ i d h. let before : (get_or ps i d).id < s.id = near i d h in in_scope_from k (get_or ps i d) (omega arith) (below i d h)))
 
-  -- where a term has its levels, all is well placed
-  placed_from : (k : ℕ) (s : Spot) → s.id < k → HasLevels (length s.kinds) (term_of nodes s.id) → All (IsWellPlaced nodes) (spots_from nodes s)
-  placed_from zero s lt levels = absurd (omega arith)
-  placed_from (suc k) s lt levels =
+  -- where a term is in scope, all is well placed
+  placed_from : (k : ℕ) (s : Spot) → s.id < k → IsInScope s.kinds (term_of nodes s.id) → All (IsWellPlaced nodes) (spots_from nodes s)
+  placed_from zero s lt scope = absurd (omega arith)
+  placed_from (suc k) s lt scope =
       let ps = parts (slice_get nodes s.id) s.kinds in
-      let whole : HasLevels (length s.kinds) (assemble (slice_get nodes s.id) (term_of nodes)) = subst (HasLevels (length s.kinds)) (term_at nodes tree s.id) levels in
-      let here = right_node (slice_get nodes s.id) s.kinds (term_of nodes) whole in
-      let below = levels_of_parts (slice_get nodes s.id) s.kinds (term_of nodes) whole in
+      let whole : IsInScope s.kinds (assemble (slice_get nodes s.id) (term_of nodes)) = subst (IsInScope s.kinds) (term_at nodes tree s.id) scope in
+      let here : IsWellPlaced nodes s = record { slots = right_slots (slice_get nodes s.id) s.kinds (term_of nodes) whole; kinds = right_kinds (slice_get nodes s.id) s.kinds (term_of nodes) whole } in
+      let below = scope_of_parts (slice_get nodes s.id) s.kinds (term_of nodes) whole in
       let near = parts_before nodes tree s in
       subst (All (IsWellPlaced nodes)) (sym (spots_at nodes tree s)) (All-cons (IsWellPlaced nodes) s (flat_map (spots_from nodes) ps) here
       (all_flat_map (IsWellPlaced nodes) (spots_from nodes) ps
       (λ i d h. let before : (get_or ps i d).id < s.id = near i d h in placed_from k (get_or ps i d) (omega arith) (below i d h))))
 
   pub root_in_scope : All (IsWellPlaced nodes) (spots nodes) → IsInScope [] (root_term nodes)
-  root_in_scope placed = in_scope_from (suc (length nodes - 1)) (record { id = length nodes - 1; kinds = [] }) (omega arith) (All-nil (λ k. k ≡ OfValue)) placed
+  root_in_scope placed = in_scope_from (suc (length nodes - 1)) (record { id = length nodes - 1; kinds = [] }) (omega arith) placed
 
   pub root_placed : IsInScope [] (root_term nodes) → All (IsWellPlaced nodes) (spots nodes)
-  root_placed scope = placed_from (suc (length nodes - 1)) (record { id = length nodes - 1; kinds = [] }) (omega arith) scope.levels
+  root_placed scope = placed_from (suc (length nodes - 1)) (record { id = length nodes - 1; kinds = [] }) (omega arith) scope

@@ -1,13 +1,13 @@
 -- Which lists of nodes are a code, and the first fault of one that is none.
-use Rattle.std.specs.Prelude.{◌≡◌, ℕ, suc, ◌+◌, ◌^◌, ◌<◌, ◌≤◌, List, [], ◌∷◌, ◌++◌, length, take, All, Contains}
+use Rattle.std.specs.Prelude.{◌≡◌, ℕ, suc, ◌+◌, ◌^◌, ◌<◌, ◌≤◌, List, [], ◌∷◌, ◌++◌, length, slice_get, take, All, Contains}
 use Rattle.fx_term.specs.declared.node.NodeId.{NodeId}
 use Rattle.fx_term.specs.declared.node.Node.{Node}
 use Rattle.fx_term.specs.declared.code.CodeFault.{CodeFault}
-use Rattle.fx_term.specs.declared.code.CodeFault.TheVariants.{Child, Slot, Memory}
+use Rattle.fx_term.specs.declared.code.CodeFault.TheVariants.{Child, Slot, Kind, Memory}
 use Rattle.fx_term.specs.Scope.{IsInScope}
 use Rattle.fx_term.specs.Meaning.{root_term}
 use Rattle.fx_term.specs.Tree.{all_children, IsForest, IsOneTree}
-use Rattle.fx_term.specs.Spots.{Spot, spots, IsWellPlaced}
+use Rattle.fx_term.specs.Spots.{Spot, spots, HasRightSlots, HasRightKinds, IsWellPlaced}
 
 -- one tree whose term stands in no binder's scope
 pub record IsCode (nodes : List Node) : Type 0 where
@@ -26,11 +26,14 @@ pub data IsFault (nodes : List Node) : CodeFault → Type 0 where
   stray : {id : ℕ} → length nodes < 2 ^ 32 → id < length nodes → IsForest (take id nodes) → (IsForest (take (suc id) nodes) → ⊥) → IsFault nodes (Child (node_id id))
   -- this node is not the last, and nobody's child; each node before is somebody's
   orphan : {id : ℕ} → length nodes < 2 ^ 32 → IsForest nodes → id + 1 < length nodes → ((j : ℕ) → j < id → Contains (all_children nodes) j) → (Contains (all_children nodes) id → ⊥) → IsFault nodes (Child (node_id id))
-  -- from the root down, this node is the first with a wrong slot
-  slot : (before after : List Spot) (s : Spot) → length nodes < 2 ^ 32 → IsOneTree nodes → spots nodes ≡ before ++ s ∷ after → All (IsWellPlaced nodes) before → (IsWellPlaced nodes s → ⊥) → IsFault nodes (Slot (node_id s.id))
+  -- from the root down, this node is the first that is not well placed, and a slot of it is wrong
+  slot : (before after : List Spot) (s : Spot) → length nodes < 2 ^ 32 → IsOneTree nodes → spots nodes ≡ before ++ s ∷ after → All (IsWellPlaced nodes) before → (HasRightSlots s.kinds (slice_get nodes s.id) → ⊥) → IsFault nodes (Slot (node_id s.id))
+  -- from the root down, this node is the first that is not well placed, and its slots are right
+  kind : (before after : List Spot) (s : Spot) → length nodes < 2 ^ 32 → IsOneTree nodes → spots nodes ≡ before ++ s ∷ after → All (IsWellPlaced nodes) before → HasRightSlots s.kinds (slice_get nodes s.id) → (HasRightKinds s.kinds (slice_get nodes s.id) → ⊥) → IsFault nodes (Kind (node_id s.id))
 
 -- the number of a fault
 abbrev pub fault_number : CodeFault → ℕ
 fault_number (Child id) = 1
 fault_number (Slot id) = 2
+fault_number (Kind id) = 3
 fault_number Memory = 4

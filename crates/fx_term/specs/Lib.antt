@@ -6,5 +6,8 @@ pub mod Meaning
 pub mod Tree
 pub mod Taken
 pub mod Spots
+pub mod Kinds
 pub mod Place
 pub mod Code
+pub mod Registers
+pub mod MaskEntries

@@ -1,8 +1,9 @@
 -- The term that a node of a code stands for.
 use Rattle.std.specs.Prelude.{ℕ, zero, suc, ◌-◌, Option, Some, None, List, length, slice_get}
+use Rattle.fx_term.specs.declared.node.Arg.TheVariants.{Slot}
 use Rattle.fx_term.specs.declared.node.Node.{Node}
 use Rattle.fx_term.specs.declared.node.Node.TheVariants as node
-use Rattle.fx_term.specs.Term.{Term, Pure, Raise, Canceled, Never, Let, Handle}
+use Rattle.fx_term.specs.Term.{Term, Pure, Raise, Canceled, Never, Let, Handle, Mask, Poll, OnCancel}
 
 -- a node's term, from the terms of its children
 abbrev pub assemble : Option Node → (ℕ → Term) → Term
@@ -12,6 +13,9 @@ assemble (Some (node.Raise a)) child = Raise a
 assemble (Some node.Canceled) child = Canceled
 assemble (Some (node.Let x a b)) child = Let x (child a.0) (child b.0)
 assemble (Some (node.Handle a x b)) child = Handle (child a.0) x (child b.0)
+assemble (Some (node.Mask p a)) child = Mask p (child a.0)
+assemble (Some (node.Poll p a)) child = Poll (Slot p) (child a.0)
+assemble (Some (node.OnCancel a f)) child = OnCancel (child a.0) (child f.0)
 
 -- the node's term, read that many levels deep
 unfoldable pub read : ℕ → List Node → ℕ → Term

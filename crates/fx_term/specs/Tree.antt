@@ -11,6 +11,9 @@ children (node.Raise a) = []
 children node.Canceled = []
 children (node.Let x a b) = a.0 ∷ b.0 ∷ []
 children (node.Handle a x b) = a.0 ∷ b.0 ∷ []
+children (node.Mask p a) = a.0 ∷ []
+children (node.Poll p a) = a.0 ∷ []
+children (node.OnCancel a f) = a.0 ∷ f.0 ∷ []
 
 -- the children of the nodes, node by node
 abbrev pub all_children : List Node → List ℕ

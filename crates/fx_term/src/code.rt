@@ -4,7 +4,7 @@ ghost use Rattle.fx_term.specs.Code.{IsCode, IsFault};
 
 use crate::node::{Node, NodeId};
 use crate::tree::check_tree;
-use crate::walk::check_slots;
+use crate::walk::check_names;
 use std::alloc::{AllocError, AllocFailed, Global};
 use std::marker::Model;
 use thiserror::Error;
@@ -20,6 +20,10 @@ pub enum CodeFault {
     /// A binder of this node has another slot than the next, or a slot that it uses is not bound.
     #[error("node {}: a slot that is not bound, or a binder with a wrong slot", .0.0)]
     Slot(NodeId),
+    /// A slot that this node uses is that of a name of another kind: a poll's where a value is to
+    /// stand, or a value's where a poll is.
+    #[error("node {}: a slot that is that of a name of another kind", .0.0)]
+    Kind(NodeId),
     /// Memory ran out before a fault was found.
     #[error("out of memory")]
     Memory,
@@ -35,6 +39,7 @@ impl CodeFault {
         match self {
             CodeFault::Child(_) => 1,
             CodeFault::Slot(_) => 2,
+            CodeFault::Kind(_) => 3,
             CodeFault::Memory => 4,
         }
     }
@@ -79,7 +84,7 @@ fn check_nodes(alloc: Global, nodes: &[Node]) -> Result<(), CodeFault>
 {
     check_count(nodes)?;
     check_tree(alloc, nodes)?;
-    check_slots(alloc, nodes)
+    check_names(alloc, nodes)
 }
 
 /// One well-scoped term, as the list of its nodes. Contracts see it as that list.

@@ -7,26 +7,32 @@
 //! 1. There is a node, and a node's number fits in 32 bits.
 //! 2. A node's children stand before it, and no node is a child twice.
 //! 3. Each node but the last is a child, so the last one is the root.
-//! 4. From the root down, a binder has the number of names in whose scope it stands, and a name that
-//!    is used is in scope there.
+//! 4. From the root down, node by node: a binder has the number of names in whose scope it stands, and
+//!    a name that is used is in scope there; then, that name is of the kind that it is used as, a
+//!    value or a poll.
 //!
 //! A `Code` never changes, and nothing but `build` makes one.
 #![tactic(auto)]
 
+mod begin;
 mod code;
 mod done;
 mod event;
+mod kinds;
 mod memory;
 mod node;
 mod outcome;
+mod registers;
 mod slots;
 mod taken;
 mod tree;
 mod walk;
 
+pub use begin::Begin;
 pub use code::{Code, CodeFault};
 pub use done::Done;
 pub use event::Event;
 pub use memory::Memory;
 pub use node::{Arg, Node, NodeId};
 pub use outcome::Outcome;
+pub use registers::Registers;

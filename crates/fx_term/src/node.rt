@@ -24,4 +24,10 @@ pub enum Node {
     Let(Option<u32>, NodeId, NodeId),
     /// The first part's error, by this slot, in the second part (`handleErrorWith`).
     Handle(NodeId, Option<u32>, NodeId),
+    /// The part with the fiber masked; by this slot its poll is in scope there (`uncancelable`).
+    Mask(u32, NodeId),
+    /// The part with the mask of this slot's poll taken off (the `poll` of `uncancelable`).
+    Poll(u32, NodeId),
+    /// The first part; where that is canceled, the second one is run (`onCancel`).
+    OnCancel(NodeId, NodeId),
 }

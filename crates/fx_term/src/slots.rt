@@ -1,49 +1,39 @@
 //! Which slots are right at a node, where so many names are in scope.
-ghost use Rattle.std.specs.Prelude.{◌≡◌, ◌↔◌, ◌+◌, ◌^◌, ◌<◌, Some, IsTrue};
-ghost use Rattle.fx_term.specs.Scope.{IsArgBelow, IsBinderAt, bound_under};
+ghost use Rattle.std.specs.Prelude.{◌≡◌, ◌↔◌, ◌<◌, List, length, Some, IsTrue};
+ghost use Rattle.fx_term.specs.Scope.{Kind, IsArgBelow, IsBinderAt};
 ghost use Rattle.fx_term.specs.Spots.{HasRightSlots};
-ghost use Rattle.fx_term.specs.Place.{values};
 
 use crate::node::{Arg, Node};
 
 /// Is it a number, or a name in scope?
-fn is_in_scope(arg: Arg, names: u32) -> bool
+fn is_in_scope(arg: Arg, names: usize) -> bool
     ensures { IsTrue result ↔ IsArgBelow names arg }
 {
     match arg {
         Arg::Number(_) => true,
-        Arg::Slot(slot) => slot < names,
+        Arg::Slot(slot) => (slot as usize) < names,
     }
 }
 
 /// Has the binder no name, or the next slot?
-fn is_next(binder: Option<u32>, names: u32) -> bool
+fn is_next(binder: Option<u32>, names: usize) -> bool
     ensures { IsTrue result ↔ IsBinderAt names binder }
 {
     match binder {
         None => true,
-        Some(slot) => slot == names,
-    }
-}
-
-/// The number of names in scope under the binder.
-pub(crate) fn names_under(binder: Option<u32>, names: u32) -> u32
-    requires { names + 1 < 2 ^ 32 }
-    ensures { result ≡ bound_under names binder }
-{
-    match binder {
-        None => names,
-        Some(_) => names + 1,
+        Some(slot) => slot as usize == names,
     }
 }
 
 /// Are the slots of this node right where so many names are in scope?
-pub(crate) fn has_right_slots(node: Node, names: u32) -> bool
-    ensures { IsTrue result ↔ HasRightSlots (values names) (Some node) }
+pub(crate) fn has_right_slots(node: Node, names: usize) -> bool
+    ensures { (kinds : List Kind) → length kinds ≡ names → (IsTrue result ↔ HasRightSlots kinds (Some node)) }
 {
     match node {
         Node::Pure(arg) | Node::Raise(arg) => is_in_scope(arg, names),
-        Node::Canceled => true,
+        Node::Canceled | Node::OnCancel(_, _) => true,
         Node::Let(binder, _, _) | Node::Handle(_, binder, _) => is_next(binder, names),
+        Node::Mask(slot, _) => is_next(Some(slot), names),
+        Node::Poll(slot, _) => is_in_scope(Arg::Slot(slot), names),
     }
 }

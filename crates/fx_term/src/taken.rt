@@ -25,8 +25,9 @@ pub(crate) fn take_children(taken: &mut [bool], parent: u32, node: Node) -> bool
 {
     match node {
         Node::Pure(_) | Node::Raise(_) | Node::Canceled => true,
-        Node::Let(_, first, then) | Node::Handle(first, _, then) => {
+        Node::Let(_, first, then) | Node::Handle(first, _, then) | Node::OnCancel(first, then) => {
             take_child(taken, parent, first) && take_child(taken, parent, then)
         }
+        Node::Mask(_, part) | Node::Poll(_, part) => take_child(taken, parent, part),
     }
 }

@@ -1,59 +1,113 @@
 //! The walk through a tree from its root, a parent before its children.
-ghost use Rattle.std.specs.Prelude.{◌≡◌, ◌⊎◌, ◌+◌, ◌^◌, ◌<◌, ◌++◌, map, reverse, length, Some, All, OnOk, IfErr};
+ghost use Rattle.std.specs.Prelude.{◌≡◌, ◌⊎◌, ◌^◌, ◌<◌, List, ◌++◌, ◌∷◌, [], map, length, Some, All, OnOk, IfErr};
 ghost use Rattle.fx_term.specs.Tree.{IsOneTree};
-ghost use Rattle.fx_term.specs.Spots.{spots, parts, IsWellPlaced};
-ghost use Rattle.fx_term.specs.Place.{values, spot_at};
+ghost use Rattle.fx_term.specs.Spots.{spots, parts, kinds_under, IsWellPlaced};
+ghost use Rattle.fx_term.specs.Scope.{OfValue};
+ghost use Rattle.fx_term.specs.Kinds.{kind_of};
+ghost use Rattle.fx_term.specs.Place.{with_own, path_to, under, ArePushed};
 ghost use Rattle.fx_term.specs.Code.{IsFault};
 
 use crate::code::CodeFault;
+use crate::kinds::{NameKind, has_right_kinds};
 use crate::node::{Node, NodeId};
-use crate::slots::{has_right_slots, names_under};
+use crate::slots::has_right_slots;
 use std::alloc::Global;
 
-/// A node that is still to be looked at, and the number of names in scope there.
+/// A node that is still to be looked at, how many names are in scope where its parent stands, and
+/// the kind of the name that the parent binds for it.
 #[derive(Clone, Copy)]
 pub(crate) struct Place {
     node: NodeId,
-    names: u32,
+    outer: usize,
+    own: Option<NameKind>,
 }
 
-/// Pushes the children of this node, the last one first.
-fn push_parts(stack: &mut Vec<Place>, node: Node, names: u32) -> Result<(), CodeFault>
-    requires { names + 1 < 2 ^ 32 }
-    ensures pushed { OnOk result (map spot_at stack.new.items ≡ map spot_at stack.old.items ++ reverse (parts (Some node) (values names))) }
+/// Leaves the scopes that are not round this place, and enters the place's own.
+fn enter(path: &mut Vec<NameKind>, place: Place) -> Result<(), CodeFault>
+    ensures entered { OnOk result (path.new.items ≡ path_to path.old.items place) }
+    ensures memory { IfErr result (λ fault. fault ≡ CodeFault.Memory) }
+{
+    path.truncate(place.outer);
+    if let Some(kind) = place.own {
+        path.push(kind)?;
+    }
+    Ok(())
+}
+
+/// The kind of the name that a binder of a value binds.
+fn value_of(binder: Option<u32>) -> Option<NameKind>
+    ensures { (path : List NameKind) → map kind_of (with_own result path) ≡ kinds_under binder OfValue (map kind_of path) }
+{
+    match binder {
+        None => None,
+        Some(_) => Some(NameKind::Value),
+    }
+}
+
+/// Pushes a part of a node that stands where names of these kinds are in scope.
+fn push_part(
+    stack: &mut Vec<Place>,
+    part: NodeId,
+    path: &[NameKind],
+    own: Option<NameKind>,
+) -> Result<(), CodeFault>
+    ensures pushed { OnOk result (stack.new.items ≡ stack.old.items ++ under path.now part own ∷ []) }
+    ensures memory { IfErr result (λ fault. fault ≡ CodeFault.Memory) }
+{
+    stack.push(Place {
+        node: part,
+        outer: path.len(),
+        own,
+    })?;
+    Ok(())
+}
+
+/// Pushes the children of a node that stands where names of these kinds are in scope, the last child
+/// first.
+fn push_parts(stack: &mut Vec<Place>, node: Node, path: &[NameKind]) -> Result<(), CodeFault>
+    ensures pushed { OnOk result (ArePushed path.now (parts (Some node) (map kind_of path.now)) stack.old.items stack.new.items) }
     ensures memory { IfErr result (λ fault. fault ≡ CodeFault.Memory) }
 {
     match node {
         Node::Pure(_) | Node::Raise(_) | Node::Canceled => {}
         Node::Let(binder, first, then) | Node::Handle(first, binder, then) => {
-            stack.push(Place {
-                node: then,
-                names: names_under(binder, names),
-            })?;
-            stack.push(Place { node: first, names })?;
+            push_part(stack, then, path, value_of(binder))?;
+            push_part(stack, first, path, None)?;
+        }
+        Node::Mask(_, part) => push_part(stack, part, path, Some(NameKind::Poll))?,
+        Node::Poll(_, part) => push_part(stack, part, path, None)?,
+        Node::OnCancel(part, finalizer) => {
+            push_part(stack, finalizer, path, None)?;
+            push_part(stack, part, path, None)?;
         }
     }
     Ok(())
 }
 
-/// Tests the slots of each node of a tree, from its root down.
-pub(crate) fn check_slots(alloc: Global, nodes: &[Node]) -> Result<(), CodeFault>
+/// Tests the names of each node of a tree, from its root down.
+pub(crate) fn check_names(alloc: Global, nodes: &[Node]) -> Result<(), CodeFault>
     requires fits { length nodes.now < 2 ^ 32 }
     requires tree { IsOneTree nodes.now }
     ensures placed { OnOk result (All (IsWellPlaced nodes.now) (spots nodes.now)) }
     ensures fault { IfErr result (λ fault. (fault ≡ CodeFault.Memory) ⊎ IsFault nodes.now fault) }
 {
+    let mut path = Vec::new(alloc);
     let mut stack = Vec::new(alloc);
     stack.push(Place {
         node: NodeId((nodes.len() - 1) as u32),
-        names: 0,
+        outer: 0,
+        own: None,
     })?;
     while let Some(place) = stack.pop() {
+        enter(&mut path, place)?;
         let node = nodes[place.node.0 as usize];
-        if !has_right_slots(node, place.names) {
+        if !has_right_slots(node, path.len()) {
             return Err(CodeFault::Slot(place.node));
         }
-        push_parts(&mut stack, node, place.names)?;
+        if !has_right_kinds(node, &path) {
+            return Err(CodeFault::Kind(place.node));
+        }
+        push_parts(&mut stack, node, &path)?;
     }
     Ok(())
 }

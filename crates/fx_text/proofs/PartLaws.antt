@@ -1,11 +1,12 @@
 -- Reading one part: what it means that a token was taken.
-use Rattle.std.proofs.Common.{◌≡◌, ℕ, Bool, true, false, cond, Option, Some, None, Result, Ok, Err, List, codes, bytes_eq, refl, ap, ◌∙◌}
+use Rattle.std.proofs.Common.{◌≡◌, ℕ, ◌<◌, Bool, true, false, cond, Option, Some, None, Result, Ok, Err, List, length, codes, bytes_eq, refl, sym, ap, ◌∙◌, arith}
 use Rattle.std.proofs.lemmas.Slice.Eq.{bytes_eq-Decides}
 use Rattle.fx_text.specs.declared.fault.Fault.{Fault}
 use Rattle.fx_text.specs.declared.fault.TextKind.{TextKind}
 use Rattle.fx_text.specs.Token.{Token, Open, Close, Number, Name, Stray, Misnumber, End, Lexeme, next}
-use Rattle.fx_text.specs.Part.{opens, closes, main_word}
+use Rattle.fx_text.specs.Part.{opens, closes, is_closing, main_word}
 use Rattle.fx_text.specs.Reading.{◌>>=◌, Read, known, part_at}
+use Rattle.fx_text.proofs.TokenLaws.{next_shorter}
 
 -- two steps give a value where each does
 pub bind_ok : {A B : Type 0} (r : Result A Fault) (f : A → Result B Fault) (y : B) → (r >>= f) ≡ Ok y → (x : A) × (r ≡ Ok x) × (f x ≡ Ok y)
@@ -23,6 +24,15 @@ known_ok k l (Some y) x rest e = let h = ok_pair y x l.rest rest e in (ap Some h
 pub part_ok : {A : Type 0} (takes : Token → Option A) (reason : Token → TextKind) (text : List ℕ) (x : A) (rest : List ℕ)
     → part_at takes reason text ≡ Ok (x, rest) → (takes (next text).token ≡ Some x) × ((next text).rest ≡ rest)
 part_ok takes reason text x rest e = known_ok (reason (next text).token) (next text) (takes (next text).token) x rest e
+
+-- a part has a byte or more
+pub part_shorter : {A : Type 0} (takes : Token → Option A) (reason : Token → TextKind) (text : List ℕ) (x : A) (rest : List ℕ)
+    → takes End ≡ None → part_at takes reason text ≡ Ok (x, rest) → length rest < length text
+part_shorter takes reason text x rest none e =
+    let q = part_ok takes reason text x rest e in
+    let some = q.0 in
+    let h = next_shorter text (λ at. absurd (let g : takes End ≡ Some x = ap takes (sym at) ∙ some in cc)) in
+    omega (arith, ap length q.1)
 
 -- what the token gives is read
 pub part_again : {A : Type 0} (takes : Token → Option A) (reason : Token → TextKind) (text : List ℕ) (k : Token) (x : A)
@@ -46,6 +56,15 @@ closes_is (Name n) u e = absurd cc
 closes_is Stray u e = absurd cc
 closes_is Misnumber u e = absurd cc
 closes_is End u e = absurd cc
+
+pub closing_is : (k : Token) → is_closing k ≡ true → k ≡ Close
+closing_is Close e = refl
+closing_is Open e = absurd cc
+closing_is (Number n) e = absurd cc
+closing_is (Name n) e = absurd cc
+closing_is Stray e = absurd cc
+closing_is Misnumber e = absurd cc
+closing_is End e = absurd cc
 
 pub main_word_is : (k : Token) (u : Unit {0}) → main_word k ≡ Some u → k ≡ Name (codes "main")
 main_word_is (Name x) u e = by_test (bytes_eq x (codes "main")) refl e

@@ -33,6 +33,59 @@ grows_append a b c rs qs g h = record {
   trees = trees_append (length a) (length b) g.added h.added rs qs g.trees (ap length g.is ∙ length-append a g.added) h.trees;
 }
 
+-- the last tree, and those before it
+record LastTree (from : ℕ) (all : List Node) (rs : List ℕ) (r : ℕ) : Type 0 where
+  before : List Node
+  tree : List Node
+  is : all ≡ before ++ tree
+  firsts : Trees from before rs
+  last : Trees (from + length before) tree (r ∷ [])
+  root : r + 1 ≡ from + length all
+
+same_front : (rs qs : List ℕ) (r q : ℕ) → rs ++ r ∷ [] ≡ qs ++ q ∷ [] → (rs ≡ qs) × (r ≡ q)
+same_front [] [] r q e = (refl, cc)
+same_front [] (x ∷ qs) r q e = absurd (let h = ap length e in omega (arith, length-append qs (q ∷ [])))
+same_front (x ∷ rs) [] r q e = absurd (let h = ap length e in omega (arith, length-append rs (r ∷ [])))
+same_front (x ∷ rs) (y ∷ qs) r q e = let h : rs ++ r ∷ [] ≡ qs ++ q ∷ [] = cc in let k = same_front rs qs r q h in let f = k.0 in let g : x ≡ y = cc in (cc, k.1)
+
+last_tree : (from : ℕ) (all : List Node) (some rs : List ℕ) (r : ℕ) → Trees from all some → some ≡ rs ++ r ∷ [] → LastTree from all rs r
+last_tree from _ _ rs r empty e = absurd (let h = ap length e in omega (arith, length-append rs (r ∷ [])))
+last_tree from all some rs r (more before below others n d1 d2 whole roots) e =
+    let h = same_front rs others r (from + length before + length below) (sym e ∙ roots) in
+    record {
+      before = before;
+      tree = below ++ n ∷ [];
+      is = whole;
+      firsts = subst (λ (l : List ℕ). Trees from before l) (sym h.0) d1;
+      last = more [] below [] n empty (subst (λ (i : ℕ). Trees i below (children n)) (omega arith) d2) refl (ap (λ (i : ℕ). i ∷ []) (omega (arith, h.1)));
+      root = omega (arith, h.1, ap length whole, length-append before (below ++ n ∷ []), length-append below (n ∷ []));
+    }
+
+-- a list that grew by some trees grew by those before the last, and then by the last
+pub record GrewBefore (a c : List Node) (rs qs : List ℕ) : Type 0 where
+  pub middle : List Node
+  pub firsts : GrowsBy a middle rs
+  pub lasts : GrowsBy middle c qs
+
+pub grew_before_last : (a c : List Node) (rs : List ℕ) (r : ℕ) → GrowsBy a c (rs ++ r ∷ []) → GrewBefore a c rs (r ∷ [])
+grew_before_last a c rs r g =
+    let l = last_tree (length a) g.added (rs ++ r ∷ []) rs r g.trees refl in
+    record {
+      middle = a ++ l.before;
+      firsts = record { added = l.before; is = refl; trees = l.firsts };
+      lasts = record { added = l.tree; is = g.is ∙ ap (λ (x : List Node). a ++ x) l.is ∙ sym (append_assoc a l.before l.tree); trees = subst (λ (i : ℕ). Trees i l.tree (r ∷ [])) (sym (length-append a l.before)) l.last };
+    }
+
+pub grew_before_two : (a c : List Node) (rs : List ℕ) (q r : ℕ) → GrowsBy a c (rs ++ q ∷ r ∷ []) → GrewBefore a c rs (q ∷ r ∷ [])
+grew_before_two a c rs q r g =
+    let one = grew_before_last a c (rs ++ q ∷ []) r (subst (λ (l : List ℕ). GrowsBy a c l) (sym (append_assoc rs (q ∷ []) (r ∷ []))) g) in
+    let two = grew_before_last a one.middle rs q one.firsts in
+    record { middle = two.middle; firsts = two.firsts; lasts = grows_append two.middle one.middle c (q ∷ []) (r ∷ []) two.lasts one.lasts }
+
+-- the last root is the last node
+pub last_root : (a c : List Node) (rs : List ℕ) (r : ℕ) → GrowsBy a c (rs ++ r ∷ []) → r + 1 ≡ length c
+last_root a c rs r g = let l = last_tree (length a) g.added (rs ++ r ∷ []) rs r g.trees refl in omega (arith, l.root, ap length g.is, length-append a g.added)
+
 -- the trees of a node's children, and then the node
 grows_node : (a b : List Node) (n : Node) (root : ℕ) → root ≡ length b → GrowsBy a b (children n) → GrowsBy a (b ++ n ∷ []) (root ∷ [])
 grows_node a b n root at g = record {

@@ -1,15 +1,15 @@
 -- Texts and what reading gives of each, by computation.
-use Rattle.std.proofs.Common.{◌≡◌, ℕ, zero, suc, ◌+◌, ◌≤◌, ◌<◌, Some, List, [], ◌∷◌, ◌++◌, length, map, take, replicate, codes, nat_lt, true, false, Result, Ok, Err, refl, ◌∙◌, ap, arith}
+use Rattle.std.proofs.Common.{◌≡◌, ℕ, zero, suc, ◌+◌, ◌≤◌, ◌<◌, Some, None, List, [], ◌∷◌, ◌++◌, length, map, take, replicate, codes, nat_lt, true, false, Result, Ok, Err, refl, ◌∙◌, ap, arith}
 use Rattle.std.specs.List.{concat}
 use Rattle.std.proofs.lemmas.Bool.{lt-ltb, le-ltb}
 use Rattle.std.proofs.lemmas.List.{length-append, length-replicate}
 use Rattle.fx_term.specs.declared.node.Arg.TheVariants.{Number, Slot}
-use Rattle.fx_term.specs.Term.{Term, Pure, Raise, Canceled, Let, Handle}
+use Rattle.fx_term.specs.Term.{Term, Pure, Raise, Canceled, Let, Handle, Mask, Poll, OnCancel}
 use Rattle.fx_text.specs.declared.fault.TextFault.{TextFault}
 use Rattle.fx_text.specs.declared.fault.TextKind.{TextKind}
 use Rattle.fx_text.specs.declared.fault.TextKind.TheVariants as kind
 use Rattle.fx_text.specs.Token.{after_spaces, next}
-use Rattle.fx_text.specs.Reading.{Meaning, opening_at, closing_at, value_at, binder_at, form_at, main_word_at, term_at, top_opening_at, script_at, reading}
+use Rattle.fx_text.specs.Reading.{Meaning, opening_at, closing_at, value_at, name_at, binder_at, form_at, main_word_at, terms_within, term_at, top_opening_at, script_at, reading}
 
 abbrev fault : TextKind → ℕ → Result Meaning TextFault
 fault k at = Err (record { kind = k; at = at })
@@ -53,6 +53,27 @@ two_names_row : reading (codes "(main (let x (pure 1) (handle (raise x) y (let z
 unfolding next opening_at closing_at value_at binder_at form_at main_word_at term_at top_opening_at script_at
 two_names_row = refl
 
+seq_row : reading (codes "(main (seq (pure 1) (pure 2) (pure 3)))") ≡ means (Let None (Pure (Number 1)) (Let None (Pure (Number 2)) (Pure (Number 3))))
+unfolding next opening_at closing_at value_at form_at main_word_at terms_within term_at top_opening_at script_at
+seq_row = refl
+
+one_part_row : reading (codes "(main (seq (pure 1)))") ≡ means (Pure (Number 1))
+unfolding next opening_at closing_at value_at form_at main_word_at terms_within term_at top_opening_at script_at
+one_part_row = refl
+
+mask_row : reading (codes "(main (mask p (poll p (canceled))))") ≡ means (Mask 0 (Poll (Slot 0) Canceled))
+unfolding next opening_at closing_at name_at binder_at form_at main_word_at term_at top_opening_at script_at
+mask_row = refl
+
+on_cancel_row : reading (codes "(main (oncancel (canceled) (raise 9)))") ≡ means (OnCancel Canceled (Raise (Number 9)))
+unfolding next opening_at closing_at value_at form_at main_word_at term_at top_opening_at script_at
+on_cancel_row = refl
+
+-- polls and values are numbered together
+poll_among_values_row : reading (codes "(main (let x (pure 1) (mask p (let y (poll p (pure x)) (pure y)))))") ≡ means (Let (Some 0) (Pure (Number 1)) (Mask 1 (Let (Some 2) (Poll (Slot 1) (Pure (Slot 0))) (Pure (Slot 2)))))
+unfolding next opening_at closing_at value_at name_at binder_at form_at main_word_at term_at top_opening_at script_at
+poll_among_values_row = refl
+
 -- ---- refusals, by kind
 
 byte_row : reading (codes "(main (pure 5))" ++ 0 ∷ []) ≡ fault kind.Byte 15
@@ -86,6 +107,22 @@ first_part_row = refl
 taken_row : reading (codes "(main (let x (pure 1) (let x (pure 2) (pure x))))") ≡ fault kind.Taken 27
 unfolding next opening_at closing_at value_at binder_at form_at main_word_at term_at top_opening_at script_at
 taken_row = refl
+
+poll_as_value_row : reading (codes "(main (mask p (pure p)))") ≡ fault kind.Unknown 20
+unfolding next opening_at closing_at value_at name_at binder_at form_at main_word_at term_at top_opening_at script_at
+poll_as_value_row = refl
+
+value_as_poll_row : reading (codes "(main (let x (pure 1) (poll x (pure 2))))") ≡ fault kind.Unknown 28
+unfolding next opening_at closing_at value_at name_at binder_at form_at main_word_at term_at top_opening_at script_at
+value_as_poll_row = refl
+
+poll_taken_row : reading (codes "(main (mask p (mask p (pure 1))))") ≡ fault kind.Taken 20
+unfolding next opening_at closing_at value_at name_at binder_at form_at main_word_at term_at top_opening_at script_at
+poll_taken_row = refl
+
+no_part_row : reading (codes "(main (seq))") ≡ fault kind.Unwanted 10
+unfolding next opening_at closing_at form_at main_word_at terms_within term_at top_opening_at script_at
+no_part_row = refl
 
 after_main_row : reading (codes "(main (pure 5)) 1") ≡ fault kind.Main 16
 unfolding next opening_at closing_at value_at binder_at form_at main_word_at term_at top_opening_at script_at

@@ -1,20 +1,21 @@
 -- What the grammar has is in scope: each row of the table keeps scope, and so do all terms.
 use Rattle.std.proofs.Common.{◌≡◌, ℕ, zero, suc, ◌<◌, Bool, true, false, ◌&&◌, ◌==◌, Option, Some, None, List, [], ◌∷◌, ◌++◌, length, map, slice_get, get_or, bytes_eq, refl, sym, ◌∙◌, ap, subst, arith}
+use Rattle.std.specs.List.{AllByRecursion}
 use Rattle.std.proofs.lemmas.Bool.Decides.{nat_tests}
 use Rattle.std.proofs.lemmas.List.{length-append, length-map, map-append}
 use Rattle.std.proofs.lemmas.List.Quantifiers.{position-Some}
 use Rattle.std.proofs.lemmas.Option.{slice_get_past}
 use Rattle.fx_term.specs.declared.node.Arg.{Arg}
-use Rattle.fx_term.specs.Term.{Term, Pure, Let, Handle}
-use Rattle.fx_term.specs.Scope.{Kind, OfValue, OfPoll, OfFiber, OfOtherPoll, with_name, IsScoped, IsNew, IsInScope}
+use Rattle.fx_term.specs.Term.{Term, Pure, Let, Handle, Mask}
+use Rattle.fx_term.specs.Scope.{Kind, OfValue, OfPoll, OfFiber, OfOtherPoll, with_name, IsScoped, IsNew, HasLevels, IsInScope}
 use Rattle.fx_text.specs.declared.form.Form.{Form}
 use Rattle.fx_text.specs.declared.form.Form.TheVariants as form
 use Rattle.fx_text.specs.Token.{Token, Open, Close, Number, Name, Stray, Misnumber, End}
 use Rattle.fx_text.specs.Place.{Place, Bound, under, slot, same_kind, slot_of}
-use Rattle.fx_text.specs.Shape.{Shape, ends, value, binder, term, shape}
-use Rattle.fx_text.specs.Part.{slot_arg, value_of}
+use Rattle.fx_text.specs.Shape.{Shape, ends, value, name, binder, term, terms, seq, shape}
+use Rattle.fx_text.specs.Part.{slot_arg, value_of, name_of}
 use Rattle.fx_text.specs.Reading.{Meaning}
-use Rattle.fx_text.specs.Grammar.{Spells, ends_so, value_so, binder_so, term_so, IsScript}
+use Rattle.fx_text.specs.Grammar.{Spells, ends_so, value_so, name_so, binder_so, term_so, terms_end, terms_more, IsScript}
 
 -- the kinds of the names in scope
 abbrev pub kinds_at : Place → List Kind
@@ -24,8 +25,10 @@ kinds_at p = map (λ b. b.kind) p.names
 abbrev pub KeepsScope : List Kind → Shape → Type 0
 KeepsScope kinds (ends t) = IsInScope kinds t
 KeepsScope kinds (value p go) = (v : Arg) → IsInScope (kinds_at p) (Pure v) → KeepsScope kinds (go v)
+KeepsScope kinds (name c p go) = (x : ℕ) → x < length (kinds_at p) → slice_get (kinds_at p) x ≡ Some c → KeepsScope kinds (go x)
 KeepsScope kinds (binder p go) = (x : List ℕ) → KeepsScope kinds (go x)
 KeepsScope kinds (term p go) = (t : Term) → IsInScope (kinds_at p) t → KeepsScope kinds (go t)
+KeepsScope kinds (terms p go) = (ts : List Term) → AllByRecursion (IsInScope (kinds_at p)) ts → KeepsScope kinds (go ts)
 
 -- ---- one name more
 
@@ -108,39 +111,71 @@ value_found p Stray v e = absurd cc
 value_found p Misnumber v e = absurd cc
 value_found p End v e = absurd cc
 
+name_found : (c : Kind) (p : Place) (k : Token) (i : ℕ) → name_of c p k ≡ Some i → (i < length (kinds_at p)) × (slice_get (kinds_at p) i ≡ Some c)
+name_found c p (Name x) i e = slot_found c x p i e
+name_found c p Open i e = absurd cc
+name_found c p Close i e = absurd cc
+name_found c p (Number n) i e = absurd cc
+name_found c p Stray i e = absurd cc
+name_found c p Misnumber i e = absurd cc
+name_found c p End i e = absurd cc
+
 -- ---- the rows of the table
 
+module _ (kinds : List Kind) (k : Kind) (x : ℕ) (b : Term) (at : x ≡ length kinds) (inner : IsInScope (kinds ++ k ∷ []) b) where
+  levels_under : HasLevels (suc (length kinds)) b
+  levels_under = let long : length (kinds ++ k ∷ []) ≡ suc (length kinds) = omega (arith, length-append kinds (k ∷ [])) in rw long at inner.levels
+
+  new_under : IsNew (λ y. slice_get kinds y) (Some x)
+  new_under = rw at (new_slot kinds)
+
+  scoped_under : IsScoped (with_name x k (λ y. slice_get kinds y)) b
+  scoped_under = rw at (subst (λ (s : ℕ → Option Kind). IsScoped s b) (λ i y. get_push kinds k y i) inner.scoped)
+
 module _ (kinds : List Kind) (x : ℕ) (a b : Term) (at : x ≡ length kinds) (first : IsInScope kinds a) (second : IsInScope (kinds ++ OfValue ∷ []) b) where
-  level_under : length (kinds ++ OfValue ∷ []) ≡ suc (length kinds)
-  level_under = omega (arith, length-append kinds (OfValue ∷ []))
-
-  scoped_under : IsScoped (with_name x OfValue (λ y. slice_get kinds y)) b
-  scoped_under = rw at (subst (λ (s : ℕ → Option Kind). IsScoped s b) (λ i y. get_push kinds OfValue y i) second.scoped)
-
   let_in_scope : IsInScope kinds (Let (Some x) a b)
   let_in_scope = record {
-    levels = (first.levels, at, rw level_under at second.levels);
-    scoped = (first.scoped, rw at (new_slot kinds), scoped_under);
+    levels = (first.levels, at, levels_under kinds OfValue x b at second);
+    scoped = (first.scoped, new_under kinds OfValue x b at second, scoped_under kinds OfValue x b at second);
   }
 
   handle_in_scope : IsInScope kinds (Handle a (Some x) b)
   handle_in_scope = record { levels = let_in_scope.levels; scoped = let_in_scope.scoped }
 
+mask_in_scope : (kinds : List Kind) (x : ℕ) (a : Term) → x ≡ length kinds → IsInScope (kinds ++ OfPoll ∷ []) a → IsInScope kinds (Mask x a)
+mask_in_scope kinds x a at inner = record {
+  levels = (at, levels_under kinds OfPoll x a at inner);
+  scoped = (new_under kinds OfPoll x a at inner, scoped_under kinds OfPoll x a at inner);
+}
+
+seq_in_scope : (kinds : List Kind) (a : Term) (bs : List Term) → IsInScope kinds a → AllByRecursion (IsInScope kinds) bs → IsInScope kinds (seq a bs)
+seq_in_scope kinds a [] first others = first
+seq_in_scope kinds a (b ∷ bs) first others =
+    let rest = seq_in_scope kinds b bs others.0 others.1 in
+    record { levels = (first.levels, tt, rest.levels); scoped = (first.scoped, tt, rest.scoped) }
+
 table_keeps_scope : (f : Form) (p : Place) → KeepsScope (kinds_at p) (shape f p)
 table_keeps_scope form.Pure p = λ v h. h
 table_keeps_scope form.Raise p = λ v h. record { levels = h.levels; scoped = h.scoped }
 table_keeps_scope form.Canceled p = record { levels = tt; scoped = tt }
+table_keeps_scope form.Seq p = λ a first bs others. seq_in_scope (kinds_at p) a bs first others
 table_keeps_scope form.Let p = λ x a first b second. let_in_scope (kinds_at p) (slot p) a b (slot_is p) first (rw (kinds_under_is OfValue x p) at second)
 table_keeps_scope form.Handle p = λ a first x b second. handle_in_scope (kinds_at p) (slot p) a b (slot_is p) first (rw (kinds_under_is OfValue x p) at second)
+table_keeps_scope form.Mask p = λ x a inner. mask_in_scope (kinds_at p) (slot p) a (slot_is p) (rw (kinds_under_is OfPoll x p) at inner)
+table_keeps_scope form.Poll p = λ x lt of_poll a inner. record { levels = (lt, inner.levels); scoped = (of_poll, inner.scoped) }
+table_keeps_scope form.OnCancel p = λ a first f second. record { levels = (first.levels, second.levels); scoped = (first.scoped, second.scoped) }
 
 -- ---- all terms
 
 spelled_in_scope : (kinds : List Kind) (room : ℕ) (s : Shape) (ks : List Token) (t : Term) → Spells room s ks t → KeepsScope kinds s → IsInScope kinds t
 spelled_in_scope kinds room (ends t) _ _ ends_so h = h
 spelled_in_scope kinds room (value p go) _ t (value_so {k = k} {ks = ks} v e d) h = spelled_in_scope kinds room (go v) ks t d (h v (value_found p k v e))
+spelled_in_scope kinds room (name c p go) _ t (name_so {k = k} {ks = ks} x e d) h = let found = name_found c p k x e in spelled_in_scope kinds room (go x) ks t d (h x found.0 found.1)
 spelled_in_scope kinds room (binder p go) _ t (binder_so {ks = ks} x e d) h = spelled_in_scope kinds room (go x) ks t d (h x)
 spelled_in_scope kinds room (term p go) _ t (term_so left f a inner ks has_room named d1 d2 whole) h =
     spelled_in_scope kinds room (go a) ks t d2 (h a (spelled_in_scope (kinds_at p) left (shape f p) inner a d1 (table_keeps_scope f p)))
+spelled_in_scope kinds room (terms p go) _ t (terms_end {ks = ks} d) h = spelled_in_scope kinds room (go []) (Close ∷ ks) t d (h [] tt)
+spelled_in_scope kinds room (terms p go) ks t (terms_more d) h = spelled_in_scope kinds room (term p λ a. terms p λ others. go (a ∷ others)) ks t d (λ a first others each. h (a ∷ others) (first, each))
 
 -- the term of a script is in no binder's scope
 pub script_in_scope : (text : List ℕ) (m : Meaning) → IsScript text m → IsInScope [] m.term

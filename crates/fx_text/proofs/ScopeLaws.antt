@@ -1,11 +1,11 @@
 -- Names in scope, as the code keeps them.
-use Rattle.std.proofs.Common.{◌≡◌, ℕ, ◌+◌, Bool, true, false, cond, ◌&&◌, ◌||◌, not, List, [], ◌∷◌, map, bytes_eq, refl, ap, ◌∙◌}
+use Rattle.std.proofs.Common.{◌≡◌, ℕ, ◌+◌, Bool, cond, ◌&&◌, ◌||◌, not, List, [], ◌∷◌, map, bytes_eq, refl, ap}
 use Rattle.std.specs.List.{list_any, position, prefix_len}
 use Rattle.std.proofs.lemmas.List.{length-map}
-use Rattle.fx_term.specs.Scope.{OfValue}
+use Rattle.fx_text.specs.declared.scope.NameKind.{NameKind}
 use Rattle.fx_text.specs.declared.scope.Bound.{Bound as CodeBound}
 use Rattle.fx_text.specs.Place.{is_taken, same_kind, slot_of}
-use Rattle.fx_text.specs.ScopeView.{view_bound, place}
+use Rattle.fx_text.specs.ScopeView.{view_kind, view_bound, place}
 
 list_any_map : {X Y : Type 0} (f : X → Y) (p : Y → Bool) (xs : List X) → list_any p (map f xs) ≡ list_any (λ x. p (f x)) xs
 list_any_map f p [] = refl
@@ -21,10 +21,5 @@ position_map f p xs = let e = prefix_len_map f (λ y. not (p y)) xs in let l = l
 pub is_taken_among : (x : List ℕ) (names : List CodeBound) → is_taken x (place names) ≡ list_any (λ b. bytes_eq b.name.now x) names
 is_taken_among x names = list_any_map view_bound (λ b. bytes_eq b.name x) names
 
-and_true : (b : Bool) → (b && true) ≡ b
-and_true true = refl
-and_true false = refl
-
--- each name is a value's
-pub slot_of_index : (x : List ℕ) (names : List CodeBound) → slot_of OfValue x (place names) ≡ position (λ b. bytes_eq b.name.now x) names
-slot_of_index x names = position_map view_bound (λ b. bytes_eq b.name x && same_kind b.kind OfValue) names ∙ ap (λ (p : CodeBound → Bool). position p names) (λ i b. and_true (bytes_eq b.name.now x) i)
+pub slot_of_index : (k : NameKind) (x : List ℕ) (names : List CodeBound) → slot_of (view_kind k) x (place names) ≡ position (λ b. bytes_eq b.name.now x && same_kind (view_kind b.kind) (view_kind k)) names
+slot_of_index k x names = position_map view_bound (λ b. bytes_eq b.name x && same_kind b.kind (view_kind k)) names

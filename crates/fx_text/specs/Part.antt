@@ -1,9 +1,9 @@
 -- What a part that is one token takes.
-use Rattle.std.specs.Prelude.{ℕ, if◌then◌else◌, Option, Some, None, List, codes, bytes_eq}
+use Rattle.std.specs.Prelude.{ℕ, Bool, true, false, if◌then◌else◌, Option, Some, None, List, codes, bytes_eq}
 use Rattle.std.specs.List.{find}
 use Rattle.fx_term.specs.declared.node.Arg.{Arg}
 use Rattle.fx_term.specs.declared.node.Arg.TheVariants as arg
-use Rattle.fx_term.specs.Scope.{OfValue}
+use Rattle.fx_term.specs.Scope.{Kind, OfValue}
 use Rattle.fx_text.specs.declared.form.Form.{Form}
 use Rattle.fx_text.specs.Token.{Token, Open, Close, Number, Name}
 use Rattle.fx_text.specs.Place.{Place, is_taken, slot_of}
@@ -19,6 +19,11 @@ abbrev pub closes : Token → Option (Unit {0})
 closes Close = Some tt
 closes _ = None
 
+-- whether it is `)`
+abbrev pub is_closing : Token → Bool
+is_closing Close = true
+is_closing _ = false
+
 -- a slot as an argument
 abbrev pub slot_arg : Option ℕ → Option Arg
 slot_arg None = None
@@ -29,6 +34,11 @@ abbrev pub value_of : Place → Token → Option Arg
 value_of p (Number n) = Some (arg.Number n)
 value_of p (Name x) = slot_arg (slot_of OfValue x p)
 value_of p _ = None
+
+-- the name of one of that kind in scope
+abbrev pub name_of : Kind → Place → Token → Option ℕ
+name_of k p (Name x) = slot_of k x p
+name_of k p _ = None
 
 -- a name that is not in scope
 abbrev pub new_name : Place → Token → Option (List ℕ)

@@ -1,7 +1,8 @@
 -- Reading from left to right, up to the first fault.
-use Rattle.std.specs.Prelude.{ℕ, zero, suc, ◌-◌, nat_lt, if◌then◌else◌, Option, Some, None, Result, Ok, Err, List, [], length}
+use Rattle.std.specs.Prelude.{ℕ, zero, suc, ◌-◌, nat_lt, if◌then◌else◌, Option, Some, None, Result, Ok, Err, List, [], ◌∷◌, length}
 use Rattle.fx_term.specs.declared.node.Arg.{Arg}
 use Rattle.fx_term.specs.Term.{Term}
+use Rattle.fx_term.specs.Scope.{Kind}
 use Rattle.fx_text.specs.declared.fault.TextKind.{TextKind}
 use Rattle.fx_text.specs.declared.fault.TextKind.TheVariants as kind
 use Rattle.fx_text.specs.declared.fault.TextFault.{TextFault}
@@ -9,8 +10,8 @@ use Rattle.fx_text.specs.declared.fault.Fault.{Fault}
 use Rattle.fx_text.specs.declared.form.Form.{Form}
 use Rattle.fx_text.specs.Token.{Token, Open, Name, Stray, Misnumber, End, Lexeme, next}
 use Rattle.fx_text.specs.Place.{Place}
-use Rattle.fx_text.specs.Shape.{Shape, ends, value, binder, term, shape, main_shape}
-use Rattle.fx_text.specs.Part.{opens, closes, value_of, new_name, form_of, main_word}
+use Rattle.fx_text.specs.Shape.{Shape, ends, value, name, binder, term, terms, shape, main_shape}
+use Rattle.fx_text.specs.Part.{opens, closes, is_closing, value_of, name_of, new_name, form_of, main_word}
 pub use Rattle.fx_text.specs.Meaning.{Meaning}
 
 -- the next step, unless there was a fault
@@ -59,6 +60,9 @@ closing_at = part_at closes (λ _. kind.Unwanted)
 unfoldable pub value_at : Place → List ℕ → Read Arg
 value_at p = part_at (value_of p) (at_name kind.Unknown)
 
+unfoldable pub name_at : Kind → Place → List ℕ → Read ℕ
+name_at k p = part_at (name_of k p) (at_name kind.Unknown)
+
 unfoldable pub binder_at : Place → List ℕ → Read (List ℕ)
 binder_at p = part_at (new_name p) (at_name kind.Taken)
 
@@ -70,6 +74,17 @@ main_word_at = part_at main_word (λ _. kind.Form)
 
 -- ---- forms
 
+-- Terms up to a `)`, which is left; they are read by the function given. Each has a byte or more, so there are no more terms than bytes
+unfoldable pub terms_within : ℕ → (Place → List ℕ → Read Term) → Place → List ℕ → Read (List Term)
+terms_within zero term_at p bytes = refused kind.Unwanted (next bytes)
+terms_within (suc most) term_at p bytes = if is_closing (next bytes).token then Ok ([], bytes) else do
+  (t, after) ← term_at p bytes
+  (ts, rest) ← terms_within most term_at p after
+  Ok (t ∷ ts, rest)
+
+abbrev pub terms_at : (Place → List ℕ → Read Term) → Place → List ℕ → Read (List Term)
+terms_at term_at p bytes = terms_within (length bytes) term_at p bytes
+
 -- the parts of a form; terms are read by the function given
 abbrev pub parts_at : (Place → List ℕ → Read Term) → Shape → List ℕ → Read Term
 parts_at term_at (ends t) bytes = do
@@ -78,12 +93,18 @@ parts_at term_at (ends t) bytes = do
 parts_at term_at (value p go) bytes = do
   (v, rest) ← value_at p bytes
   parts_at term_at (go v) rest
+parts_at term_at (name k p go) bytes = do
+  (x, rest) ← name_at k p bytes
+  parts_at term_at (go x) rest
 parts_at term_at (binder p go) bytes = do
   (x, rest) ← binder_at p bytes
   parts_at term_at (go x) rest
 parts_at term_at (term p go) bytes = do
   (t, rest) ← term_at p bytes
   parts_at term_at (go t) rest
+parts_at term_at (terms p go) bytes = do
+  (ts, rest) ← terms_at term_at p bytes
+  parts_at term_at (go ts) rest
 
 -- where no more `(` may be open, it is one too many, and each other token is not wanted
 abbrev pub too_deep : Token → TextKind

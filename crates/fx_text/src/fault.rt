@@ -27,8 +27,8 @@ pub enum TextKind {
     /// Another token than its place wants.
     #[error("not what is wanted here")]
     Unwanted,
-    /// A name that is not in scope.
-    #[error("no such name is in scope")]
+    /// A name that is not in scope, or is of another kind.
+    #[error("no such name of this kind is in scope")]
     Unknown,
     /// A binder whose name is in scope.
     #[error("this name is in scope already")]

@@ -6,20 +6,28 @@ pub(crate) enum Form {
     Pure,
     Raise,
     Canceled,
+    Seq,
     Let,
     Handle,
+    Mask,
+    Poll,
+    OnCancel,
 }
 
 impl Form {
     ghost use Rattle.std.specs.Prelude.{◌≡◌, bytes_eq, find};
     ghost use Rattle.fx_text.specs.Shape.{forms, word_of};
 
-    const ALL: [Form; 5] = [
+    const ALL: [Form; 9] = [
         Form::Pure,
         Form::Raise,
         Form::Canceled,
+        Form::Seq,
         Form::Let,
         Form::Handle,
+        Form::Mask,
+        Form::Poll,
+        Form::OnCancel,
     ];
 
     fn word(self) -> &'static [u8]
@@ -29,8 +37,12 @@ impl Form {
             Form::Pure => b"pure",
             Form::Raise => b"raise",
             Form::Canceled => b"canceled",
+            Form::Seq => b"seq",
             Form::Let => b"let",
             Form::Handle => b"handle",
+            Form::Mask => b"mask",
+            Form::Poll => b"poll",
+            Form::OnCancel => b"oncancel",
         }
     }
 

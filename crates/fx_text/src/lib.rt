@@ -10,7 +10,8 @@
 //!    place refuses. What it reads is exactly what the grammar has.
 //! 4. A node is made at the `)` of its form, so children stand before their parents, the last node
 //!    is the root, and there are never more nodes than bytes.
-//! 5. A recursion is as deep as the parentheses that are open, of which there are at most 100.
+//! 5. A recursion is as deep as the parentheses that are open, of which there are at most 100. The
+//!    parts of a `seq` are read in a loop, and made one term in another, from the last to the first.
 //! 6. Want of memory is answered only where a growth was refused.
 #![tactic(auto)]
 
@@ -22,6 +23,7 @@ mod pick;
 mod reader;
 mod scope;
 mod script;
+mod sequence;
 mod token;
 
 pub use fault::{TextFault, TextKind};

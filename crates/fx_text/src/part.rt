@@ -1,14 +1,15 @@
 //! The parts of a form that are one token.
 ghost use Rattle.std.specs.Prelude.{◌≡◌, ◌<◌, ◌^◌, length, IfOk};
-ghost use Rattle.fx_text.specs.Reading.{kind_of, opening_at, closing_at, value_at, binder_at, form_at, main_word_at, too_deep};
+ghost use Rattle.fx_text.specs.Reading.{kind_of, opening_at, closing_at, value_at, name_at, binder_at, form_at, main_word_at, too_deep};
+ghost use Rattle.fx_text.specs.Part.{is_closing};
 ghost use Rattle.fx_text.specs.Token.{next};
 ghost use Rattle.fx_text.specs.TokenView.{view_token};
-ghost use Rattle.fx_text.specs.ScopeView.{place};
+ghost use Rattle.fx_text.specs.ScopeView.{view_kind, place};
 ghost use Rattle.fx_text.specs.Given.{Gives};
 
 use crate::fault::{Fault, ReadError, TextKind};
 use crate::form::Form;
-use crate::scope::{Bound, is_bound, slot_of};
+use crate::scope::{Bound, NameKind, is_bound, slot_of};
 use crate::token::{Lexeme, Token, next};
 use fx_term::Arg;
 
@@ -59,6 +60,13 @@ pub(crate) fn closing(bytes: &[u8]) -> Result<&[u8], ReadError>
     }
 }
 
+/// Whether `)` is next.
+pub(crate) fn is_closing(bytes: &[u8]) -> bool
+    ensures { result ≡ is_closing (next bytes.now).token }
+{
+    matches!(next(bytes).token, Token::Close)
+}
+
 /// A number, or the name of a value.
 #[tactic(auto, unfolding(crate::specs::Reading::value_at))]
 pub(crate) fn value<'a>(names: &[Bound<'a>], bytes: &'a [u8]) -> Result<(Arg, &'a [u8]), ReadError>
@@ -69,9 +77,30 @@ pub(crate) fn value<'a>(names: &[Bound<'a>], bytes: &'a [u8]) -> Result<(Arg, &'
     let lexeme = next(bytes);
     match lexeme.token {
         Token::Number(n) => Ok((Arg::Number(n), lexeme.rest)),
-        Token::Name(name) => match slot_of(names, name) {
+        Token::Name(name) => match slot_of(names, NameKind::Value, name) {
             None => Err(refused(TextKind::Unknown, lexeme)),
             Some(slot) => Ok((Arg::Slot(slot as u32), lexeme.rest)),
+        },
+        _ => Err(refused(TextKind::Unwanted, lexeme)),
+    }
+}
+
+/// The name of one of that kind, by its slot.
+#[tactic(auto, unfolding(crate::specs::Reading::name_at))]
+pub(crate) fn name<'a>(
+    names: &[Bound<'a>],
+    kind: NameKind,
+    bytes: &'a [u8],
+) -> Result<(u32, &'a [u8]), ReadError>
+    requires { length names.now < 2 ^ 32 }
+    ensures read { Gives (λ x. (x.0, x.1.now)) result (name_at (view_kind kind) (place names.now) bytes.now) }
+    ensures shorter { IfOk result (λ x. length x.1.now < length bytes.now) }
+{
+    let lexeme = next(bytes);
+    match lexeme.token {
+        Token::Name(name) => match slot_of(names, kind, name) {
+            None => Err(refused(TextKind::Unknown, lexeme)),
+            Some(slot) => Ok((slot as u32, lexeme.rest)),
         },
         _ => Err(refused(TextKind::Unwanted, lexeme)),
     }

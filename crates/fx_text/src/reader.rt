@@ -1,32 +1,33 @@
 //! Reads terms.
-ghost use Rattle.std.specs.Prelude.{◌≡◌, ◌<◌, ◌+◌, [], ◌∷◌, length, IfOk};
+ghost use Rattle.std.specs.Prelude.{◌≡◌, ◌<◌, ◌+◌, [], ◌∷◌, List, ℕ, length, map, IfOk};
 ghost use Rattle.fx_term.specs.Meaning.{term_of};
-ghost use Rattle.fx_term.specs.Scope.{OfValue};
+ghost use Rattle.fx_term.specs.Term.{Term};
 ghost use Rattle.fx_term.specs.Tree.{children, ChildrenComeFirst};
-ghost use Rattle.fx_text.specs.Place.{under};
+ghost use Rattle.fx_text.specs.Place.{Place, under};
 ghost use Rattle.fx_text.specs.Shape.{shape};
-ghost use Rattle.fx_text.specs.Reading.{term_at, parts_at};
+ghost use Rattle.fx_text.specs.Reading.{Read, term_at, terms_at, parts_at};
 ghost use Rattle.fx_text.specs.Given.{Gives};
-ghost use Rattle.fx_text.specs.ScopeView.{place};
+ghost use Rattle.fx_text.specs.ScopeView.{view_kind, place};
 ghost use Rattle.fx_text.specs.Trees.{AllBelow, GrowsBy};
-ghost use Rattle.fx_text.specs.ReaderState.{IsReady, Went, Adds};
+ghost use Rattle.fx_text.specs.ReaderState.{ids, IsReady, Went, WentThrough, Adds};
 
 use crate::fault::ReadError;
 use crate::form::Form;
-use crate::part::{binder, closing, form, opening, too_deep, value};
-use crate::scope::Bound;
+use crate::part::{binder, closing, form, is_closing, name, opening, too_deep, value};
+use crate::scope::{Bound, NameKind};
 use fx_term::{Node, NodeId};
-use std::alloc::AllocError;
+use std::alloc::{AllocError, Global};
 
-/// The names in scope, and the nodes so far.
+/// The names in scope and the nodes so far, and where memory comes from.
 #[derive(Drop)]
 pub(crate) struct Reader<'a> {
+    pub(crate) alloc: Global,
     pub(crate) names: Vec<Bound<'a>>,
     pub(crate) nodes: Vec<Node>,
 }
 
 impl<'a> Reader<'a> {
-    fn add(&mut self, node: Node) -> Result<NodeId, AllocError>
+    pub(crate) fn add(&mut self, node: Node) -> Result<NodeId, AllocError>
         requires tree { ChildrenComeFirst self.old.nodes.items }
         requires children { AllBelow (length self.old.nodes.items) (children node) }
         requires small { length self.old.nodes.items < 65536 }
@@ -62,20 +63,39 @@ impl<'a> Reader<'a> {
     #[cycle(terms)]
     fn term_under(
         &mut self,
+        kind: NameKind,
         name: &'a [u8],
         room: usize,
         bytes: &'a [u8],
     ) -> Result<(NodeId, &'a [u8]), ReadError>
         requires ready { IsReady self.old bytes.now }
         requires small { length self.old.names.items + length bytes.now < 65536 }
-        ensures read { Gives (λ x. (term_of self.new.nodes.items x.0.0, x.1.now)) result (term_at room (under OfValue name.now (place self.old.names.items)) bytes.now) }
+        ensures read { Gives (λ x. (term_of self.new.nodes.items x.0.0, x.1.now)) result (term_at room (under (view_kind kind) name.now (place self.old.names.items)) bytes.now) }
         ensures went { IfOk result (λ x. Went 2 self.old self.new x.0.0 bytes.now x.1.now) }
         ensures grows { IfOk result (λ x. GrowsBy self.old.nodes.items self.new.nodes.items (x.0.0 ∷ [])) }
     {
-        self.names.push(Bound { name })?;
+        self.names.push(Bound { name, kind })?;
         let (root, rest) = self.term(room, bytes)?;
         self.names.pop();
         Ok((root, rest))
+    }
+
+    /// Terms, any number, up to a `)`, which is left.
+    #[cycle(terms)]
+    fn terms(&mut self, room: usize, bytes: &'a [u8]) -> Result<(Vec<NodeId>, &'a [u8]), ReadError>
+        requires { IsReady self.old bytes.now }
+        ensures read { Gives (λ x. (map (λ root. term_of self.new.nodes.items root.0) x.0.items, x.1.now)) result (terms_at (term_at room) (place self.old.names.items) bytes.now) }
+        ensures went { IfOk result (λ x. WentThrough self.old self.new x.0.items bytes.now x.1.now) }
+        ensures grows { IfOk result (λ x. GrowsBy self.old.nodes.items self.new.nodes.items (ids x.0.items)) }
+    {
+        let mut roots = Vec::new(self.alloc);
+        let mut rest = bytes;
+        while !is_closing(rest) {
+            let (root, after) = self.term(room, rest)?;
+            roots.push(root)?;
+            rest = after;
+        }
+        Ok((roots, rest))
     }
 
     /// The parts of a form, where so many more `(` may be open.
@@ -93,36 +113,143 @@ impl<'a> Reader<'a> {
         ensures grows { IfOk result (λ x. GrowsBy self.old.nodes.items self.new.nodes.items (x.0.0 ∷ [])) }
     {
         match form {
-            Form::Pure => {
-                let (v, rest) = value(&self.names, bytes)?;
-                let rest = closing(rest)?;
-                Ok((self.add(Node::Pure(v))?, rest))
-            }
-            Form::Raise => {
-                let (v, rest) = value(&self.names, bytes)?;
-                let rest = closing(rest)?;
-                Ok((self.add(Node::Raise(v))?, rest))
-            }
-            Form::Canceled => {
-                let rest = closing(bytes)?;
-                Ok((self.add(Node::Canceled)?, rest))
-            }
-            Form::Let => {
-                let (x, rest) = binder(&self.names, bytes)?;
-                let slot = self.names.len() as u32;
-                let (a, rest) = self.term(room, rest)?;
-                let (b, rest) = self.term_under(x, room, rest)?;
-                let rest = closing(rest)?;
-                Ok((self.add(Node::Let(Some(slot), a, b))?, rest))
-            }
-            Form::Handle => {
-                let (a, rest) = self.term(room, bytes)?;
-                let (x, rest) = binder(&self.names, rest)?;
-                let slot = self.names.len() as u32;
-                let (b, rest) = self.term_under(x, room, rest)?;
-                let rest = closing(rest)?;
-                Ok((self.add(Node::Handle(a, Some(slot), b))?, rest))
-            }
+            Form::Pure => self.pure_form(bytes),
+            Form::Raise => self.raise_form(bytes),
+            Form::Canceled => self.canceled_form(bytes),
+            Form::Seq => self.seq_form(room, bytes),
+            Form::Let => self.let_form(room, bytes),
+            Form::Handle => self.handle_form(room, bytes),
+            Form::Mask => self.mask_form(room, bytes),
+            Form::Poll => self.poll_form(room, bytes),
+            Form::OnCancel => self.on_cancel_form(room, bytes),
         }
+    }
+
+    fn pure_form(&mut self, bytes: &'a [u8]) -> Result<(NodeId, &'a [u8]), ReadError>
+        requires ready { IsReady self.old bytes.now }
+        requires small { length self.old.nodes.items + length bytes.now < 65536 }
+        ensures read { (each : Place → List ℕ → Read Term) → Gives (λ x. (term_of self.new.nodes.items x.0.0, x.1.now)) result (parts_at each (shape Form.Pure (place self.old.names.items)) bytes.now) }
+        ensures went { IfOk result (λ x. Went 0 self.old self.new x.0.0 bytes.now x.1.now) }
+        ensures grows { IfOk result (λ x. GrowsBy self.old.nodes.items self.new.nodes.items (x.0.0 ∷ [])) }
+    {
+        let (v, rest) = value(&self.names, bytes)?;
+        let rest = closing(rest)?;
+        Ok((self.add(Node::Pure(v))?, rest))
+    }
+
+    fn raise_form(&mut self, bytes: &'a [u8]) -> Result<(NodeId, &'a [u8]), ReadError>
+        requires ready { IsReady self.old bytes.now }
+        requires small { length self.old.nodes.items + length bytes.now < 65536 }
+        ensures read { (each : Place → List ℕ → Read Term) → Gives (λ x. (term_of self.new.nodes.items x.0.0, x.1.now)) result (parts_at each (shape Form.Raise (place self.old.names.items)) bytes.now) }
+        ensures went { IfOk result (λ x. Went 0 self.old self.new x.0.0 bytes.now x.1.now) }
+        ensures grows { IfOk result (λ x. GrowsBy self.old.nodes.items self.new.nodes.items (x.0.0 ∷ [])) }
+    {
+        let (v, rest) = value(&self.names, bytes)?;
+        let rest = closing(rest)?;
+        Ok((self.add(Node::Raise(v))?, rest))
+    }
+
+    fn canceled_form(&mut self, bytes: &'a [u8]) -> Result<(NodeId, &'a [u8]), ReadError>
+        requires ready { IsReady self.old bytes.now }
+        requires small { length self.old.nodes.items + length bytes.now < 65536 }
+        ensures read { (each : Place → List ℕ → Read Term) → Gives (λ x. (term_of self.new.nodes.items x.0.0, x.1.now)) result (parts_at each (shape Form.Canceled (place self.old.names.items)) bytes.now) }
+        ensures went { IfOk result (λ x. Went 0 self.old self.new x.0.0 bytes.now x.1.now) }
+        ensures grows { IfOk result (λ x. GrowsBy self.old.nodes.items self.new.nodes.items (x.0.0 ∷ [])) }
+    {
+        let rest = closing(bytes)?;
+        Ok((self.add(Node::Canceled)?, rest))
+    }
+
+    #[cycle(terms)]
+    fn seq_form(&mut self, room: usize, bytes: &'a [u8]) -> Result<(NodeId, &'a [u8]), ReadError>
+        requires ready { IsReady self.old bytes.now }
+        requires small { length self.old.nodes.items + length bytes.now < 65536 }
+        ensures read { Gives (λ x. (term_of self.new.nodes.items x.0.0, x.1.now)) result (parts_at (term_at room) (shape Form.Seq (place self.old.names.items)) bytes.now) }
+        ensures went { IfOk result (λ x. Went 0 self.old self.new x.0.0 bytes.now x.1.now) }
+        ensures grows { IfOk result (λ x. GrowsBy self.old.nodes.items self.new.nodes.items (x.0.0 ∷ [])) }
+    {
+        let (first, rest) = self.term(room, bytes)?;
+        let (others, rest) = self.terms(room, rest)?;
+        let rest = closing(rest)?;
+        Ok((self.in_order(first, others)?, rest))
+    }
+
+    #[cycle(terms)]
+    fn let_form(&mut self, room: usize, bytes: &'a [u8]) -> Result<(NodeId, &'a [u8]), ReadError>
+        requires ready { IsReady self.old bytes.now }
+        requires small { length self.old.nodes.items + length bytes.now < 65536 }
+        ensures read { Gives (λ x. (term_of self.new.nodes.items x.0.0, x.1.now)) result (parts_at (term_at room) (shape Form.Let (place self.old.names.items)) bytes.now) }
+        ensures went { IfOk result (λ x. Went 0 self.old self.new x.0.0 bytes.now x.1.now) }
+        ensures grows { IfOk result (λ x. GrowsBy self.old.nodes.items self.new.nodes.items (x.0.0 ∷ [])) }
+    {
+        let (x, rest) = binder(&self.names, bytes)?;
+        let slot = self.names.len() as u32;
+        let (a, rest) = self.term(room, rest)?;
+        let (b, rest) = self.term_under(NameKind::Value, x, room, rest)?;
+        let rest = closing(rest)?;
+        Ok((self.add(Node::Let(Some(slot), a, b))?, rest))
+    }
+
+    #[cycle(terms)]
+    fn handle_form(&mut self, room: usize, bytes: &'a [u8]) -> Result<(NodeId, &'a [u8]), ReadError>
+        requires ready { IsReady self.old bytes.now }
+        requires small { length self.old.nodes.items + length bytes.now < 65536 }
+        ensures read { Gives (λ x. (term_of self.new.nodes.items x.0.0, x.1.now)) result (parts_at (term_at room) (shape Form.Handle (place self.old.names.items)) bytes.now) }
+        ensures went { IfOk result (λ x. Went 0 self.old self.new x.0.0 bytes.now x.1.now) }
+        ensures grows { IfOk result (λ x. GrowsBy self.old.nodes.items self.new.nodes.items (x.0.0 ∷ [])) }
+    {
+        let (a, rest) = self.term(room, bytes)?;
+        let (x, rest) = binder(&self.names, rest)?;
+        let slot = self.names.len() as u32;
+        let (b, rest) = self.term_under(NameKind::Value, x, room, rest)?;
+        let rest = closing(rest)?;
+        Ok((self.add(Node::Handle(a, Some(slot), b))?, rest))
+    }
+
+    #[cycle(terms)]
+    fn mask_form(&mut self, room: usize, bytes: &'a [u8]) -> Result<(NodeId, &'a [u8]), ReadError>
+        requires ready { IsReady self.old bytes.now }
+        requires small { length self.old.nodes.items + length bytes.now < 65536 }
+        ensures read { Gives (λ x. (term_of self.new.nodes.items x.0.0, x.1.now)) result (parts_at (term_at room) (shape Form.Mask (place self.old.names.items)) bytes.now) }
+        ensures went { IfOk result (λ x. Went 0 self.old self.new x.0.0 bytes.now x.1.now) }
+        ensures grows { IfOk result (λ x. GrowsBy self.old.nodes.items self.new.nodes.items (x.0.0 ∷ [])) }
+    {
+        let (p, rest) = binder(&self.names, bytes)?;
+        let slot = self.names.len() as u32;
+        let (body, rest) = self.term_under(NameKind::Poll, p, room, rest)?;
+        let rest = closing(rest)?;
+        Ok((self.add(Node::Mask(slot, body))?, rest))
+    }
+
+    #[cycle(terms)]
+    fn poll_form(&mut self, room: usize, bytes: &'a [u8]) -> Result<(NodeId, &'a [u8]), ReadError>
+        requires ready { IsReady self.old bytes.now }
+        requires small { length self.old.nodes.items + length bytes.now < 65536 }
+        ensures read { Gives (λ x. (term_of self.new.nodes.items x.0.0, x.1.now)) result (parts_at (term_at room) (shape Form.Poll (place self.old.names.items)) bytes.now) }
+        ensures went { IfOk result (λ x. Went 0 self.old self.new x.0.0 bytes.now x.1.now) }
+        ensures grows { IfOk result (λ x. GrowsBy self.old.nodes.items self.new.nodes.items (x.0.0 ∷ [])) }
+    {
+        let (slot, rest) = name(&self.names, NameKind::Poll, bytes)?;
+        let (body, rest) = self.term(room, rest)?;
+        let rest = closing(rest)?;
+        Ok((self.add(Node::Poll(slot, body))?, rest))
+    }
+
+    #[cycle(terms)]
+    fn on_cancel_form(
+        &mut self,
+        room: usize,
+        bytes: &'a [u8],
+    ) -> Result<(NodeId, &'a [u8]), ReadError>
+        requires ready { IsReady self.old bytes.now }
+        requires small { length self.old.nodes.items + length bytes.now < 65536 }
+        ensures read { Gives (λ x. (term_of self.new.nodes.items x.0.0, x.1.now)) result (parts_at (term_at room) (shape Form.OnCancel (place self.old.names.items)) bytes.now) }
+        ensures went { IfOk result (λ x. Went 0 self.old self.new x.0.0 bytes.now x.1.now) }
+        ensures grows { IfOk result (λ x. GrowsBy self.old.nodes.items self.new.nodes.items (x.0.0 ∷ [])) }
+    {
+        let (protected, rest) = self.term(room, bytes)?;
+        let (finalizer, rest) = self.term(room, rest)?;
+        let rest = closing(rest)?;
+        Ok((self.add(Node::OnCancel(protected, finalizer))?, rest))
     }
 }

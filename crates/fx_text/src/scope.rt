@@ -1,14 +1,30 @@
 //! The names in scope.
-ghost use Rattle.std.specs.Prelude.{◌≡◌, ◌<◌, length, IfSome, bytes_eq};
+ghost use Rattle.std.specs.Prelude.{◌≡◌, ◌<◌, ◌&&◌, length, IfSome, bytes_eq};
 ghost use Rattle.std.specs.List.{list_any, position};
-ghost use Rattle.fx_term.specs.Scope.{OfValue};
-ghost use Rattle.fx_text.specs.Place.{is_taken, slot_of};
-ghost use Rattle.fx_text.specs.ScopeView.{place};
+ghost use Rattle.fx_text.specs.Place.{is_taken, same_kind, slot_of};
+ghost use Rattle.fx_text.specs.ScopeView.{view_kind, place};
 
-/// A name in scope, of a value.
+/// What a name stands for.
+#[derive(Clone, Copy)]
+pub(crate) enum NameKind {
+    Value,
+    Poll,
+}
+
+/// A name in scope.
 #[derive(Clone, Copy)]
 pub(crate) struct Bound<'a> {
     pub(crate) name: &'a [u8],
+    pub(crate) kind: NameKind,
+}
+
+fn is_same_kind(a: NameKind, b: NameKind) -> bool
+    ensures { result ≡ same_kind (view_kind a) (view_kind b) }
+{
+    match (a, b) {
+        (NameKind::Value, NameKind::Value) | (NameKind::Poll, NameKind::Poll) => true,
+        (NameKind::Value, NameKind::Poll) | (NameKind::Poll, NameKind::Value) => false,
+    }
 }
 
 fn is_among(names: &[Bound<'_>], name: &[u8]) -> bool
@@ -17,11 +33,13 @@ fn is_among(names: &[Bound<'_>], name: &[u8]) -> bool
     names.iter().any(|b| b.name == name)
 }
 
-fn index_of(names: &[Bound<'_>], name: &[u8]) -> Option<usize>
-    ensures index { result ≡ position (λ b. bytes_eq b.name.now name.now) names.now }
+fn index_of(names: &[Bound<'_>], kind: NameKind, name: &[u8]) -> Option<usize>
+    ensures index { result ≡ position (λ b. bytes_eq b.name.now name.now && same_kind (view_kind b.kind) (view_kind kind)) names.now }
     ensures within { IfSome result (λ i. i < length names.now) }
 {
-    names.iter().position(|b| b.name == name)
+    names
+        .iter()
+        .position(|b| b.name == name && is_same_kind(b.kind, kind))
 }
 
 /// Whether the name is in scope.
@@ -32,11 +50,11 @@ pub(crate) fn is_bound(names: &[Bound<'_>], name: &[u8]) -> bool
     is_among(names, name)
 }
 
-/// The slot of the value's name.
+/// The slot of the name, where it is of that kind.
 #[tactic(auto, using(crate::proofs::ScopeLaws::slot_of_index))]
-pub(crate) fn slot_of(names: &[Bound<'_>], name: &[u8]) -> Option<usize>
-    ensures slot { result ≡ slot_of OfValue name.now (place names.now) }
+pub(crate) fn slot_of(names: &[Bound<'_>], kind: NameKind, name: &[u8]) -> Option<usize>
+    ensures slot { result ≡ slot_of (view_kind kind) name.now (place names.now) }
     ensures within { IfSome result (λ i. i < length names.now) }
 {
-    index_of(names, name)
+    index_of(names, kind, name)
 }

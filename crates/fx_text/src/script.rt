@@ -88,6 +88,7 @@ fn main_nodes(alloc: Global, text: &[u8]) -> Result<Vec<Node>, ReadError>
     let rest = top_opening(text)?;
     let rest = main_word(rest)?;
     let mut reader = Reader {
+        alloc,
         names: Vec::new(alloc),
         nodes: Vec::new(alloc),
     };
@@ -135,6 +136,6 @@ fn checked(alloc: Global, nodes: Vec<Node>) -> Result<Code, ReadError>
     match Code::build(alloc, nodes, 0) {
         Ok(code) => Ok(code),
         Err(CodeFault::Memory) => Err(ReadError::Memory),
-        Err(CodeFault::Child(_) | CodeFault::Slot(_)) => unreachable!(),
+        Err(CodeFault::Child(_) | CodeFault::Slot(_) | CodeFault::Kind(_)) => unreachable!(),
     }
 }

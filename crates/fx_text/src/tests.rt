@@ -1,10 +1,11 @@
 //! Texts and what the language says of each.
 use super::*;
+use fx_term::{Arg, Node, NodeId};
 use std::alloc::{AllocError, Global};
 use std::test::Fail;
 
 /// Texts that are refused, the number of the fault's kind, and the byte that it is at.
-const REFUSED: [(&[u8], u8, u32); 12] = [
+const REFUSED: [(&[u8], u8, u32); 23] = [
     (b"(main (pure 5))\0", 2, 15),
     (b"(main (pure 18446744073709551616))", 3, 12),
     (b"(main (pure 5) 5a", 3, 15),
@@ -15,6 +16,17 @@ const REFUSED: [(&[u8], u8, u32); 12] = [
     (b"(main (pure x))", 7, 12),
     (b"(main (let x (pure x) (pure 1)))", 7, 19),
     (b"(main (let x (pure 1) (let x (pure 2) (pure x))))", 8, 27),
+    (b"(main (poll p (pure 1)))", 7, 12),
+    (b"(main (poll 5 (pure 1)))", 6, 12),
+    (b"(main (mask p (pure p)))", 7, 20),
+    (b"(main (let x (pure 1) (poll x (pure 2))))", 7, 28),
+    (b"(main (mask p (mask p (pure 1))))", 8, 20),
+    (b"(main (mask (pure 1)))", 6, 12),
+    (b"(main (seq))", 6, 10),
+    (b"(main (seq (pure 1) 5))", 6, 20),
+    (b"(main (seq (pure 1)", 4, 19),
+    (b"(main (oncancel (pure 1)))", 6, 24),
+    (b"(main (oncancel (pure 1) (pure 2) (pure 3)))", 6, 34),
     (b"(main (pure 5)) 1", 13, 16),
     (b"(main (pure 5)) (main (pure 5))", 13, 16),
 ];
@@ -61,6 +73,20 @@ fn repeated(
     }
     text.extend_from_slice(after)?;
     Ok(text)
+}
+
+/// Whether these are the nodes of the text's code.
+fn has_nodes(rt: &HostRuntime, text: &[u8], nodes: &[Node]) -> bool {
+    match parse(rt.alloc(), text) {
+        Ok(script) => {
+            script.code.len() as usize == nodes.len()
+                && nodes
+                    .iter()
+                    .enumerate()
+                    .all(|(id, node)| script.code.node(NodeId(id as u32)) == *node)
+        }
+        Err(_) => false,
+    }
 }
 
 #[test]
@@ -117,6 +143,14 @@ fn limits_the_open_parentheses(rt: HostRuntime) -> Result<(), Fail> {
         refusal(&rt, &repeated(alloc, b"(main ", b"(handle ", 99, b"")?),
         Some((4, 798))
     );
+    assert_eq!(rt;
+        refusal(&rt, &repeated(alloc, b"(main ", b"(oncancel ", 100, b"")?),
+        Some((11, 996))
+    );
+    assert_eq!(rt;
+        refusal(&rt, &repeated(alloc, b"(main ", b"(oncancel ", 99, b"")?),
+        Some((4, 996))
+    );
     let deepest = repeated(alloc, b"(main ", b"(handle ", 98, b"(pure 1)")?;
     assert_eq!(rt;
         refusal(&rt, &repeated(alloc, &deepest, b" e (pure e))", 98, b")")?),
@@ -139,6 +173,57 @@ fn reads_scripts(rt: HostRuntime) -> Result<(), Fail> {
 }
 
 #[test]
+fn makes_the_nodes_of_each_form(rt: HostRuntime) {
+    assert!(rt; has_nodes(&rt, b"(main (seq (pure 1)))", &[Node::Pure(Arg::Number(1))]));
+    assert!(rt;
+        has_nodes(
+            &rt,
+            b"(main (seq (pure 1) (pure 2) (pure 3)))",
+            &[
+                Node::Pure(Arg::Number(1)),
+                Node::Pure(Arg::Number(2)),
+                Node::Pure(Arg::Number(3)),
+                Node::Let(None, NodeId(1), NodeId(2)),
+                Node::Let(None, NodeId(0), NodeId(3)),
+            ],
+        )
+    );
+    assert!(rt;
+        has_nodes(
+            &rt,
+            b"(main (mask p (poll p (canceled))))",
+            &[
+                Node::Canceled,
+                Node::Poll(0, NodeId(0)),
+                Node::Mask(0, NodeId(1)),
+            ],
+        )
+    );
+    assert!(rt;
+        has_nodes(
+            &rt,
+            b"(main (oncancel (canceled) (raise 9)))",
+            &[
+                Node::Canceled,
+                Node::Raise(Arg::Number(9)),
+                Node::OnCancel(NodeId(0), NodeId(1)),
+            ],
+        )
+    );
+}
+
+/// As many parts of `(pure 1)` as a text can have, and one byte more.
+#[test]
+fn reads_the_longest_sequence(rt: HostRuntime) -> Result<(), Fail> {
+    let longest = repeated(rt.alloc(), b"(main (seq", b"(pure 1)", 8190, b") )   ")?;
+    assert_eq!(rt; longest.len(), 65536);
+    assert_eq!(rt; parse(rt.alloc(), &longest)?.code.len(), 16379);
+    let longer = repeated(rt.alloc(), b"(main (seq ", b"(pure 1)", 8190, b") )   ")?;
+    assert_eq!(rt; refusal(&rt, &longer), Some((1, 65536)));
+    Ok(())
+}
+
+#[test]
 fn says_what_is_wrong(rt: HostRuntime) -> Result<(), Fail> {
     let unknown = TextFault {
         kind: TextKind::Unknown,
@@ -147,7 +232,7 @@ fn says_what_is_wrong(rt: HostRuntime) -> Result<(), Fail> {
     assert_eq!(rt; unknown.number(), 7);
     assert_eq!(rt;
         format!(in rt.alloc(); "{unknown}")?.as_str(),
-        "at byte 12: no such name is in scope"
+        "at byte 12: no such name of this kind is in scope"
     );
     Ok(())
 }

@@ -1,6 +1,7 @@
 use super::*;
 use std::io;
 use std::test::Fail;
+use std::thread::Builder;
 
 /// The status of a replay of this text, and what it printed.
 fn replayed(alloc: Global, text: &[u8]) -> Result<(u8, Vec<u8>), Fail> {
@@ -59,11 +60,97 @@ fn outcome_of_the_main_fiber_is_printed(rt: HostRuntime) -> Result<(), Fail> {
             "fiber 0 succeeded 1\n",
         ),
         ("(main (let x (canceled) (pure x)))", "fiber 0 canceled\n"),
+        (
+            "(main (seq (pure 1) (pure 2) (pure 3)))",
+            "fiber 0 succeeded 3\n",
+        ),
+        ("(main (seq (raise 4) (pure 2)))", "fiber 0 errored 4\n"),
     ] {
         let (status, printed) = replayed(rt.alloc(), script.as_bytes())?;
         assert_eq!(rt; printed.as_slice(), line.as_bytes(), "{script}");
         assert_eq!(rt; status, ENDED, "{script}");
     }
+    Ok(())
+}
+
+#[test]
+fn masked_fiber_is_canceled_where_a_mask_ends(rt: HostRuntime) -> Result<(), Fail> {
+    for (script, line) in [
+        ("(main (seq (canceled) (pure 5)))", "fiber 0 canceled\n"),
+        (
+            "(main (seq (mask p (seq (canceled) (pure 1))) (pure 5)))",
+            "fiber 0 canceled\n",
+        ),
+        (
+            "(main (mask a (mask b (poll a (poll b (canceled))))))",
+            "fiber 0 canceled\n",
+        ),
+        (
+            "(main (seq (mask a (mask b (poll a (poll b (seq (canceled) (pure 1)))))) (pure 2)))",
+            "fiber 0 canceled\n",
+        ),
+        ("(main (mask p (canceled)))", "fiber 0 canceled\n"),
+        (
+            "(main (mask p (seq (pure 1) (pure 7))))",
+            "fiber 0 succeeded 7\n",
+        ),
+        ("(main (mask p (poll p (raise 4))))", "fiber 0 errored 4\n"),
+    ] {
+        let (status, printed) = replayed(rt.alloc(), script.as_bytes())?;
+        assert_eq!(rt; printed.as_slice(), line.as_bytes(), "{script}");
+        assert_eq!(rt; status, ENDED, "{script}");
+    }
+    Ok(())
+}
+
+#[test]
+fn finalizer_changes_no_outcome(rt: HostRuntime) -> Result<(), Fail> {
+    for (script, line) in [
+        (
+            "(main (oncancel (pure 3) (raise 9)))",
+            "fiber 0 succeeded 3\n",
+        ),
+        (
+            "(main (oncancel (raise 3) (pure 9)))",
+            "fiber 0 errored 3\n",
+        ),
+        (
+            "(main (oncancel (canceled) (raise 9)))",
+            "fiber 0 canceled\n",
+        ),
+        (
+            "(main (handle (oncancel (canceled) (raise 9)) e (pure e)))",
+            "fiber 0 canceled\n",
+        ),
+    ] {
+        let (status, printed) = replayed(rt.alloc(), script.as_bytes())?;
+        assert_eq!(rt; printed.as_slice(), line.as_bytes(), "{script}");
+        assert_eq!(rt; status, ENDED, "{script}");
+    }
+    Ok(())
+}
+
+/// As much stack as a worker's thread has.
+const SMALL_STACK: usize = 2 * 1024 * 1024;
+
+/// Does a replay of this text print this line, and answer that all has ended?
+fn prints(alloc: Global, text: &[u8], line: &[u8]) -> bool {
+    let mut reader = text;
+    let mut printed = Vec::new(alloc);
+    let answer = replay_text(alloc, &mut reader, &[], &mut printed);
+    answer == Ok(ENDED) && printed.as_slice() == line
+}
+
+#[test]
+fn seq_of_as_many_parts_as_a_text_holds_on_a_small_stack(rt: HostRuntime) -> Result<(), Fail> {
+    let alloc = rt.alloc();
+    let text = repeated(alloc, b"(main (seq", b"(pure 1)", 8190, b"))")?;
+    assert!(rt; text.len() <= 65_536 && text.len() + 8 > 65_536);
+    let replay = Builder::new().stack_size(SMALL_STACK).spawn(
+        &rt,
+        move || prints(alloc, &text, b"fiber 0 succeeded 1\n"),
+    )?;
+    assert!(rt; replay.join(&rt));
     Ok(())
 }
 
@@ -74,6 +161,7 @@ fn text_that_is_no_script_is_refused(rt: HostRuntime) -> Result<(), Fail> {
         ("(main (pure 18446744073709551616))", "refused 3 at 12\n"),
         ("(main (foo))", "refused 5 at 7\n"),
         ("(main (pure))", "refused 6 at 11\n"),
+        ("(main (seq))", "refused 6 at 10\n"),
         (
             "(main (let x (pure 1) (let x (pure 2) (pure x))))",
             "refused 8 at 27\n",

@@ -25,12 +25,28 @@ fn handle(first: u32, slot: u32, then: u32) -> Node {
     Node::Handle(NodeId(first), Some(slot), NodeId(then))
 }
 
+fn mask(slot: u32, part: u32) -> Node {
+    Node::Mask(slot, NodeId(part))
+}
+
+fn poll(slot: u32, part: u32) -> Node {
+    Node::Poll(slot, NodeId(part))
+}
+
+fn on_cancel(part: u32, finalizer: u32) -> Node {
+    Node::OnCancel(NodeId(part), NodeId(finalizer))
+}
+
 fn child(id: u32) -> CodeFault {
     CodeFault::Child(NodeId(id))
 }
 
 fn slot(id: u32) -> CodeFault {
     CodeFault::Slot(NodeId(id))
+}
+
+fn kind(id: u32) -> CodeFault {
+    CodeFault::Kind(NodeId(id))
 }
 
 fn built(alloc: Global, nodes: &[Node]) -> Result<Code, CodeFault>
@@ -41,8 +57,20 @@ fn built(alloc: Global, nodes: &[Node]) -> Result<Code, CodeFault>
 
 #[test]
 fn refuses_what_is_no_tree(rt: HostRuntime) {
-    let cases: [(&str, &[Node], CodeFault); 8] = [
+    let cases: [(&str, &[Node], CodeFault); 12] = [
         ("no node", &[], child(0)),
+        ("a mask of itself", &[mask(0, 0)], child(0)),
+        ("a poll of a later node", &[poll(0, 1), CANCELED], child(0)),
+        (
+            "one part as its own finalizer",
+            &[ONE, on_cancel(0, 0)],
+            child(1),
+        ),
+        (
+            "a part that is the finalizer of another",
+            &[ONE, CANCELED, on_cancel(0, 1), ONE, on_cancel(3, 1)],
+            child(4),
+        ),
         ("its own child", &[ONE, seq(0, 1)], child(1)),
         ("a child that is not there", &[ONE, seq(0, 7)], child(1)),
         (
@@ -70,8 +98,44 @@ fn refuses_what_is_no_tree(rt: HostRuntime) {
 
 #[test]
 fn refuses_wrong_slots(rt: HostRuntime) {
-    let cases: [(&str, &[Node], CodeFault); 9] = [
+    let cases: [(&str, &[Node], CodeFault); 17] = [
         ("a name that nothing binds", &[name(0)], slot(0)),
+        (
+            "a poll that nothing binds",
+            &[CANCELED, poll(0, 0)],
+            slot(1),
+        ),
+        ("a mask that skips a slot", &[CANCELED, mask(1, 0)], slot(1)),
+        (
+            "an inner mask with the outer slot",
+            &[CANCELED, mask(0, 0), mask(0, 1)],
+            slot(1),
+        ),
+        (
+            "a poll after its mask",
+            &[CANCELED, mask(0, 0), ONE, poll(0, 2), seq(1, 3)],
+            slot(3),
+        ),
+        (
+            "a binder in a mask with the mask's slot",
+            &[ONE, ONE, bind(0, 0, 1), mask(0, 2)],
+            slot(2),
+        ),
+        (
+            "a poll before its part",
+            &[name(9), poll(3, 0), mask(0, 1)],
+            slot(1),
+        ),
+        (
+            "the first part of onCancel before the second",
+            &[name(9), name(8), on_cancel(1, 0)],
+            slot(1),
+        ),
+        (
+            "a finalizer outside of its part's scope",
+            &[ONE, name(0), bind(0, 0, 1), name(0), on_cancel(2, 3)],
+            slot(3),
+        ),
         (
             "a binder that skips a slot",
             &[ONE, ONE, bind(1, 0, 1)],
@@ -119,10 +183,84 @@ fn refuses_wrong_slots(rt: HostRuntime) {
 }
 
 #[test]
+fn refuses_wrong_kinds(rt: HostRuntime) {
+    let cases: [(&str, &[Node], CodeFault); 10] = [
+        ("a poll as a value", &[name(0), mask(0, 0)], kind(0)),
+        (
+            "a poll as an error",
+            &[Node::Raise(Arg::Slot(0)), mask(0, 0)],
+            kind(0),
+        ),
+        (
+            "a value as a poll",
+            &[ONE, CANCELED, poll(0, 1), bind(0, 0, 2)],
+            kind(2),
+        ),
+        (
+            "an error as a poll",
+            &[ONE, CANCELED, poll(0, 1), handle(0, 0, 2)],
+            kind(2),
+        ),
+        (
+            "the outer name of two, where the inner is a poll",
+            &[ONE, CANCELED, poll(0, 1), mask(1, 2), bind(0, 0, 3)],
+            kind(2),
+        ),
+        (
+            "a value's slot that was a poll's before",
+            &[
+                CANCELED,
+                mask(0, 0),
+                ONE,
+                CANCELED,
+                poll(0, 3),
+                bind(0, 2, 4),
+                seq(1, 5),
+            ],
+            kind(4),
+        ),
+        (
+            "a parent's kind before its child's slot",
+            &[name(9), poll(0, 0), ONE, bind(0, 2, 1)],
+            kind(1),
+        ),
+        (
+            "the first part's kind before the second's slot",
+            &[name(9), name(0), seq(1, 0), mask(0, 2)],
+            kind(1),
+        ),
+        (
+            "the first part's slot before the second's kind",
+            &[name(0), name(9), on_cancel(1, 0), mask(0, 2)],
+            slot(1),
+        ),
+        (
+            "a poll as a value in a finalizer",
+            &[name(0), ONE, on_cancel(1, 0), mask(0, 2)],
+            kind(0),
+        ),
+    ];
+    for (what, nodes, fault) in cases {
+        assert_eq!(rt; built(rt.alloc(), nodes).err(), Some(fault), "{what}");
+    }
+}
+
+#[test]
 fn keeps_the_nodes(rt: HostRuntime) -> Result<(), Fail> {
-    let cases: [&[Node]; 3] = [
+    let cases: [&[Node]; 7] = [
         &[ONE],
         &[CANCELED, ONE, seq(1, 0)],
+        &[CANCELED, poll(0, 0), mask(0, 1)],
+        &[CANCELED, poll(0, 0), mask(1, 1), mask(0, 2)],
+        &[ONE, CANCELED, on_cancel(1, 0)],
+        &[
+            CANCELED,
+            mask(0, 0),
+            ONE,
+            name(0),
+            bind(0, 2, 3),
+            on_cancel(1, 4),
+        ],
         &[
             ONE,
             Node::Raise(Arg::Slot(0)),
@@ -155,6 +293,20 @@ fn takes_a_code_as_deep_as_it_is_long(rt: HostRuntime) -> Result<(), Fail> {
 }
 
 #[test]
+fn takes_masks_as_deep_as_the_code_is_long(rt: HostRuntime) -> Result<(), Fail> {
+    let mut nodes = vec![in rt.alloc(); ONE]?;
+    for part in 0..50_000u32 {
+        nodes.push(poll(0, part))?;
+    }
+    for part in 0..50_000u32 {
+        nodes.push(mask(49_999 - part, 50_000 + part))?;
+    }
+    let code = Code::build(rt.alloc(), nodes, 0)?;
+    assert_eq!(rt; code.root(), NodeId(100_000));
+    Ok(())
+}
+
+#[test]
 fn says_what_is_wrong(rt: HostRuntime) -> Result<(), Fail> {
     let cases = [
         (
@@ -166,6 +318,11 @@ fn says_what_is_wrong(rt: HostRuntime) -> Result<(), Fail> {
             slot(4),
             2,
             "node 4: a slot that is not bound, or a binder with a wrong slot",
+        ),
+        (
+            kind(5),
+            3,
+            "node 5: a slot that is that of a name of another kind",
         ),
         (CodeFault::Memory, 4, "out of memory"),
     ];

@@ -1,0 +1,118 @@
+//! A fiber that runs alone: over a port that nobody requests, to its end.
+ghost use Rattle.std.specs.Prelude.{◌≡◌, IfOk};
+ghost use Rattle.fx_term.specs.declared.outcome.Outcome.{Outcome};
+ghost use Rattle.fx_term.specs.Meaning.{root_term};
+ghost use Rattle.fx_fiber.specs.Run.{IsOutcome};
+ghost use Rattle.fibers.specs.Alone.{IsEndedBy};
+
+use fx_fiber::{Fiber, Port, main_begin};
+use fx_term::{Begin, Code, Event, Memory, Outcome};
+use std::alloc::Global;
+use std::marker::{Brand, PhantomData};
+
+/// Which code a fiber alone runs. Each call picks it.
+trait Naming {
+    ghost use Rattle.std.specs.Prelude.{List};
+    ghost use Rattle.fx_term.specs.declared.node.Node.{Node};
+
+    ghost nodes: { List Node };
+}
+
+impl Naming for Brand {
+    ghost use Rattle.std.specs.Prelude.{[]};
+
+    ghost nodes = { [] };
+}
+
+/// The world of a fiber alone: nobody is in it.
+#[derive(Drop)]
+struct Nobody;
+
+/// The port of a fiber that nobody requests. It notes how the fiber ended.
+#[derive(Drop)]
+struct AlonePort<J: Naming> {
+    begin: Begin,
+    ended: Option<Outcome>,
+    of: PhantomData<J>,
+}
+
+impl<J: Naming> AlonePort<J> {
+    ghost use Rattle.std.specs.Prelude.{None};
+
+    fn new(begin: Begin) -> Self
+        ensures begin { result.begin ≡ begin }
+        ensures going { result.ended ≡ None }
+    {
+        AlonePort {
+            begin,
+            ended: None,
+            of: PhantomData,
+        }
+    }
+}
+
+impl<J: Naming> Port for AlonePort<J> {
+    ghost use Rattle.std.specs.Prelude.{◌≡◌, Some, is_some};
+    ghost use Rattle.fibers.specs.Alone.{FindsNothing, deeds_told};
+
+    type Shared = Nobody;
+
+    ghost code = { J.nodes };
+
+    ghost number = { λ port. 0 };
+
+    ghost beginning = { λ port. port.begin };
+
+    ghost has_finished = { λ port. is_some port.ended };
+
+    ghost agrees = { λ port deeds. deeds ≡ deeds_told port.ended };
+
+    ghost looks = { FindsNothing };
+
+    ghost finishes = { λ port nobody outcome port' nobody'. (port'.begin ≡ port.begin) × (port'.ended ≡ Some outcome) × (nobody' ≡ nobody) };
+
+    fn look(&mut self, _nobody: &mut Nobody) -> bool {
+        false
+    }
+
+    fn finish(&mut self, _nobody: &mut Nobody, outcome: Outcome) {
+        self.ended = Some(outcome);
+    }
+}
+
+/// The outcome that the last event of a trace tells.
+fn last_outcome(trace: &[Event]) -> Outcome
+    requires { (outcome : Outcome) × IsEndedBy trace.now outcome }
+    ensures { (outcome : Outcome) → IsEndedBy trace.now outcome → result ≡ outcome }
+{
+    let Some(event) = trace.last().copied() else {
+        unreachable!()
+    };
+    match event {
+        Event::Ended(outcome) => outcome,
+        _ => unreachable!(),
+    }
+}
+
+/// Runs to its end the main fiber of the code that the type names.
+fn run_named<J: Naming>(alloc: Global, code: &Code) -> Result<Outcome, Memory>
+    requires code { code.now ≡ J.nodes }
+    ensures outcome { IfOk result (λ outcome. IsOutcome (root_term code.now) outcome) }
+{
+    // What is known of each code comes with this: it is one term.
+    prove!(code.len() > 0);
+    let port: AlonePort<J> = AlonePort::new(main_begin(alloc, code));
+    let mut fiber = Fiber::new(alloc, code, port)?;
+    let mut nobody = Nobody;
+    while !fiber.has_ended() {
+        fiber.step(code, &mut nobody)?;
+    }
+    Ok(last_outcome(fiber.trace()))
+}
+
+/// Runs the code's main fiber to its end, one rule a step, where nobody requests it.
+pub(crate) fn run(alloc: Global, code: &Code) -> Result<Outcome, Memory>
+    ensures { IfOk result (λ outcome. IsOutcome (root_term code.now) outcome) }
+{
+    run_named::<Brand>(alloc, code)
+}

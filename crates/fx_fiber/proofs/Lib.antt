@@ -1,0 +1,11 @@
+pub mod Contexts
+pub mod Numbers
+pub mod Rules
+pub mod Nodes
+pub mod Leaves
+pub mod Results
+pub mod Unwindings
+pub mod EntriesLaws
+pub mod Looks
+pub mod Keeping
+pub mod Beginnings

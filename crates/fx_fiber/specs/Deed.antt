@@ -1,0 +1,44 @@
+-- What a fiber did to the outside and learnt of it, as its port knows it.
+use Rattle.std.specs.Prelude.{◌≡◌, ℕ, List, [], ◌∷◌, ◌++◌}
+use Rattle.fx_term.specs.declared.node.Node.{Node}
+use Rattle.fx_term.specs.declared.begin.Begin.{Begin}
+use Rattle.fx_term.specs.declared.outcome.Outcome.{Outcome}
+use Rattle.fx_term.specs.declared.event.Event.{Event}
+use Rattle.fx_term.specs.declared.event.Event.TheVariants as event
+use Rattle.fx_fiber.specs.Row.{Label, Silent, Shows, Learns, Starts}
+use Rattle.fx_fiber.specs.Begins.{beginning_of}
+
+-- a fiber was started and began so; a cancellation was requested; the own request was seen; an element was put into a queue or taken out of it; a queue was found full or empty; a fiber was found to have ended so; the fiber ended so
+pub data Deed : Type 0 where
+  Started : ℕ → Begin → Deed
+  Requested : ℕ → Deed
+  Saw : Deed
+  Put : ℕ → ℕ → Deed
+  Got : ℕ → ℕ → Deed
+  FoundFull : ℕ → Deed
+  FoundEmpty : ℕ → Deed
+  FoundEnded : ℕ → Outcome → Deed
+  Ended : Outcome → Deed
+
+-- the deeds of a step that shows this event
+abbrev pub deeds_of_event : Event → List Deed
+deeds_of_event (event.Request f) = Requested f ∷ []
+deeds_of_event (event.Put q n) = Put q n ∷ []
+deeds_of_event (event.Got q n) = Got q n ∷ []
+deeds_of_event (event.Refused q) = FoundFull q ∷ []
+deeds_of_event (event.Empty q) = FoundEmpty q ∷ []
+deeds_of_event event.Seen = Saw ∷ []
+deeds_of_event (event.Ended o) = Ended o ∷ []
+deeds_of_event _ = []
+
+-- the deeds of a step with this label
+abbrev pub AreDeedsOf : List Node → Label → List Deed → Type 0
+AreDeedsOf nodes Silent deeds = deeds ≡ []
+AreDeedsOf nodes (Shows e) deeds = deeds ≡ deeds_of_event e
+AreDeedsOf nodes (Learns f o e) deeds = deeds ≡ FoundEnded f o ∷ []
+AreDeedsOf nodes (Starts f b) deeds = (begin : Begin) × (beginning_of nodes begin ≡ b) × (deeds ≡ Started f begin ∷ [])
+
+-- the deeds of steps with these labels
+abbrev pub AreDeeds : List Node → List Label → List Deed → Type 0
+AreDeeds nodes [] deeds = deeds ≡ []
+AreDeeds nodes (l ∷ ls) deeds = (first : List Deed) × (rest : List Deed) × AreDeedsOf nodes l first × AreDeeds nodes ls rest × (deeds ≡ first ++ rest)

@@ -1,0 +1,11 @@
+pub mod Path
+pub mod Row
+pub mod Step
+pub mod Run
+pub mod Entries
+pub mod Begins
+pub mod Deed
+pub mod Standing
+pub mod Rule
+pub mod Fiber
+pub mod MakesStep

@@ -1,0 +1,56 @@
+//! What a fiber reaches of the world.
+ghost use Rattle.std.specs.Prelude.{◌≡◌, ℕ, Bool, true, false, List, ◌++◌, ◌∷◌, []};
+ghost use Rattle.std.specs.Bool.{OnTrue, OnFalse};
+ghost use Rattle.fx_term.specs.declared.node.Node.{Node};
+ghost use Rattle.fx_term.specs.declared.begin.Begin.{Begin};
+ghost use Rattle.fx_term.specs.declared.outcome.Outcome.{Outcome};
+ghost use Rattle.fx_fiber.specs.Deed.{Deed, Saw, Ended};
+
+use fx_term::Outcome;
+
+/// The port of one fiber: the calls by which the fiber reaches the world around it. Its type names
+/// the one code that its fibers run. Contracts know a call by its relation, and by the deed that it
+/// adds to those that the port agrees with; the deeds are stored nowhere.
+pub trait Port: Sized {
+    /// What the ports of one place have in common, lent to each call.
+    type Shared;
+
+    // the nodes of the code
+    ghost code: { List Node };
+
+    // the fiber's number
+    ghost number: { Self → ℕ };
+
+    // what the fiber began with
+    ghost beginning: { Self → Begin };
+
+    // the end was told
+    ghost has_finished: { Self → Bool };
+
+    // the port knows exactly these deeds of its fiber, in this order
+    ghost agrees: { Self → List Deed → Type 0 };
+
+    // a look: before, its answer, and after
+    ghost looks: { Self → Self.Shared → Bool → Self → Self.Shared → Type 0 };
+
+    // the telling of an end: before, the outcome, and after
+    ghost finishes: { Self → Self.Shared → Outcome → Self → Self.Shared → Type 0 };
+
+    /// Whether the fiber's cancellation is requested.
+    fn look(&mut self, shared: &mut Self::Shared) -> bool
+        ensures told { looks self.old shared.old result self.new shared.new }
+        ensures number { number self.new ≡ number self.old }
+        ensures beginning { beginning self.new ≡ beginning self.old }
+        ensures finished { has_finished self.new ≡ has_finished self.old }
+        ensures deed { OnTrue result ((deeds : List Deed) → agrees self.old deeds → agrees self.new (deeds ++ Saw ∷ [])) }
+        ensures unchanged { OnFalse result ((self.new ≡ self.old) × (shared.new ≡ shared.old)) };
+
+    /// Tells the world how the fiber ended.
+    fn finish(&mut self, shared: &mut Self::Shared, outcome: Outcome)
+        requires going { has_finished self.old ≡ false }
+        ensures told { finishes self.old shared.old outcome self.new shared.new }
+        ensures number { number self.new ≡ number self.old }
+        ensures beginning { beginning self.new ≡ beginning self.old }
+        ensures finished { has_finished self.new ≡ true }
+        ensures deed { (deeds : List Deed) → agrees self.old deeds → agrees self.new (deeds ++ Ended outcome ∷ []) };
+}

@@ -1,0 +1,16 @@
+//! The place inside all contexts.
+
+use fx_term::{Done, NodeId, Outcome};
+
+/// What stands inside all contexts, or what there is in their place.
+#[derive(Clone, Copy, PartialEq, Eq, Debug)]
+pub enum Place {
+    /// The term of this node.
+    At(NodeId),
+    /// The result of the term that stood there.
+    Gave(Done),
+    /// The fiber was canceled, and is between two clean-ups.
+    Unwinding,
+    /// The fiber has ended so.
+    Ended(Outcome),
+}

@@ -1,0 +1,10 @@
+//! The answers of a step.
+
+/// What a step of a fiber did.
+#[derive(Clone, Copy, PartialEq, Eq, Debug)]
+pub enum Stepped {
+    /// It made a rule, and the fiber goes on.
+    Went,
+    /// It made the last rule: the fiber has ended.
+    Ended,
+}

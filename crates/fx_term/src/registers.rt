@@ -1,0 +1,64 @@
+//! The numbers of the names in scope.
+ghost use Rattle.std.specs.Prelude.{◌≡◌, [], length, OnOk, OnErr};
+ghost use Rattle.fx_term.specs.declared.node.Arg.TheVariants.{Number};
+ghost use Rattle.fx_term.specs.Fill.{fill_arg};
+ghost use Rattle.fx_term.specs.Scope.{IsArgBelow};
+ghost use Rattle.fx_term.specs.Registers.{with_number, ReachUpTo};
+
+use crate::memory::Memory;
+use crate::node::Arg;
+use std::alloc::Global;
+use std::marker::Model;
+
+/// The numbers of the names in scope by their slots, seen as the list of them. Above them may stand
+/// numbers of names whose scope was left.
+#[derive(Drop)]
+pub struct Registers {
+    numbers: Vec<u64>,
+}
+
+impl Model for Registers {
+    ghost use Rattle.std.specs.Prelude.{List, ℕ};
+
+    ghost Value = { List ℕ };
+
+    ghost view = { λ r. r.numbers.items };
+}
+
+impl Registers {
+    pub fn new(alloc: Global) -> Registers
+        ensures { result ≡ [] }
+    {
+        Registers {
+            numbers: Vec::new(alloc),
+        }
+    }
+
+    /// Gives the binder's name the number. The numbers of names above it are gone.
+    pub fn bind(&mut self, name: Option<u32>, number: u64) -> Result<(), Memory>
+        requires { ReachUpTo name (length self.old) }
+        ensures ok { OnOk result (self.new ≡ with_number name number self.old) }
+        ensures err { OnErr result (self.new ≡ self.old) }
+    {
+        if let Some(slot) = name {
+            self.numbers.reserve(1)?;
+            self.numbers.truncate(slot as usize);
+            self.numbers.push_reserved(number);
+        }
+        Ok(())
+    }
+
+    /// The number that an argument stands for.
+    pub fn number_of(&self, arg: Arg) -> u64
+        requires { IsArgBelow (length self.now) arg }
+        ensures { fill_arg (length self.now) self.now arg ≡ Number result }
+    {
+        match arg {
+            Arg::Number(n) => n,
+            Arg::Slot(x) => self.numbers[x as usize],
+        }
+    }
+}
+
+#[cfg(test)]
+mod tests;

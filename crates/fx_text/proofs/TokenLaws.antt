@@ -1,0 +1,56 @@
+-- The next token, and what is left after it.
+use Rattle.std.proofs.Common.{◌≡◌, ℕ, ◌+◌, ◌<◌, ◌≤◌, Bool, true, false, cond, ◌||◌, ◌==◌, List, [], ◌∷◌, length, refl, arith}
+use Rattle.std.specs.List.{prefix_len}
+use Rattle.std.proofs.lemmas.List.{length-drop}
+use Rattle.fx_text.specs.Token.{Open, Close, Name, Stray, End, Lexeme, is_space, is_digit, is_letter_or_digit, number, after_spaces, word, after_word, front, next}
+
+after_spaces_le : (bytes : List ℕ) → length (after_spaces bytes) ≤ length bytes
+after_spaces_le [] = omega arith
+after_spaces_le (b ∷ bytes) = by_test (is_space b) (after_spaces_le bytes)
+  where
+    by_test : (space : Bool) → length (after_spaces bytes) ≤ length bytes → length (cond space (after_spaces bytes) (b ∷ bytes)) ≤ length (b ∷ bytes)
+    by_test true h = omega arith
+    by_test false h = omega arith
+
+module _ (b : ℕ) (bytes : List ℕ) where
+  after_word_le : is_letter_or_digit b ≡ true → length (after_word (b ∷ bytes)) ≤ length bytes
+  after_word_le e =
+      let n : prefix_len is_letter_or_digit (b ∷ bytes) ≡ 1 + prefix_len is_letter_or_digit bytes = rw e refl in
+      rw n (omega (arith, length-drop (1 + prefix_len is_letter_or_digit bytes) (b ∷ bytes)))
+
+  digit_too : is_digit b ≡ true → is_letter_or_digit b ≡ true
+  digit_too e = rw e (or_true _)
+    where
+      or_true : (p : Bool) → (p || true) ≡ true
+      or_true true = refl
+      or_true false = refl
+
+  -- what is left after a token is shorter
+  front_le : length (front (b ∷ bytes)).rest ≤ length bytes
+  front_le = by_tests (length (b ∷ bytes)) (b == 40) (b == 41) (is_digit b) (is_letter_or_digit b) digit_too after_word_le
+    where
+      by_tests : (from : ℕ) (opening closing digit letter : Bool) → (digit ≡ true → letter ≡ true) → (letter ≡ true → length (after_word (b ∷ bytes)) ≤ length bytes)
+          → length (cond {A = Lexeme} opening (record { token = Open; from = from; rest = bytes }) (cond {A = Lexeme} closing (record { token = Close; from = from; rest = bytes })
+          (cond {A = Lexeme} digit (record { token = number (word (b ∷ bytes)); from = from; rest = after_word (b ∷ bytes) })
+          (cond {A = Lexeme} letter (record { token = Name (word (b ∷ bytes)); from = from; rest = after_word (b ∷ bytes) }) (record { token = Stray; from = from; rest = bytes }))))).rest ≤ length bytes
+      by_tests from true c d l too h = omega arith
+      by_tests from false true d l too h = omega arith
+      by_tests from false false true l too h = h (too refl)
+      by_tests from false false false true too h = h refl
+      by_tests from false false false false too h = omega arith
+
+pub next_le : (text : List ℕ) → length (next text).rest ≤ length text
+unfolding next
+next_le text = by_front (after_spaces text) (after_spaces_le text)
+  where
+    by_front : (bytes : List ℕ) → length bytes ≤ length text → length (front bytes).rest ≤ length text
+    by_front [] h = omega arith
+    by_front (b ∷ bytes) h = let g = front_le b bytes in omega arith
+
+pub next_shorter : (text : List ℕ) → ((next text).token ≡ End → ⊥) → length (next text).rest < length text
+unfolding next
+next_shorter text some = by_front (after_spaces text) (after_spaces_le text) some
+  where
+    by_front : (bytes : List ℕ) → length bytes ≤ length text → ((front bytes).token ≡ End → ⊥) → length (front bytes).rest < length text
+    by_front [] h some = absurd (some refl)
+    by_front (b ∷ bytes) h some = let g = front_le b bytes in omega arith
