@@ -9,3 +9,12 @@ pub mod EntriesLaws
 pub mod Looks
 pub mod Keeping
 pub mod Beginnings
+pub mod CoreTerms
+pub mod PairedMasks
+pub mod CancelledSteps
+pub mod RunningTerms
+pub mod HeldResources
+pub mod Nesting
+pub mod ResourceRows
+pub mod AcquiredNumbers
+pub mod BalancedRuns

@@ -9,3 +9,5 @@ pub mod Standing
 pub mod Rule
 pub mod Fiber
 pub mod MakesStep
+pub mod Balanced
+pub mod PairedMasks

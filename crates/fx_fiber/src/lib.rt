@@ -26,8 +26,10 @@
 #![tactic(auto)]
 
 mod begin;
+pub mod cancellation_laws;
 mod fiber;
 mod port;
+pub mod resource_laws;
 mod standing;
 mod stepped;
 

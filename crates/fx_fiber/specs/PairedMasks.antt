@@ -1,0 +1,44 @@
+-- Where the masks of a path are opened by their polls.
+use Rattle.std.specs.Prelude.{ℕ, List, [], ◌∷◌, ◌++◌}
+use Rattle.fx_term.specs.declared.event.Event.TheVariants as event
+use Rattle.fx_term.specs.Term.{Term, Let, Handle, OnCancel, Bracket, Masked, Opened, Using, Releasing, Await}
+use Rattle.fx_fiber.specs.Row.{Counts, Label, Shows}
+use Rattle.fx_fiber.specs.Step.{Progress, Runs}
+use Rattle.fx_fiber.specs.Run.{Leads}
+
+-- a place on a path that a mask closes, that a poll opens, or that nothing opens
+pub data Mark : Type 0 where
+  Closes : ℕ → Mark
+  Opens : ℕ → Mark
+  Seals : Mark
+
+-- what the path to the leaf says of masks, from the root
+abbrev pub marks : Term → List Mark
+marks (Let x a b) = marks a
+marks (Handle a x b) = marks a
+marks (OnCancel a f) = marks a
+marks (Bracket x a u r) = Seals ∷ marks a
+marks (Masked r a) = Closes r ∷ marks a
+marks (Opened r a) = Opens r ∷ marks a
+marks (Using k a r) = marks a
+marks (Releasing k a v) = Seals ∷ marks a
+marks (Await f) = Seals ∷ []
+marks _ = []
+
+-- each mask has its poll further in, these pairs are nested, and there is no seal; a poll that opens nothing may stand anywhere
+pub data IsPaired : List Mark → Type 0 where
+  nothing : IsPaired []
+  idle : {r : ℕ} → IsPaired (Opens r ∷ [])
+  pair : {r : ℕ} {w : List Mark} → IsPaired w → IsPaired (Closes r ∷ (w ++ Opens r ∷ []))
+  appended : {w x : List Mark} → IsPaired w → IsPaired x → IsPaired (w ++ x)
+
+-- the fiber is at its term, and the masks of the path are opened by their polls
+abbrev pub IsOpenedAt : Progress → Type 0
+IsOpenedAt (Runs t) = IsPaired (marks t)
+IsOpenedAt _ = ⊥
+
+-- they are so at each step of these that is labelled Cancelled
+abbrev pub CancelsWhereOpened : (c : Counts) (p : Progress) (ls : List Label) (d : Counts) (q : Progress) → Leads c p ls d q → Type 0
+CancelsWhereOpened c p [] d q steps = Unit {0}
+CancelsWhereOpened c p (Shows event.Cancelled ∷ ls) d q steps = IsOpenedAt p × CancelsWhereOpened steps.0 steps.1 ls d q steps.3
+CancelsWhereOpened c p (l ∷ ls) d q steps = CancelsWhereOpened steps.0 steps.1 ls d q steps.3
