@@ -1,7 +1,6 @@
 -- The events of a run that has ended are balanced, and those of any run are so far.
-use Rattle.std.proofs.Common.{◌≡◌, nat_eq, Some, None, List, [], ◌∷◌, ◌++◌, refl, sym, ◌∙◌, ap, subst, append_assoc, append-nil}
+use Rattle.std.proofs.Common.{nat_eq, Some, None, List, [], ◌∷◌, ◌++◌, refl, sym, ap, subst, append_assoc, append-nil}
 use Rattle.std.specs.List.{IsDistinct}
-use Rattle.std.proofs.lemmas.List.Elements.{filter_map-append}
 use Rattle.fx_term.specs.declared.outcome.Outcome.{Outcome}
 use Rattle.fx_term.specs.declared.event.Event.{Event}
 use Rattle.fx_term.specs.Scope.{IsCore}
@@ -9,11 +8,11 @@ use Rattle.fx_fiber.specs.Row.{Beginning, Counts, Label}
 use Rattle.fx_fiber.specs.Step.{Progress, Runs, HasEnded, Step}
 use Rattle.fx_fiber.specs.Step as step
 use Rattle.fx_fiber.specs.Run.{first_counts, Leads, IsRun, events}
-use Rattle.fx_fiber.specs.Balanced.{acquired_number, acquired_numbers, IsBalanced, IsBalancedSoFar, nothing}
+use Rattle.fx_fiber.specs.Balanced.{acquired_numbers, IsBalanced, IsBalancedSoFar, nothing}
 use Rattle.fx_fiber.proofs.AcquiredNumbers.{acquired_in_order, range_is_distinct}
 use Rattle.fx_fiber.proofs.HeldResources.{Held, InRelease, held_for, held_at, core_holds_none, held_by_clean_ups}
 use Rattle.fx_fiber.proofs.Keeping.{events_append}
-use Rattle.fx_fiber.proofs.Nesting.{LeadsTo, Changes, changes_inside, changes_lead, releases, releases_acquire_none, released_is_nested}
+use Rattle.fx_fiber.proofs.Nesting.{LeadsTo, Changes, changes_inside, changes_lead, releases, released_acquires_same, released_is_nested}
 use Rattle.fx_fiber.proofs.CancelledSteps.{must_is_paired}
 use Rattle.fx_fiber.proofs.PairedMasks.{paired_has_no_seal}
 use Rattle.fx_fiber.proofs.ResourceRows.{row_keeps}
@@ -52,6 +51,6 @@ ended_run_is_balanced b ls d o h r = record { nested = run_leads b ls d (HasEnde
 -- what is held can be released
 pub run_is_balanced_so_far : (b : Beginning) (ls : List Label) (d : Counts) (q : Progress) → IsCore b.term → IsRun b ls d q → IsBalancedSoFar (events ls)
 run_is_balanced_so_far b ls d q h r =
-    let same : acquired_numbers (events ls ++ releases (held_at q)) ≡ acquired_numbers (events ls) =
-    filter_map-append acquired_number (events ls) (releases (held_at q)) ∙ ap (λ ns. acquired_numbers (events ls) ++ ns) (releases_acquire_none (held_at q)) ∙ append-nil (acquired_numbers (events ls)) in
-    (releases (held_at q), record { nested = released_is_nested (held_at q) (events ls) (run_leads b ls d q h r); once = subst (IsDistinct nat_eq) (sym same) (run_acquires_once b ls d q r) })
+    let nested = released_is_nested (held_at q) (events ls) (run_leads b ls d q h r) in
+    let once = subst (IsDistinct nat_eq) (sym (released_acquires_same (held_at q) (events ls))) (run_acquires_once b ls d q r) in
+    (releases (held_at q), record { nested = nested; once = once })

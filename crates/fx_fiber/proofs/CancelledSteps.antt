@@ -10,7 +10,7 @@ use Rattle.fx_fiber.specs.Run.{Leads}
 use Rattle.fx_fiber.specs.PairedMasks.{marks, IsPaired, IsOpenedAt, CancelsWhereOpened}
 use Rattle.fx_fiber.proofs.PairedMasks.{open_is_paired}
 
--- cancellation is the one rule only there
+-- where cancellation is the one rule, the masks of the path are opened by their polls
 pub must_is_paired : (known : Bool) (t : Term) → must_cancel known t ≡ true → IsPaired (marks t)
 must_is_paired known t e = open_is_paired t (both_true (is_open t) (known || is_canceled_form (leaf t)) e)
   where
@@ -18,7 +18,7 @@ must_is_paired known t e = open_is_paired t (both_true (is_open t) (known || is_
     both_true true b e = refl
     both_true false b e = absurd (cc)
 
--- no row of the table shows it
+-- no row of the table shows Cancelled
 no_row_cancels : {k : Bool} {c d : Counts} {t u : Term} → Row k c t (Shows event.Cancelled) d u → ⊥
 no_row_cancels (in_let h) = no_row_cancels h
 no_row_cancels (in_handle h) = no_row_cancels h

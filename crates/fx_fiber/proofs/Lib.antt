@@ -18,3 +18,4 @@ pub mod Nesting
 pub mod ResourceRows
 pub mod AcquiredNumbers
 pub mod BalancedRuns
+pub mod MaskPairs

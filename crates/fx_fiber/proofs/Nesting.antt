@@ -1,13 +1,14 @@
 -- The events that lead to the resources that a fiber holds.
-use Rattle.std.proofs.Common.{◌≡◌, ℕ, List, [], ◌∷◌, ◌++◌, refl, ap, subst, append_assoc, append-nil}
+use Rattle.std.proofs.Common.{◌≡◌, ℕ, List, [], ◌∷◌, ◌++◌, refl, ap, subst, ◌∙◌, append_assoc, append-nil}
+use Rattle.std.proofs.lemmas.List.Elements.{filter_map-append}
 use Rattle.fx_term.specs.declared.event.Event.{Event}
 use Rattle.fx_term.specs.declared.event.Event.TheVariants as event
 use Rattle.fx_fiber.specs.Row.{Label, Silent, Shows, Learns, Starts}
 use Rattle.fx_fiber.specs.Run.{events}
-use Rattle.fx_fiber.specs.Balanced.{IsOfNoResource, IsNested, nothing, other, resource, appended, acquired_numbers}
+use Rattle.fx_fiber.specs.Balanced.{IsOfNoResource, IsNested, nothing, other, resource, appended, acquired_number, acquired_numbers}
 use Rattle.fx_fiber.proofs.HeldResources.{Held, InUse, InRelease}
 
--- each resource was acquired, and its release begun where it is in that; since then all is nested
+-- each resource was acquired, and the release of one that is in release has begun; the events between are nested
 abbrev pub LeadsTo : List Held → List Event → Type 0
 LeadsTo [] es = IsNested es
 LeadsTo (InUse k ∷ outer) es = (w : List Event) × (x : List Event) × LeadsTo outer w × IsNested x × (es ≡ w ++ event.Acquired k ∷ x)
@@ -38,7 +39,7 @@ Changes (Shows (event.End k)) s s' = s ≡ InRelease k ∷ s'
 Changes (Learns f o e) s s' = (s' ≡ s) × IsOfNoResource e
 Changes _ s s' = s' ≡ s
 
--- with more that is held outside
+-- the same with more that is held outside
 pub changes_inside : (l : Label) (s s' outer : List Held) → Changes l s s' → Changes l (s ++ outer) (s' ++ outer)
 changes_inside (Shows (event.Acquired k)) s s' outer h = ap (λ (u : List Held). u ++ outer) h
 changes_inside (Shows (event.Begin k)) s s' outer h = (h.0 ++ outer, ap (λ (u : List Held). u ++ outer) h.1, ap (λ (u : List Held). u ++ outer) h.2)
@@ -62,12 +63,16 @@ releases [] = []
 releases (InUse k ∷ outer) = event.Begin k ∷ event.End k ∷ releases outer
 releases (InRelease k ∷ outer) = event.End k ∷ releases outer
 
-pub releases_acquire_none : (s : List Held) → acquired_numbers (releases s) ≡ []
+releases_acquire_none : (s : List Held) → acquired_numbers (releases s) ≡ []
 releases_acquire_none [] = refl
 releases_acquire_none (InUse k ∷ outer) = releases_acquire_none outer
 releases_acquire_none (InRelease k ∷ outer) = releases_acquire_none outer
 
--- with them all is nested
+-- with them no more is acquired
+pub released_acquires_same : (s : List Held) (es : List Event) → acquired_numbers (es ++ releases s) ≡ acquired_numbers es
+released_acquires_same s es = filter_map-append acquired_number es (releases s) ∙ ap (λ (ns : List ℕ). acquired_numbers es ++ ns) (releases_acquire_none s) ∙ append-nil (acquired_numbers es)
+
+-- and all is nested
 pub released_is_nested : (s : List Held) (es : List Event) → LeadsTo s es → IsNested (es ++ releases s)
 released_is_nested [] es h = rw append-nil h
 released_is_nested (InRelease k ∷ s) es h = subst IsNested (append_assoc es (event.End k ∷ []) (releases s)) (released_is_nested s (es ++ event.End k ∷ []) (ends s k es h))

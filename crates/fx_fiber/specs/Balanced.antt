@@ -31,6 +31,6 @@ pub record IsBalanced (es : List Event) : Type 0 where
   pub nested : IsNested es
   pub once : IsDistinct nat_eq (acquired_numbers es)
 
--- what goes on with some events to a balanced list
+-- the beginning of a balanced list
 abbrev pub IsBalancedSoFar : List Event → Type 0
 IsBalancedSoFar es = (rest : List Event) × IsBalanced (es ++ rest)

@@ -1,5 +1,5 @@
 -- Where the masks of a path are opened by their polls.
-use Rattle.std.specs.Prelude.{ℕ, List, [], ◌∷◌, ◌++◌}
+use Rattle.std.specs.Prelude.{◌≡◌, ℕ, List, [], ◌∷◌, ◌++◌}
 use Rattle.fx_term.specs.declared.event.Event.TheVariants as event
 use Rattle.fx_term.specs.Term.{Term, Let, Handle, OnCancel, Bracket, Masked, Opened, Using, Releasing, Await}
 use Rattle.fx_fiber.specs.Row.{Counts, Label, Shows}
@@ -32,12 +32,16 @@ pub data IsPaired : List Mark → Type 0 where
   pair : {r : ℕ} {w : List Mark} → IsPaired w → IsPaired (Closes r ∷ (w ++ Opens r ∷ []))
   appended : {w x : List Mark} → IsPaired w → IsPaired x → IsPaired (w ++ x)
 
+-- a mask with the marks u outside it and v inside has its poll further in; the marks between the two are paired, and so are those round the two
+abbrev pub HasItsPoll : List Mark → ℕ → List Mark → Type 0
+HasItsPoll u r v = (x : List Mark) × (y : List Mark) × (v ≡ x ++ Opens r ∷ y) × IsPaired x × IsPaired (u ++ y)
+
 -- the fiber is at its term, and the masks of the path are opened by their polls
 abbrev pub IsOpenedAt : Progress → Type 0
 IsOpenedAt (Runs t) = IsPaired (marks t)
 IsOpenedAt _ = ⊥
 
--- they are so at each step of these that is labelled Cancelled
+-- they are so at each of these steps that is labelled Cancelled
 abbrev pub CancelsWhereOpened : (c : Counts) (p : Progress) (ls : List Label) (d : Counts) (q : Progress) → Leads c p ls d q → Type 0
 CancelsWhereOpened c p [] d q steps = Unit {0}
 CancelsWhereOpened c p (Shows event.Cancelled ∷ ls) d q steps = IsOpenedAt p × CancelsWhereOpened steps.0 steps.1 ls d q steps.3
