@@ -19,3 +19,15 @@ pub mod ResourceRows
 pub mod AcquiredNumbers
 pub mod BalancedRuns
 pub mod MaskPairs
+pub mod PlainCode
+pub mod NameUses
+pub mod Alike
+pub mod AlikeRows
+pub mod AlikePaths
+pub mod Wrapped
+pub mod WrappedEnds
+pub mod AlikePlaces
+pub mod ShownRuns
+pub mod MaskedRuns
+pub mod MaskEntering
+pub mod MaskLaws

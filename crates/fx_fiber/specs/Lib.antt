@@ -11,3 +11,4 @@ pub mod Fiber
 pub mod MakesStep
 pub mod Balanced
 pub mod PairedMasks
+pub mod MaskLaws

@@ -28,6 +28,7 @@
 mod begin;
 pub mod cancellation_laws;
 mod fiber;
+pub mod mask_laws;
 mod port;
 pub mod resource_laws;
 mod standing;
