@@ -4,19 +4,20 @@ use Rattle.std.specs.Prelude.{IfSome, nat_lt}
 use Rattle.std.specs.Io.KnownBytes.{Appends}
 use Rattle.std.proofs.lemmas.Bool.{cases_lt, lt-ltb}
 use Rattle.std.proofs.lemmas.List.{take_all, length-take}
-use Rattle.fx_term.specs.declared.outcome.Outcome.{Outcome}
 use Rattle.fx_text.specs.declared.fault.TextFault.{TextFault}
 use Rattle.fx_text.specs.declared.fault.TextKind.TheVariants as kind
 use Rattle.fx_text.specs.Fault.{kind_number}
-use Rattle.fx_text.specs.Reading.{Meaning, reading}
+use Rattle.fx_text.specs.Meaning.{Meaning}
+use Rattle.fx_text.specs.Reading.{reading}
 use Rattle.fx_text.specs.Grammar.{IsScript}
-use Rattle.fx_fiber.specs.Run.{IsOutcome}
+use Rattle.fibers.specs.declared.ending.Ending.{Ending}
+use Rattle.fibers.specs.Ending.{IsEnding}
 use Rattle.fibers.specs.Text.{report_text, refusal_text}
-use Rattle.fibers.specs.Answer.{IsAnswer, replayed, refused}
+use Rattle.fibers.specs.Answer.{status_of, IsAnswer, replayed, refused}
 use Rattle.fibers.specs.Replay.{WritesAnswer, WritesFront}
 
-pub answer_replayed : (text : List ℕ) (m : Meaning) (o : Outcome) (written : List ℕ) → IsScript text m → IsOutcome m.term o → written ≡ report_text o → IsAnswer text 0 written
-answer_replayed text m o written s e w = rw w (replayed s e)
+pub answer_replayed : (text : List ℕ) (m : Meaning) (e : Ending) (status : ℕ) (written : List ℕ) → IsScript text m → IsEnding m.term e → status ≡ status_of e → written ≡ report_text e → IsAnswer text status written
+answer_replayed text m e status written s ends n w = rw (n, w) (replayed s ends)
 
 -- the fault of a text is not want of memory, so the text is no script and this is its first fault
 pub answer_refused : (text : List ℕ) (f : TextFault) (number : ℕ) (written : List ℕ) → (f.kind ≡ kind.Memory → ⊥)

@@ -14,6 +14,8 @@ use Rattle.fibers.specs.Simple.{IsSimple}
 -- a node's term is simple where those of its children are; this names no form
 assemble_simple : (n : Node) (f : ℕ → Term) → AllByRecursion (λ c. IsSimple (f c)) (children n) → IsSimple (assemble (Some n) f)
 assemble_simple node.Canceled f each = tt
+assemble_simple node.Never f each = tt
+assemble_simple node.Cede f each = tt
 assemble_simple _ f each = assumption
 
 module _ (nodes : List Node) (tree : ChildrenComeFirst nodes) where

@@ -7,7 +7,10 @@ pub mod Names
 pub mod CodeTerms
 pub mod Moves
 pub mod Nexts
-pub mod Outcomes
+pub mod Waits
+pub mod Gone
+pub mod OneEnding
+pub mod Computed
 pub mod Rows
 pub mod Endings
 pub mod Work

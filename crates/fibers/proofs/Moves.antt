@@ -1,14 +1,16 @@
 -- The row of the table for a simple term, computed: it is a row, and there is no other.
-use Rattle.std.proofs.Common.{◌≡◌, ℕ, Bool, true, false, if◌then◌else◌, Option, Some, None, option_map, refl, subst}
+use Rattle.std.proofs.Common.{◌≡◌, ℕ, zero, suc, ◌+◌, Bool, true, false, if◌then◌else◌, Option, Some, None, option_map, refl, subst}
+use Rattle.std.specs.Prelude.{nat_lt}
+use Rattle.std.proofs.lemmas.Bool.{lt-ltb, le-ltb, ltb-true, ltb-false}
 use Rattle.std.proofs.lemmas.Option.{same_Some}
 use Rattle.fx_term.specs.declared.node.Arg.TheVariants.{Number}
 use Rattle.fx_term.specs.declared.done.Done.{Done}
 use Rattle.fx_term.specs.declared.done.Done.TheVariants.{Val, Err}
 use Rattle.fx_term.specs.declared.event.Event.TheVariants as event
-use Rattle.fx_term.specs.Term.{Term, Pure, Raise, Canceled, Let, Handle, Mask, Poll, OnCancel, Finished, Masked, Opened, put, put_named}
-use Rattle.fx_fiber.specs.Row.{Counts, one_more_mask, known_canceled, Label, Silent, Shows, Row}
+use Rattle.fx_term.specs.Term.{Term, Pure, Raise, Canceled, Cede, Let, Handle, If, For, Mask, Poll, OnCancel, Bracket, Finished, Masked, Opened, Using, Releasing, Loop, put, put_named}
+use Rattle.fx_fiber.specs.Row.{Counts, one_more_mask, one_more_acquired, known_canceled, Label, Silent, Shows, after_release, Row}
 use Rattle.fx_fiber.specs.Row as row
-use Rattle.fibers.proofs.Names.{IsSimpleOver, over_put, over_put_named}
+use Rattle.fibers.proofs.Names.{IsSimpleOver, names_under, over_more, over_put, over_put_named}
 use Rattle.fibers.proofs.Mapped.{mapped}
 
 -- what a row leads to, and with which label
@@ -33,30 +35,57 @@ done_of (Finished v) = Some v
 done_of _ = None
 
 -- the row of a context whose inside is finished, else a row inside
-abbrev pub in_context : Counts → Option Done → (Done → Term) → Option Moved → (Term → Term) → Option Moved
-in_context c (Some v) ends moved context = Some (silently c (ends v))
-in_context c None ends moved context = option_map (moved_in context) moved
+abbrev pub in_context : Option Done → (Done → Moved) → Option Moved → (Term → Term) → Option Moved
+in_context (Some v) ends moved context = Some (ends v)
+in_context None ends moved context = option_map (moved_in context) moved
 
-abbrev pub after_let : Option ℕ → Term → Done → Term
-after_let x b (Val n) = put_named x n b
-after_let x b (Err e) = Finished (Err e)
+-- a context that is left with the result of its inside
+abbrev pub left : Counts → Done → Moved
+left c v = silently c (Finished v)
 
-abbrev pub after_handle : Option ℕ → Term → Done → Term
-after_handle x b (Val n) = Finished (Val n)
-after_handle x b (Err e) = put_named x e b
+abbrev pub after_let : Counts → Option ℕ → Term → Done → Moved
+after_let c x b (Val n) = silently c (put_named x n b)
+after_let c x b (Err e) = silently c (Finished (Err e))
+
+abbrev pub after_handle : Counts → Option ℕ → Term → Done → Moved
+after_handle c x b (Val n) = silently c (Finished (Val n))
+after_handle c x b (Err e) = silently c (put_named x e b)
+
+abbrev pub after_acquire : Counts → Option ℕ → Term → Term → Done → Moved
+after_acquire c x u r (Val n) = record { label = Shows (event.Acquired c.acquired); counts = one_more_acquired c; term = Using c.acquired (put_named x n u) (put_named x n r) }
+after_acquire c x u r (Err e) = silently c (Finished (Err e))
+
+abbrev pub after_use : Counts → ℕ → Term → Done → Moved
+after_use c k r v = record { label = Shows (event.Begin k); counts = c; term = Releasing k r v }
+
+abbrev pub at_release_end : Counts → ℕ → Done → Done → Moved
+at_release_end c k v w = record { label = Shows (event.End k); counts = c; term = Finished (after_release w v) }
+
+-- a loop whose turn comes, or has passed
+abbrev pub loop_move : Counts → ℕ → ℕ → ℕ → Term → Bool → Moved
+loop_move c i k n t true = silently c (Let None (put i k t) (Loop i (k + 1) n t))
+loop_move c i k n t false = silently c (Finished (Val 0))
 
 -- what the row of the table leads to, if there is one
 abbrev pub move : Bool → Counts → Term → Option Moved
 move k c (Pure (Number n)) = Some (silently c (Finished (Val n)))
 move k c (Raise (Number n)) = Some (silently c (Finished (Err n)))
 move k c Canceled = if k then Some (self_requested c) else None
-move k c (Let x a b) = in_context c (done_of a) (after_let x b) (move k c a) (λ t. Let x t b)
-move k c (Handle a x b) = in_context c (done_of a) (after_handle x b) (move k c a) (λ t. Handle t x b)
+move k c Cede = Some (silently c (Finished (Val 0)))
+move k c (Let x a b) = in_context (done_of a) (after_let c x b) (move k c a) (λ t. Let x t b)
+move k c (Handle a x b) = in_context (done_of a) (after_handle c x b) (move k c a) (λ t. Handle t x b)
+move k c (If (Number zero) a b) = Some (silently c b)
+move k c (If (Number (suc n)) a b) = Some (silently c a)
+move k c (For i n a) = Some (silently c (Loop i 0 n a))
 move k c (Mask p a) = Some (silently (one_more_mask c) (Masked c.masks (put p c.masks a)))
 move k c (Poll (Number r) a) = Some (silently c (Opened r a))
-move k c (OnCancel a f) = in_context c (done_of a) Finished (move k c a) (λ t. OnCancel t f)
-move k c (Masked r a) = in_context c (done_of a) Finished (move k c a) (Masked r)
-move k c (Opened r a) = in_context c (done_of a) Finished (move k c a) (Opened r)
+move k c (OnCancel a f) = in_context (done_of a) (left c) (move k c a) (λ t. OnCancel t f)
+move k c (Bracket x a u r) = in_context (done_of a) (after_acquire c x u r) (move k c a) (λ t. Bracket x t u r)
+move k c (Masked r a) = in_context (done_of a) (left c) (move k c a) (Masked r)
+move k c (Opened r a) = in_context (done_of a) (left c) (move k c a) (Opened r)
+move k c (Using i a r) = in_context (done_of a) (after_use c i r) (move k c a) (λ t. Using i t r)
+move k c (Releasing i a v) = in_context (done_of a) (at_release_end c i v) (move k c a) (λ t. Releasing i t v)
+move k c (Loop i j n a) = Some (loop_move c i j n a (nat_lt j n))
 move k c _ = None
 
 -- a result does not move
@@ -65,7 +94,7 @@ moving_is_unfinished k c (Finished v) e = absurd cc
 moving_is_unfinished k c _ e = refl
 
 -- a term that moves inside a context moves the whole
-pub moves_inside : (k : Bool) (c : Counts) (a : Term) {m : Moved} (ends : Done → Term) (context : Term → Term) → move k c a ≡ Some m → in_context c (done_of a) ends (move k c a) context ≡ Some (moved_in context m)
+pub moves_inside : (k : Bool) (c : Counts) (a : Term) {m : Moved} (ends : Done → Moved) (context : Term → Term) → move k c a ≡ Some m → in_context (done_of a) ends (move k c a) context ≡ Some (moved_in context m)
 moves_inside k c a ends context e = let u = moving_is_unfinished k c a e in rw (u, e) refl
 
 -- a row of a simple term is the computed one, and leads to a simple term over the same names
@@ -76,7 +105,14 @@ pub record IsMove (names : ℕ → Type 0) (k : Bool) (c : Counts) (t : Term) (m
 pub row_is_move : (names : ℕ → Type 0) {k : Bool} {c d : Counts} {t t' : Term} {l : Label} → Row k c t l d t' → IsSimpleOver names t → IsMove names k c t (record { label = l; counts = d; term = t' })
 row_is_move names row.pure s = record { moves = refl; simple = tt }
 row_is_move names row.raise s = record { moves = refl; simple = tt }
+row_is_move names row.cede s = record { moves = refl; simple = tt }
 row_is_move names (row.self_request e) s = record { moves = rw e refl; simple = tt }
+row_is_move names row.if_not_zero s = record { moves = refl; simple = s.1 }
+row_is_move names row.if_zero s = record { moves = refl; simple = s.2 }
+row_is_move names row.for_begins s = record { moves = refl; simple = s }
+row_is_move names (row.loop_turns {i = i} {k = j} {n = n} {t = a} h) s =
+    record { moves = rw (lt-ltb j n h) refl; simple = (over_put names i j a s, over_more names (names_under None names) (Loop i (j + 1) n a) (λ y p. p) s) }
+row_is_move names (row.loop_ends {k = j} {n = n} h) s = record { moves = rw (le-ltb j n h) refl; simple = tt }
 row_is_move names (row.let_value {x = x} {n = n} {b = b}) s = record { moves = refl; simple = over_put_named names x n b s.1 }
 row_is_move names row.let_error s = record { moves = refl; simple = tt }
 row_is_move names row.handle_value s = record { moves = refl; simple = tt }
@@ -86,21 +122,34 @@ row_is_move names row.poll s = record { moves = refl; simple = s.1 }
 row_is_move names row.masked_ends s = record { moves = refl; simple = tt }
 row_is_move names row.opened_ends s = record { moves = refl; simple = tt }
 row_is_move names row.oncancel_ends s = record { moves = refl; simple = tt }
+row_is_move names (row.acquired {x = x} {n = n} {u = u} {r = r}) s = record { moves = refl; simple = (over_put_named names x n u s.1, over_put_named names x n r s.2) }
+row_is_move names row.acquire_fails s = record { moves = refl; simple = tt }
+row_is_move names row.used s = record { moves = refl; simple = s.1 }
+row_is_move names row.released s = record { moves = refl; simple = tt }
 row_is_move names {k = k} {c = c} (row.in_let {x = x} {a = a} {b = b} r) s =
     let m = row_is_move names r s.0 in
-    record { moves = moves_inside k c a (after_let x b) (λ t. Let x t b) m.moves; simple = (m.simple, s.1) }
+    record { moves = moves_inside k c a (after_let c x b) (λ t. Let x t b) m.moves; simple = (m.simple, s.1) }
 row_is_move names {k = k} {c = c} (row.in_handle {x = x} {a = a} {b = b} r) s =
     let m = row_is_move names r s.0 in
-    record { moves = moves_inside k c a (after_handle x b) (λ t. Handle t x b) m.moves; simple = (m.simple, s.1) }
+    record { moves = moves_inside k c a (after_handle c x b) (λ t. Handle t x b) m.moves; simple = (m.simple, s.1) }
 row_is_move names {k = k} {c = c} (row.in_oncancel {a = a} {f = f} r) s =
     let m = row_is_move names r s.0 in
-    record { moves = moves_inside k c a Finished (λ t. OnCancel t f) m.moves; simple = (m.simple, s.1) }
+    record { moves = moves_inside k c a (left c) (λ t. OnCancel t f) m.moves; simple = (m.simple, s.1) }
+row_is_move names {k = k} {c = c} (row.in_acquire {x = x} {a = a} {u = u} {r = v} r) s =
+    let m = row_is_move names r s.0 in
+    record { moves = moves_inside k c a (after_acquire c x u v) (λ t. Bracket x t u v) m.moves; simple = (m.simple, s.1, s.2) }
 row_is_move names {k = k} {c = c} (row.in_masked {r = i} {a = a} r) s =
     let m = row_is_move names r s in
-    record { moves = moves_inside k c a Finished (Masked i) m.moves; simple = m.simple }
+    record { moves = moves_inside k c a (left c) (Masked i) m.moves; simple = m.simple }
 row_is_move names {k = k} {c = c} (row.in_opened {r = i} {a = a} r) s =
     let m = row_is_move names r s in
-    record { moves = moves_inside k c a Finished (Opened i) m.moves; simple = m.simple }
+    record { moves = moves_inside k c a (left c) (Opened i) m.moves; simple = m.simple }
+row_is_move names {k = k} {c = c} (row.in_using {k = i} {a = a} {r = v} r) s =
+    let m = row_is_move names r s.0 in
+    record { moves = moves_inside k c a (after_use c i v) (λ t. Using i t v) m.moves; simple = (m.simple, s.1) }
+row_is_move names {k = k} {c = c} (row.in_releasing {k = i} {a = a} {v = v} r) s =
+    let m = row_is_move names r s in
+    record { moves = moves_inside k c a (at_release_end c i v) (λ t. Releasing i t v) m.moves; simple = m.simple }
 row_is_move names _ s = absurd s
 
 -- the row that leads there
@@ -114,23 +163,39 @@ self_request_is_row : (k : Bool) (c : Counts) {m : Moved} → (if k then Some (s
 self_request_is_row true c e = row_to (row.self_request refl) e
 self_request_is_row false c e = absurd cc
 
+loop_is_row : (k : Bool) (c : Counts) (i j n : ℕ) (t : Term) (b : Bool) → nat_lt j n ≡ b → RowTo k c (Loop i j n t) (loop_move c i j n t b)
+loop_is_row k c i j n t true e = row.loop_turns (ltb-true j n e)
+loop_is_row k c i j n t false e = row.loop_ends (ltb-false j n e)
+
 -- the computed row is a row
 pub move_is_row : (k : Bool) (c : Counts) (t : Term) {m : Moved} → move k c t ≡ Some m → RowTo k c t m
 move_is_row k c (Pure (Number n)) e = row_to row.pure e
 move_is_row k c (Raise (Number n)) e = row_to row.raise e
 move_is_row k c Canceled e = self_request_is_row k c e
+move_is_row k c Cede e = row_to row.cede e
 move_is_row k c (Let x (Finished (Val n)) b) e = row_to row.let_value e
 move_is_row k c (Let x (Finished (Err n)) b) e = row_to row.let_error e
 move_is_row k c (Let x a b) e = let m = mapped (moved_in (λ t. Let x t b)) (move k c a) e in row_to (row.in_let (move_is_row k c a m.was)) m.to
 move_is_row k c (Handle (Finished (Val n)) x b) e = row_to row.handle_value e
 move_is_row k c (Handle (Finished (Err n)) x b) e = row_to row.handle_error e
 move_is_row k c (Handle a x b) e = let m = mapped (moved_in (λ t. Handle t x b)) (move k c a) e in row_to (row.in_handle (move_is_row k c a m.was)) m.to
+move_is_row k c (If (Number zero) a b) e = row_to row.if_zero e
+move_is_row k c (If (Number (suc n)) a b) e = row_to row.if_not_zero e
+move_is_row k c (For i n a) e = row_to row.for_begins e
 move_is_row k c (Mask p a) e = row_to row.mask e
 move_is_row k c (Poll (Number r) a) e = row_to row.poll e
 move_is_row k c (OnCancel (Finished v) f) e = row_to row.oncancel_ends e
 move_is_row k c (OnCancel a f) e = let m = mapped (moved_in (λ t. OnCancel t f)) (move k c a) e in row_to (row.in_oncancel (move_is_row k c a m.was)) m.to
+move_is_row k c (Bracket x (Finished (Val n)) u r) e = row_to row.acquired e
+move_is_row k c (Bracket x (Finished (Err n)) u r) e = row_to row.acquire_fails e
+move_is_row k c (Bracket x a u r) e = let m = mapped (moved_in (λ t. Bracket x t u r)) (move k c a) e in row_to (row.in_acquire (move_is_row k c a m.was)) m.to
 move_is_row k c (Masked r (Finished v)) e = row_to row.masked_ends e
 move_is_row k c (Masked r a) e = let m = mapped (moved_in (Masked r)) (move k c a) e in row_to (row.in_masked (move_is_row k c a m.was)) m.to
 move_is_row k c (Opened r (Finished v)) e = row_to row.opened_ends e
 move_is_row k c (Opened r a) e = let m = mapped (moved_in (Opened r)) (move k c a) e in row_to (row.in_opened (move_is_row k c a m.was)) m.to
+move_is_row k c (Using i (Finished v) r) e = row_to row.used e
+move_is_row k c (Using i a r) e = let m = mapped (moved_in (λ t. Using i t r)) (move k c a) e in row_to (row.in_using (move_is_row k c a m.was)) m.to
+move_is_row k c (Releasing i (Finished w) v) e = row_to row.released e
+move_is_row k c (Releasing i a v) e = let m = mapped (moved_in (λ t. Releasing i t v)) (move k c a) e in row_to (row.in_releasing (move_is_row k c a m.was)) m.to
+move_is_row k c (Loop i j n a) e = row_to (loop_is_row k c i j n a (nat_lt j n) refl) e
 move_is_row k c _ e = absurd cc

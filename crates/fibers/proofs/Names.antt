@@ -3,7 +3,7 @@ use Rattle.std.proofs.Common.{◌≡◌, ◌⊎◌, inl, inr, ℕ, suc, Bool, tr
 use Rattle.std.proofs.lemmas.Bool.{eqb-false, cases_lt}
 use Rattle.fx_term.specs.declared.node.Arg.{Arg}
 use Rattle.fx_term.specs.declared.node.Arg.TheVariants.{Number, Slot}
-use Rattle.fx_term.specs.Term.{Term, Pure, Raise, Canceled, Let, Handle, Mask, Poll, OnCancel, Finished, Masked, Opened, put_arg, put, put_named}
+use Rattle.fx_term.specs.Term.{Term, Pure, Raise, Canceled, Never, Cede, Let, Handle, If, For, Mask, Poll, OnCancel, Bracket, Finished, Masked, Opened, Using, Releasing, Loop, put_arg, put, put_named}
 use Rattle.fx_term.specs.Scope.{IsArgBelow, IsBinderAt, bound_under, HasLevels}
 use Rattle.fibers.specs.Simple.{IsSimple}
 
@@ -22,14 +22,22 @@ abbrev pub IsSimpleOver : (ℕ → Type 0) → Term → Type 0
 IsSimpleOver names (Pure a) = IsArgOver names a
 IsSimpleOver names (Raise a) = IsArgOver names a
 IsSimpleOver names Canceled = Unit {0}
+IsSimpleOver names Never = Unit {0}
+IsSimpleOver names Cede = Unit {0}
 IsSimpleOver names (Let x a b) = IsSimpleOver names a × IsSimpleOver (names_under x names) b
 IsSimpleOver names (Handle a x b) = IsSimpleOver names a × IsSimpleOver (names_under x names) b
+IsSimpleOver names (If v a b) = IsArgOver names v × IsSimpleOver names a × IsSimpleOver names b
+IsSimpleOver names (For i n a) = IsSimpleOver (names_under (Some i) names) a
 IsSimpleOver names (Mask p a) = IsSimpleOver (names_under (Some p) names) a
 IsSimpleOver names (Poll p a) = IsArgOver names p × IsSimpleOver names a
 IsSimpleOver names (OnCancel a f) = IsSimpleOver names a × IsSimpleOver names f
+IsSimpleOver names (Bracket x a u r) = IsSimpleOver names a × IsSimpleOver (names_under x names) u × IsSimpleOver (names_under x names) r
 IsSimpleOver names (Finished v) = Unit {0}
 IsSimpleOver names (Masked r a) = IsSimpleOver names a
 IsSimpleOver names (Opened r a) = IsSimpleOver names a
+IsSimpleOver names (Using k a r) = IsSimpleOver names a × IsSimpleOver names r
+IsSimpleOver names (Releasing k a v) = IsSimpleOver names a
+IsSimpleOver names (Loop i k n a) = IsSimpleOver (names_under (Some i) names) a
 IsSimpleOver names _ = ⊥
 
 -- each simple term is one over all names
@@ -45,14 +53,22 @@ pub simple_over_all : (names : ℕ → Type 0) (t : Term) → ((y : ℕ) → nam
 simple_over_all names (Pure a) all s = arg_over_all names a all
 simple_over_all names (Raise a) all s = arg_over_all names a all
 simple_over_all names Canceled all s = tt
+simple_over_all names Never all s = tt
+simple_over_all names Cede all s = tt
 simple_over_all names (Let x a b) all s = (simple_over_all names a all s.0, simple_over_all (names_under x names) b (all_under names x all) s.1)
 simple_over_all names (Handle a x b) all s = (simple_over_all names a all s.0, simple_over_all (names_under x names) b (all_under names x all) s.1)
+simple_over_all names (If v a b) all s = (arg_over_all names v all, simple_over_all names a all s.0, simple_over_all names b all s.1)
+simple_over_all names (For i n a) all s = simple_over_all (names_under (Some i) names) a (all_under names (Some i) all) s
 simple_over_all names (Mask p a) all s = simple_over_all (names_under (Some p) names) a (all_under names (Some p) all) s
 simple_over_all names (Poll p a) all s = (arg_over_all names p all, simple_over_all names a all s)
 simple_over_all names (OnCancel a f) all s = (simple_over_all names a all s.0, simple_over_all names f all s.1)
+simple_over_all names (Bracket x a u r) all s = (simple_over_all names a all s.0, simple_over_all (names_under x names) u (all_under names x all) s.1, simple_over_all (names_under x names) r (all_under names x all) s.2)
 simple_over_all names (Finished v) all s = tt
 simple_over_all names (Masked r a) all s = simple_over_all names a all s
 simple_over_all names (Opened r a) all s = simple_over_all names a all s
+simple_over_all names (Using k a r) all s = (simple_over_all names a all s.0, simple_over_all names r all s.1)
+simple_over_all names (Releasing k a v) all s = simple_over_all names a all s
+simple_over_all names (Loop i k n a) all s = simple_over_all (names_under (Some i) names) a (all_under names (Some i) all) s
 simple_over_all names _ all s = absurd s
 
 -- a term over these names is one over more
@@ -65,18 +81,26 @@ arg_more : (P Q : ℕ → Type 0) (a : Arg) → ((y : ℕ) → P y → Q y) → 
 arg_more P Q (Number n) f h = tt
 arg_more P Q (Slot x) f h = f x h
 
-over_more : (P Q : ℕ → Type 0) (t : Term) → ((y : ℕ) → P y → Q y) → IsSimpleOver P t → IsSimpleOver Q t
+pub over_more : (P Q : ℕ → Type 0) (t : Term) → ((y : ℕ) → P y → Q y) → IsSimpleOver P t → IsSimpleOver Q t
 over_more P Q (Pure a) f h = arg_more P Q a f h
 over_more P Q (Raise a) f h = arg_more P Q a f h
 over_more P Q Canceled f h = tt
+over_more P Q Never f h = tt
+over_more P Q Cede f h = tt
 over_more P Q (Let x a b) f h = (over_more P Q a f h.0, over_more (names_under x P) (names_under x Q) b (under_more P Q x f) h.1)
 over_more P Q (Handle a x b) f h = (over_more P Q a f h.0, over_more (names_under x P) (names_under x Q) b (under_more P Q x f) h.1)
+over_more P Q (If v a b) f h = (arg_more P Q v f h.0, over_more P Q a f h.1, over_more P Q b f h.2)
+over_more P Q (For i n a) f h = over_more (names_under (Some i) P) (names_under (Some i) Q) a (under_more P Q (Some i) f) h
 over_more P Q (Mask p a) f h = over_more (names_under (Some p) P) (names_under (Some p) Q) a (under_more P Q (Some p) f) h
 over_more P Q (Poll p a) f h = (arg_more P Q p f h.0, over_more P Q a f h.1)
 over_more P Q (OnCancel a b) f h = (over_more P Q a f h.0, over_more P Q b f h.1)
+over_more P Q (Bracket x a u r) f h = (over_more P Q a f h.0, over_more (names_under x P) (names_under x Q) u (under_more P Q x f) h.1, over_more (names_under x P) (names_under x Q) r (under_more P Q x f) h.2)
 over_more P Q (Finished v) f h = tt
 over_more P Q (Masked r a) f h = over_more P Q a f h
 over_more P Q (Opened r a) f h = over_more P Q a f h
+over_more P Q (Using k a r) f h = (over_more P Q a f h.0, over_more P Q r f h.1)
+over_more P Q (Releasing k a v) f h = over_more P Q a f h
+over_more P Q (Loop i k n a) f h = over_more (names_under (Some i) P) (names_under (Some i) Q) a (under_more P Q (Some i) f) h
 over_more P Q _ f h = absurd h
 
 -- two binders bind the same names in either order
@@ -103,14 +127,22 @@ pub over_put : (P : ℕ → Type 0) (x n : ℕ) (t : Term) → IsSimpleOver (nam
 over_put P x n (Pure a) h = arg_put P x n a h
 over_put P x n (Raise a) h = arg_put P x n a h
 over_put P x n Canceled h = tt
+over_put P x n Never h = tt
+over_put P x n Cede h = tt
 over_put P x n (Let z a b) h = (over_put P x n a h.0, over_put (names_under z P) x n b (over_swap P x z b h.1))
 over_put P x n (Handle a z b) h = (over_put P x n a h.0, over_put (names_under z P) x n b (over_swap P x z b h.1))
+over_put P x n (If v a b) h = (arg_put P x n v h.0, over_put P x n a h.1, over_put P x n b h.2)
+over_put P x n (For i m a) h = over_put (names_under (Some i) P) x n a (over_swap P x (Some i) a h)
 over_put P x n (Mask p a) h = over_put (names_under (Some p) P) x n a (over_swap P x (Some p) a h)
 over_put P x n (Poll p a) h = (arg_put P x n p h.0, over_put P x n a h.1)
 over_put P x n (OnCancel a f) h = (over_put P x n a h.0, over_put P x n f h.1)
+over_put P x n (Bracket z a u r) h = (over_put P x n a h.0, over_put (names_under z P) x n u (over_swap P x z u h.1), over_put (names_under z P) x n r (over_swap P x z r h.2))
 over_put P x n (Finished v) h = tt
 over_put P x n (Masked r a) h = over_put P x n a h
 over_put P x n (Opened r a) h = over_put P x n a h
+over_put P x n (Using k a r) h = (over_put P x n a h.0, over_put P x n r h.1)
+over_put P x n (Releasing k a v) h = over_put P x n a h
+over_put P x n (Loop i k m a) h = over_put (names_under (Some i) P) x n a (over_swap P x (Some i) a h)
 over_put P x n _ h = absurd h
 
 pub over_put_named : (P : ℕ → Type 0) (x : Option ℕ) (n : ℕ) (t : Term) → IsSimpleOver (names_under x P) t → IsSimpleOver P (put_named x n t)
@@ -134,14 +166,22 @@ over_below : (bound : ℕ) (t : Term) → IsSimple t → HasLevels bound t → I
 over_below bound (Pure a) s h = arg_below bound a h
 over_below bound (Raise a) s h = arg_below bound a h
 over_below bound Canceled s h = tt
+over_below bound Never s h = tt
+over_below bound Cede s h = tt
 over_below bound (Let x a b) s h = (over_below bound a s.0 h.0, over_under bound x b h.1 (over_below (bound_under bound x) b s.1 h.2))
 over_below bound (Handle a x b) s h = (over_below bound a s.0 h.0, over_under bound x b h.1 (over_below (bound_under bound x) b s.1 h.2))
+over_below bound (If v a b) s h = (arg_below bound v h.0, over_below bound a s.0 h.1, over_below bound b s.1 h.2)
+over_below bound (For i n a) s h = over_under bound (Some i) a h.0 (over_below (suc bound) a s h.1)
 over_below bound (Mask p a) s h = over_under bound (Some p) a h.0 (over_below (suc bound) a s h.1)
 over_below bound (Poll p a) s h = (arg_below bound p h.0, over_below bound a s h.1)
 over_below bound (OnCancel a f) s h = (over_below bound a s.0 h.0, over_below bound f s.1 h.1)
+over_below bound (Bracket x a u r) s h = (over_below bound a s.0 h.0, over_under bound x u h.1 (over_below (bound_under bound x) u s.1 h.2), over_under bound x r h.1 (over_below (bound_under bound x) r s.2 h.3))
 over_below bound (Finished v) s h = tt
 over_below bound (Masked r a) s h = absurd h
 over_below bound (Opened r a) s h = absurd h
+over_below bound (Using k a r) s h = absurd h
+over_below bound (Releasing k a v) s h = absurd h
+over_below bound (Loop i k n a) s h = absurd h
 over_below bound _ s h = absurd s
 
 -- no name

@@ -8,7 +8,7 @@ use Rattle.fx_term.specs.declared.outcome.Outcome.TheVariants.{Succeeded, Errore
 use Rattle.fx_term.specs.declared.outcome.Outcome.TheVariants as outcome
 use Rattle.fx_term.specs.declared.event.Event.TheVariants as event
 use Rattle.fx_term.specs.Term.{Term, Finished}
-use Rattle.fx_fiber.specs.Path.{CleanUp, Finalizer, clean_ups, is_open, must_cancel}
+use Rattle.fx_fiber.specs.Path.{CleanUp, Finalizer, Release, clean_ups, is_open, must_cancel}
 use Rattle.fx_fiber.specs.Row.{Counts, Label, Silent, Shows}
 use Rattle.fx_fiber.specs.Step.{Progress, Runs, Unwinds, CleansUp, HasEnded, Step}
 use Rattle.fx_fiber.specs.Step as step
@@ -42,6 +42,11 @@ cancel_next c t = shown (Shows event.Cancelled) c (Unwinds (clean_ups t))
 abbrev pub end_next : Counts → Done → Next
 end_next c v = shown (Shows (event.Ended (outcome_of_done v))) c (HasEnded (outcome_of_done v))
 
+-- the end of a clean-up
+abbrev pub cleaned_next : Option ℕ → Counts → List CleanUp → Done → Next
+cleaned_next None c rest v = shown Silent c (Unwinds rest)
+cleaned_next (Some k) c rest v = shown (Shows (event.End k)) c (Unwinds rest)
+
 -- at a result the step is the end of its part, else it is the row
 abbrev pub goes_on : (Done → Next) → (Term → Progress) → Option Done → Option Moved → Option Next
 goes_on ends at_term (Some v) moved = Some (ends v)
@@ -52,8 +57,9 @@ abbrev pub next : Counts → Progress → Option Next
 next c (Runs t) = if must_cancel c.known t then Some (cancel_next c t) else goes_on (end_next c) Runs (done_of t) (move (not (is_open t)) c t)
 next c (Unwinds []) = Some (shown (Shows (event.Ended outcome.Canceled)) c (HasEnded outcome.Canceled))
 next c (Unwinds (Finalizer f ∷ rest)) = Some (shown Silent c (CleansUp None f rest))
-next c (CleansUp None t rest) = goes_on (λ v. shown Silent c (Unwinds rest)) (λ u. CleansUp None u rest) (done_of t) (move true c t)
-next c _ = None
+next c (Unwinds (Release k r ∷ rest)) = Some (shown (Shows (event.Begin k)) c (CleansUp (Some k) r rest))
+next c (CleansUp k t rest) = goes_on (cleaned_next k c rest) (λ u. CleansUp k u rest) (done_of t) (move true c t)
+next c (HasEnded o) = None
 
 -- a part that moves moves the whole
 pub goes_on_row : (k : Bool) (c : Counts) (t : Term) {m : Moved} (ends : Done → Next) (at_term : Term → Progress) → move k c t ≡ Some m → goes_on ends at_term (done_of t) (move k c t) ≡ Some (next_of at_term m)
@@ -74,13 +80,12 @@ step_is_next names {c = c} (step.row {t = t} e r) n s =
 step_is_next names (step.succeeds e) n s = record { next = rw e refl; simple = tt }
 step_is_next names (step.errs e) n s = record { next = rw e refl; simple = tt }
 step_is_next names step.finalizer n s = record { next = refl; simple = s }
-step_is_next names step.release n s = absurd s
-step_is_next names {c = c} (step.cleans {k = None} {t = t} {rest = rest} r) n s =
+step_is_next names step.release n s = record { next = refl; simple = s }
+step_is_next names {c = c} (step.cleans {k = k} {t = t} {rest = rest} r) n s =
     let m = row_is_move names r s.0 in
-    record { next = goes_on_row true c t (λ v. shown Silent c (Unwinds rest)) (λ u. CleansUp None u rest) m.moves; simple = (m.simple, s.1) }
-step_is_next names (step.cleans {k = Some k} r) n s = absurd s
+    record { next = goes_on_row true c t (cleaned_next k c rest) (λ u. CleansUp k u rest) m.moves; simple = (m.simple, s.1) }
 step_is_next names step.finalizer_ends n s = record { next = refl; simple = s.1 }
-step_is_next names step.release_ends n s = absurd s
+step_is_next names step.release_ends n s = record { next = refl; simple = s.1 }
 step_is_next names step.unwound n s = record { next = refl; simple = tt }
 
 -- the step that leads there, which finds no request
@@ -104,11 +109,15 @@ running_is_step : (c : Counts) (t : Term) {n : Next} → (b : Bool) → must_can
 running_is_step c t true u e = step_to (step.cancelled u) (λ h. cc) e
 running_is_step c t false u e = going_on_is_step c t u e
 
--- a fiber in a finalizer
-cleaning_is_step : (c : Counts) (t : Term) (rest : List CleanUp) {n : Next} → goes_on (λ v. shown Silent c (Unwinds rest)) (λ u. CleansUp None u rest) (done_of t) (move true c t) ≡ Some n → HasStep c (CleansUp None t rest) n
-cleaning_is_step c (Finished v) rest e = step_to step.finalizer_ends (λ h. cc) e
-cleaning_is_step c t rest e =
-    let m = mapped (next_of (λ u. CleansUp None u rest)) (move true c t) e in
+-- a fiber in a clean-up
+cleaned_is_step : (k : Option ℕ) (c : Counts) (v : Done) (rest : List CleanUp) {n : Next} → Some (cleaned_next k c rest v) ≡ Some n → HasStep c (CleansUp k (Finished v) rest) n
+cleaned_is_step None c v rest e = step_to step.finalizer_ends (λ h. cc) e
+cleaned_is_step (Some k) c v rest e = step_to step.release_ends (λ h. cc) e
+
+cleaning_is_step : (k : Option ℕ) (c : Counts) (t : Term) (rest : List CleanUp) {n : Next} → goes_on (cleaned_next k c rest) (λ u. CleansUp k u rest) (done_of t) (move true c t) ≡ Some n → HasStep c (CleansUp k t rest) n
+cleaning_is_step k c (Finished v) rest e = cleaned_is_step k c v rest e
+cleaning_is_step k c t rest e =
+    let m = mapped (next_of (λ u. CleansUp k u rest)) (move true c t) e in
     let r = move_is_row true c t m.was in
     step_to (step.cleans r) (row_unseen r) m.to
 
@@ -116,5 +125,6 @@ pub next_is_step : (c : Counts) (p : Progress) {n : Next} → next c p ≡ Some 
 next_is_step c (Runs t) e = running_is_step c t (must_cancel c.known t) refl e
 next_is_step c (Unwinds []) e = step_to step.unwound (λ h. cc) e
 next_is_step c (Unwinds (Finalizer f ∷ rest)) e = step_to step.finalizer (λ h. cc) e
-next_is_step c (CleansUp None t rest) e = cleaning_is_step c t rest e
-next_is_step c _ e = absurd cc
+next_is_step c (Unwinds (Release k r ∷ rest)) e = step_to step.release (λ h. cc) e
+next_is_step c (CleansUp k t rest) e = cleaning_is_step k c t rest e
+next_is_step c (HasEnded o) e = absurd cc

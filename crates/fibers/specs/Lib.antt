@@ -1,5 +1,6 @@
 pub mod Fault
 pub mod Input
+pub mod Ending
 pub mod Text
 pub mod Answer
 pub mod Replay

@@ -2,6 +2,8 @@
 use Rattle.std.specs.Prelude.{ℕ, List, [], ◌∷◌, ◌++◌, codes, decimal}
 use Rattle.fx_term.specs.declared.outcome.Outcome.{Outcome}
 use Rattle.fx_term.specs.declared.outcome.Outcome.TheVariants.{Succeeded, Errored, Canceled}
+use Rattle.fibers.specs.declared.ending.Ending.{Ending}
+use Rattle.fibers.specs.declared.ending.Ending.TheVariants.{Ended, Blocked}
 
 abbrev pub line_end : List ℕ
 line_end = 10 ∷ []
@@ -11,13 +13,17 @@ outcome_text (Succeeded n) = codes "succeeded " ++ decimal n
 outcome_text (Errored n) = codes "errored " ++ decimal n
 outcome_text Canceled = codes "canceled"
 
--- the line of a fiber that has ended
-abbrev pub fiber_line : ℕ → Outcome → List ℕ
-fiber_line id o = codes "fiber " ++ decimal id ++ codes " " ++ outcome_text o ++ line_end
+abbrev pub ending_text : Ending → List ℕ
+ending_text (Ended o) = outcome_text o
+ending_text Blocked = codes "blocked"
 
--- the report of a script whose one fiber, the main one, ended so
-abbrev pub report_text : Outcome → List ℕ
-report_text o = fiber_line 0 o
+-- the line of a fiber that went out so
+abbrev pub fiber_line : ℕ → Ending → List ℕ
+fiber_line id e = codes "fiber " ++ decimal id ++ codes " " ++ ending_text e ++ line_end
+
+-- the report of a script whose one fiber, the main one, went out so
+abbrev pub report_text : Ending → List ℕ
+report_text e = fiber_line 0 e
 
 -- the line for a text that is refused by a fault of this kind at this byte
 abbrev pub refusal_text : ℕ → ℕ → List ℕ

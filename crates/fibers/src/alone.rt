@@ -1,11 +1,12 @@
-//! A fiber that runs alone: over a port that nobody requests, to its end.
+//! A fiber that runs alone: over a port that nobody requests, until it has ended or waits for good.
 ghost use Rattle.std.specs.Prelude.{◌≡◌, IfOk};
 ghost use Rattle.fx_term.specs.declared.outcome.Outcome.{Outcome};
 ghost use Rattle.fx_term.specs.Meaning.{root_term};
-ghost use Rattle.fx_fiber.specs.Run.{IsOutcome};
 ghost use Rattle.fibers.specs.Alone.{IsEndedBy};
+ghost use Rattle.fibers.specs.Ending.{IsEnding};
 
-use fx_fiber::{Fiber, Port, main_begin};
+use crate::ending::Ending;
+use fx_fiber::{Fiber, Port, Stepped, main_begin};
 use fx_term::{Begin, Code, Event, Memory, Outcome};
 use std::alloc::Global;
 use std::marker::{Brand, PhantomData};
@@ -94,10 +95,10 @@ fn last_outcome(trace: &[Event]) -> Outcome
     }
 }
 
-/// Runs to its end the main fiber of the code that the type names.
-fn run_named<J: Naming>(alloc: Global, code: &Code) -> Result<Outcome, Memory>
+/// Runs the main fiber of the code that the type names until it has ended or waits for good.
+fn run_named<J: Naming>(alloc: Global, code: &Code) -> Result<Ending, Memory>
     requires code { code.now ≡ J.nodes }
-    ensures outcome { IfOk result (λ outcome. IsOutcome (root_term code.now) outcome) }
+    ensures ending { IfOk result (λ ending. IsEnding (root_term code.now) ending) }
 {
     // What is known of each code comes with this: it is one term.
     prove!(code.len() > 0);
@@ -105,14 +106,18 @@ fn run_named<J: Naming>(alloc: Global, code: &Code) -> Result<Outcome, Memory>
     let mut fiber = Fiber::new(alloc, code, port)?;
     let mut nobody = Nobody;
     while !fiber.has_ended() {
-        fiber.step(code, &mut nobody)?;
+        match fiber.step(code, &mut nobody)? {
+            Stepped::Waits => return Ok(Ending::Blocked),
+            Stepped::Ended | Stepped::Went | Stepped::Gave => {}
+        }
     }
-    Ok(last_outcome(fiber.trace()))
+    Ok(Ending::Ended(last_outcome(fiber.trace())))
 }
 
-/// Runs the code's main fiber to its end, one rule a step, where nobody requests it.
-pub(crate) fn run(alloc: Global, code: &Code) -> Result<Outcome, Memory>
-    ensures { IfOk result (λ outcome. IsOutcome (root_term code.now) outcome) }
+/// Runs the code's main fiber, one rule a step, where nobody requests it, until it has ended or waits
+/// for good.
+pub(crate) fn run(alloc: Global, code: &Code) -> Result<Ending, Memory>
+    ensures { IfOk result (λ ending. IsEnding (root_term code.now) ending) }
 {
     run_named::<Brand>(alloc, code)
 }

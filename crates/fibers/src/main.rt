@@ -1,10 +1,11 @@
-//! `fibers`: runs a script of cancellable fibers and prints how each one ended.
+//! `fibers`: runs a script of cancellable fibers and prints how each one went out.
 //!
 //! A script goes through the modules in this order:
 //!
 //! 1. `input` reads its text, and no more than one byte past what a script may have.
 //! 2. `fx_text` reads the text, and answers the script or the first fault.
-//! 3. `alone` runs a fiber over a port that nobody requests, one rule a step, to its outcome.
+//! 3. `alone` runs a fiber over a port that nobody requests, one rule a step, until it has ended or
+//!    waits for good.
 //! 4. `report` makes the text of the report, or the line of a refusal.
 //! 5. `output` writes that text, which was whole before the first write.
 //!
@@ -13,6 +14,7 @@
 #![tactic(auto)]
 
 mod alone;
+pub mod ending;
 pub mod fault;
 mod input;
 pub mod laws;

@@ -1,9 +1,10 @@
 //! From the text of a script to its printed report.
 ghost use Rattle.std.specs.Prelude.{◌≡◌, [], IfOk, string_bytes};
-ghost use Rattle.fibers.specs.Answer.{IsAnswer};
+ghost use Rattle.fibers.specs.Answer.{status_of as status_after, IsAnswer};
 ghost use Rattle.fibers.specs.Replay.{Replays};
 
 use crate::alone::run;
+use crate::ending::Ending;
 use crate::fault::PlainFault;
 use crate::input::read_text;
 use crate::output::write_text;
@@ -16,6 +17,9 @@ use std::io::{Read, Write};
 /// The status of a replay after which all fibers have ended.
 pub const ENDED: u8 = 0;
 
+/// The status of a replay after which a fiber waits for good.
+pub const BLOCKED: u8 = 1;
+
 /// The status of a text that is no script.
 pub const REFUSED: u8 = 3;
 
@@ -26,15 +30,24 @@ struct Answer {
     text: String,
 }
 
+fn status_of(ending: Ending) -> u8
+    ensures { result ≡ status_after ending }
+{
+    match ending {
+        Ending::Ended(_) => ENDED,
+        Ending::Blocked => BLOCKED,
+    }
+}
+
 fn answer_to(alloc: Global, text: &[u8]) -> Result<Answer, Memory>
     ensures { IfOk result (λ answer. IsAnswer text.now answer.status (string_bytes answer.text)) }
 {
     match parse(alloc, text) {
         Ok(script) => {
-            let outcome = run(alloc, &script.code)?;
-            let text = fiber_line(alloc, 0, outcome)?;
+            let ending = run(alloc, &script.code)?;
+            let text = fiber_line(alloc, 0, ending)?;
             Ok(Answer {
-                status: ENDED,
+                status: status_of(ending),
                 text,
             })
         }
@@ -52,8 +65,9 @@ fn answer_to(alloc: Global, text: &[u8]) -> Result<Answer, Memory>
 }
 
 /// Reads a script until the reader's end or until 65,537 bytes are in hand, runs its main fiber and
-/// writes the report, or one line where the text is refused. It answers 0 where all fibers ended,
-/// and 3 where the text was refused. No schedule is read yet, so the list of picks is empty.
+/// writes the report, or one line where the text is refused. It answers 0 where all fibers ended, 1
+/// where one waits for good, and 3 where the text was refused. No schedule is read yet, so the list
+/// of picks is empty.
 pub fn replay_text<R: Read, W: Write>(
     alloc: Global,
     reader: &mut R,

@@ -1,14 +1,14 @@
--- The masks that a fiber has entered and those that it can still enter are never more together than before.
+-- The masks and brackets that a fiber has entered and those that it can still enter are never more together than before.
 use Rattle.std.proofs.Common.{◌≡◌, ℕ, suc, ◌+◌, ◌-◌, ◌*◌, ◌^◌, ◌<◌, ◌≤◌, max, Bool, List, [], ◌∷◌, ◌++◌, arith}
 use Rattle.fx_term.specs.declared.node.Node.{Node}
 use Rattle.fx_term.specs.declared.outcome.Outcome.{Outcome}
 use Rattle.fx_term.specs.declared.outcome.Outcome.TheVariants as outcome
 use Rattle.fx_term.specs.Term.{Term, Let, Handle, OnCancel, Bracket, Masked, Opened, Using, Releasing}
-use Rattle.fx_term.specs.MaskEntries.{mask_entries}
+use Rattle.fx_term.specs.Entries.{entries}
 use Rattle.fx_term.specs.Meaning.{root_term}
 use Rattle.fx_term.specs.Code.{IsCode}
-use Rattle.fx_term.proofs.MaskEntriesLaws.{put_entries, put_named_entries}
-use Rattle.fx_term.proofs.MaskEntriesOfCode.{code_entries_fit}
+use Rattle.fx_term.proofs.EntriesLaws.{put_entries, put_named_entries}
+use Rattle.fx_term.proofs.EntriesOfCode.{code_entries_fit}
 use Rattle.fx_fiber.specs.Path.{CleanUp, Finalizer, Release, clean_ups}
 use Rattle.fx_fiber.specs.Row.{Beginning, Counts, Label, part_after, Row}
 use Rattle.fx_fiber.specs.Row as row
@@ -22,13 +22,13 @@ turn_entries : (m left w : ℕ) → left ≡ suc m → w + m * w ≡ left * w
 turn_entries m left w e = rw e (grind arith)
 
 -- the branch that is chosen
-branch_entries : (o : Outcome) (x e : ℕ) (a b c : Term) → mask_entries (part_after o x a e b c) ≤ max (mask_entries a) (max (mask_entries b) (mask_entries c))
+branch_entries : (o : Outcome) (x e : ℕ) (a b c : Term) → entries (part_after o x a e b c) ≤ max (entries a) (max (entries b) (entries c))
 branch_entries (outcome.Succeeded n) x e a b c = let p = put_entries x n a in omega arith
 branch_entries (outcome.Errored n) x e a b c = let p = put_entries e n b in omega arith
 branch_entries outcome.Canceled x e a b c = omega arith
 
 -- each row of the table
-pub row_entries : {k : Bool} {c d : Counts} {l : Label} {t t' : Term} → Row k c t l d t' → d.masks + mask_entries t' ≤ c.masks + mask_entries t
+pub row_entries : {k : Bool} {c d : Counts} {l : Label} {t t' : Term} → Row k c t l d t' → d.masks + d.acquired + entries t' ≤ c.masks + c.acquired + entries t
 row_entries row.pure = omega arith
 row_entries row.raise = omega arith
 row_entries row.cede = omega arith
@@ -36,7 +36,7 @@ row_entries (row.self_request h) = omega arith
 row_entries row.if_not_zero = omega arith
 row_entries row.if_zero = omega arith
 row_entries (row.for_begins {n = n}) = let e : n - 0 ≡ n = omega arith in rw e (omega arith)
-row_entries (row.loop_turns {i = i} {k = j} {n = n} {t = a} h) = let p = put_entries i j a in let q = turn_entries (n - (j + 1)) (n - j) (mask_entries a) (omega arith) in omega arith
+row_entries (row.loop_turns {i = i} {k = j} {n = n} {t = a} h) = let p = put_entries i j a in let q = turn_entries (n - (j + 1)) (n - j) (entries a) (omega arith) in omega arith
 row_entries (row.loop_ends h) = omega arith
 row_entries (row.let_value {x = x} {n = n} {b = b}) = let p = put_named_entries x n b in omega arith
 row_entries row.let_error = omega arith
@@ -78,7 +78,7 @@ clean_up_entries-append (Finalizer f ∷ xs) ys = let p = clean_up_entries-appen
 clean_up_entries-append (Release k r ∷ xs) ys = let p = clean_up_entries-append xs ys in omega arith
 
 -- the clean-ups of a path are a part of the term
-pub clean_ups_entries : (t : Term) → clean_up_entries (clean_ups t) ≤ mask_entries t
+pub clean_ups_entries : (t : Term) → clean_up_entries (clean_ups t) ≤ entries t
 clean_ups_entries (Let x a b) = let p = clean_ups_entries a in omega arith
 clean_ups_entries (Handle a x b) = let p = clean_ups_entries a in omega arith
 clean_ups_entries (OnCancel a f) = let p = clean_ups_entries a in let q = clean_up_entries-append (clean_ups a) (Finalizer f ∷ []) in omega arith
@@ -90,7 +90,7 @@ clean_ups_entries (Releasing k a v) = let p = clean_ups_entries a in omega arith
 clean_ups_entries _ = omega arith
 
 -- each step of a fiber
-pub step_entries : {c d : Counts} {p q : Progress} {l : Label} → Step c p l d q → d.masks + entries_left q ≤ c.masks + entries_left p
+pub step_entries : {c d : Counts} {p q : Progress} {l : Label} → Step c p l d q → d.masks + d.acquired + entries_left q ≤ c.masks + c.acquired + entries_left p
 step_entries (step.cancelled {t = t} m) = let e = clean_ups_entries t in omega arith
 step_entries (step.seen m o) = omega arith
 step_entries (step.row m r) = row_entries r
@@ -104,14 +104,14 @@ step_entries step.release_ends = omega arith
 step_entries step.unwound = omega arith
 
 -- steps one after another
-pub leads_entries : (c d : Counts) (p q : Progress) (ls : List Label) → Leads c p ls d q → d.masks + entries_left q ≤ c.masks + entries_left p
+pub leads_entries : (c d : Counts) (p q : Progress) (ls : List Label) → Leads c p ls d q → d.masks + d.acquired + entries_left q ≤ c.masks + c.acquired + entries_left p
 leads_entries c d p q [] r = rw (r.0, r.1) (omega arith)
 leads_entries c d p q (l ∷ ls) r = let here = step_entries r.2 in let rest = leads_entries r.0 d r.1 q ls r.3 in omega arith
 
--- a fiber enters no more masks than its term has
-pub run_entries : (b : Beginning) (ls : List Label) (d : Counts) (q : Progress) → IsRun b ls d q → d.masks + entries_left q ≤ mask_entries b.term
+-- a fiber enters no more masks and brackets than its term has
+pub run_entries : (b : Beginning) (ls : List Label) (d : Counts) (q : Progress) → IsRun b ls d q → d.masks + d.acquired + entries_left q ≤ entries b.term
 run_entries b ls d q r = let h = leads_entries (first_counts b) d (Runs b.term) q ls r in omega arith
 
--- the main fiber of a code has room for its masks
-pub main_entries : (nodes : List Node) (ls : List Label) (d : Counts) (q : Progress) → IsCode nodes → IsRun (beginning_of_main (root_term nodes)) ls d q → d.masks < 2 ^ 32
+-- the main fiber of a code can count its masks and resources
+pub main_entries : (nodes : List Node) (ls : List Label) (d : Counts) (q : Progress) → IsCode nodes → IsRun (beginning_of_main (root_term nodes)) ls d q → d.masks + d.acquired < 2 ^ 52
 main_entries nodes ls d q code r = let h = run_entries (beginning_of_main (root_term nodes)) ls d q r in let p = code_entries_fit code in omega arith

@@ -1,26 +1,28 @@
 -- A step keeps what a fiber's type says.
-use Rattle.std.proofs.Common.{◌≡◌, ◌≢◌, Bool, true, false, Option, Some, None, List, [], ◌∷◌, ◌++◌, refl, sym, ◌∙◌, ap, arith, append_assoc, append-nil}
+use Rattle.std.proofs.Common.{◌≡◌, Bool, true, false, List, [], ◌∷◌, ◌++◌, refl, sym, ◌∙◌, ap, arith, append_assoc, append-nil}
 use Rattle.fx_term.specs.declared.node.Node.{Node}
 use Rattle.fx_term.specs.declared.begin.Begin.{Begin}
 use Rattle.fx_term.specs.declared.event.Event.{Event}
 use Rattle.fx_term.specs.declared.event.Event.TheVariants as event
 use Rattle.fx_term.specs.declared.outcome.Outcome.{Outcome}
-use Rattle.fx_term.specs.Term.{Term}
-use Rattle.fx_fiber.specs.Row.{Counts, Label, Silent, Shows, Learns, Starts, Row, in_let, in_handle, in_oncancel, in_acquire, in_masked, in_opened, in_using, in_releasing}
-use Rattle.fx_fiber.specs.Step.{Progress, Runs, Step, row, cleans}
+use Rattle.fx_fiber.specs.Row.{Counts, Label, Silent, Shows, Learns, Starts}
+use Rattle.fx_fiber.specs.Step.{Progress, Runs, Step}
 use Rattle.fx_fiber.specs.Run.{Leads, events, first_counts}
 use Rattle.fx_fiber.specs.Begins.{beginning_of, begin_of_main}
 use Rattle.fx_fiber.specs.declared.standing.Standing.{Standing}
+use Rattle.fx_fiber.specs.declared.standing.made.Made.{Made}
+use Rattle.fx_fiber.specs.declared.standing.made.Made.TheVariants as made
 use Rattle.fx_fiber.specs.declared.stepped.Stepped.TheVariants.{Went}
 use Rattle.fx_fiber.specs.Deed.{Deed, Saw, Ended, AreDeedsOf, AreDeeds, deeds_of_event}
 use Rattle.fx_fiber.specs.Standing.{progress_of, counts_of, IsSoundStanding}
-use Rattle.fx_fiber.specs.Rule.{Steps, IsSame, label_of, IsOwnEvent}
+use Rattle.fx_fiber.specs.Rule.{Steps, IsSame, label_of, IsOwnMade}
 use Rattle.fx_fiber.specs.MakesStep.{Asks, answer_to}
 use Rattle.fx_fiber.specs.Fiber.{IsKept, has_ended}
 use Rattle.fx_term.specs.Code.{IsCode}
-use Rattle.fx_term.proofs.MaskEntriesLaws.{fill_entries}
-use Rattle.fx_term.proofs.MaskEntriesOfCode.{code_entries_fit}
+use Rattle.fx_term.proofs.EntriesLaws.{fill_entries}
+use Rattle.fx_term.proofs.EntriesOfCode.{code_entries_fit}
 use Rattle.fx_fiber.proofs.EntriesLaws.{step_entries}
+use Rattle.fx_fiber.proofs.Ends.{shows_end, ended_after}
 
 -- a run goes on by one step
 pub leads_on : (c : Counts) (p : Progress) (ls : List Label) (d : Counts) (q : Progress) (l : Label) (e : Counts) (r : Progress) → Leads c p ls d q → Step d q l e r → Leads c p (ls ++ l ∷ []) e r
@@ -38,29 +40,6 @@ events_append (Starts f b ∷ ls) ms = ap (λ (es : List Event). event.Start f �
 deeds_more : (nodes : List Node) (ls : List Label) (ds : List Deed) (l : Label) (es : List Deed) → AreDeeds nodes ls ds → AreDeedsOf nodes l es → AreDeeds nodes (ls ++ l ∷ []) (ds ++ es)
 deeds_more nodes [] ds l es h k = (es, [], k, refl, rw h (sym (append-nil es)))
 deeds_more nodes (m ∷ ls) ds l es h k = (h.0, h.1 ++ es, h.2, deeds_more nodes ls h.1 l es h.3 k, rw h.4 (append_assoc h.0 h.1 es))
-
--- the step with this label is the last
-abbrev pub shows_end : Label → Bool
-shows_end (Shows (event.Ended o)) = true
-shows_end _ = false
-
--- no row of the table is the last step
-row_goes_on : {k : Bool} {c d : Counts} {l : Label} {t t' : Term} → Row k c t l d t' → shows_end l ≡ false
-row_goes_on (in_let r) = row_goes_on r
-row_goes_on (in_handle r) = row_goes_on r
-row_goes_on (in_oncancel r) = row_goes_on r
-row_goes_on (in_acquire r) = row_goes_on r
-row_goes_on (in_masked r) = row_goes_on r
-row_goes_on (in_opened r) = row_goes_on r
-row_goes_on (in_using r) = row_goes_on r
-row_goes_on (in_releasing r) = row_goes_on r
-row_goes_on _ = refl
-
--- a fiber has ended exactly after the step that shows its end
-pub ended_after : {c d : Counts} {l : Label} {p q : Progress} → Step c p l d q → has_ended q ≡ shows_end l
-ended_after (row m r) = sym (row_goes_on r)
-ended_after (cleans r) = sym (row_goes_on r)
-ended_after _ = refl
 
 module _ (nodes : List Node) (begin begin' : Begin) (agrees agrees' : List Deed → Type 0) (finished finished' : Bool) (trace trace' : List Event) (s s' : Standing) (same_begin : begin' ≡ begin) where
   -- a step whose event is added to the trace, and whose deeds are added to those of the port
@@ -92,35 +71,35 @@ module _ (nodes : List Node) (begin begin' : Begin) (agrees agrees' : List Deed 
       are_deeds = k.lawful.are_deeds;
       agreed = go k.lawful.deeds k.lawful.agreed;
     };
-    countable = let masks : s'.masks.entries ≡ s.masks.entries = ap (λ (c : Counts). c.masks) same.counts in rw (masks, same.progress) k.countable;
+    countable =
+        let masks : s'.masks.entries ≡ s.masks.entries = ap (λ (c : Counts). c.masks) same.counts in
+        let acquired : s'.acquired ≡ s.acquired = ap (λ (c : Counts). c.acquired) same.counts in
+        rw (masks, acquired, same.progress) k.countable;
     ended = rw same.progress (f ∙ k.ended);
   }
 
--- the deeds of a step that shows this
-abbrev pub deeds_shown : Option Event → List Deed
-deeds_shown None = []
-deeds_shown (Some e) = deeds_of_event e
+-- the deeds of a step that made this
+abbrev pub deeds_made : Made → List Deed
+deeds_made (made.Shows e) = deeds_of_event e
+deeds_made _ = []
 
-pub are_deeds_shown : (nodes : List Node) (shown : Option Event) → AreDeedsOf nodes (label_of shown) (deeds_shown shown)
-are_deeds_shown nodes None = refl
-are_deeds_shown nodes (Some e) = refl
+pub are_deeds_made : (nodes : List Node) (m : Made) → AreDeedsOf nodes (label_of m) (deeds_made m)
+are_deeds_made nodes (made.Shows e) = refl
+are_deeds_made nodes _ = refl
 
 -- the port agrees with the deeds of a step that was not the last
-pub agreed_after : {P S : Type 0} (looks : P → S → Bool → P → S → Type 0) (agrees : P → List Deed → Type 0) (due : Bool) (shown : Option Event) (p p' : P) (s s' : S)
-    → IsOwnEvent shown → ((o : Outcome) → shown ≢ Some (event.Ended o)) → Asks looks due (label_of shown) p s p' s' → (shown ≡ Some event.Seen → (ds : List Deed) → agrees p ds → agrees p' (ds ++ Saw ∷ []))
-    → (ds : List Deed) → agrees p ds → agrees p' (ds ++ deeds_shown shown)
-agreed_after looks agrees due None p p' s s' own going a saw ds h = rw (append-nil, a.1) h
-agreed_after looks agrees due (Some event.Seen) p p' s s' own going a saw ds h = saw refl ds h
-agreed_after looks agrees due (Some event.Cancelled) p p' s s' own going a saw ds h = rw (append-nil, a.1) h
-agreed_after looks agrees due (Some event.SelfRequest) p p' s s' own going a saw ds h = rw (append-nil, a.1) h
-agreed_after looks agrees due (Some (event.Ended o)) p p' s s' own going a saw ds h = absurd (going o refl)
-agreed_after looks agrees due (Some _) p p' s s' own going a saw ds h = absurd own
-
--- what is shown is the last event, or the fiber goes on
-pub goes_on : (shown : Option Event) → ((o : Outcome) → shown ≢ Some (event.Ended o)) → shows_end (label_of shown) ≡ false
-goes_on None h = refl
-goes_on (Some (event.Ended o)) h = absurd (h o refl)
-goes_on (Some _) h = refl
+pub agreed_after : {P S : Type 0} (looks : P → S → Bool → P → S → Type 0) (agrees : P → List Deed → Type 0) (due : Bool) (m : Made) (p p' : P) (s s' : S)
+    → IsOwnMade m → shows_end (label_of m) ≡ false → Asks looks due (label_of m) p s p' s' → (m ≡ made.Shows event.Seen → (ds : List Deed) → agrees p ds → agrees p' (ds ++ Saw ∷ []))
+    → (ds : List Deed) → agrees p ds → agrees p' (ds ++ deeds_made m)
+agreed_after looks agrees due (made.Shows event.Seen) p p' s s' own on a saw ds h = saw refl ds h
+agreed_after looks agrees due (made.Shows event.Cancelled) p p' s s' own on a saw ds h = rw (append-nil, a.1) h
+agreed_after looks agrees due (made.Shows event.SelfRequest) p p' s s' own on a saw ds h = rw (append-nil, a.1) h
+agreed_after looks agrees due (made.Shows (event.Acquired k)) p p' s s' own on a saw ds h = rw (append-nil, a.1) h
+agreed_after looks agrees due (made.Shows (event.Begin k)) p p' s s' own on a saw ds h = rw (append-nil, a.1) h
+agreed_after looks agrees due (made.Shows (event.End k)) p p' s s' own on a saw ds h = rw (append-nil, a.1) h
+agreed_after looks agrees due (made.Shows (event.Ended o)) p p' s s' own on a saw ds h = absurd (let no : true ≡ false = on in cc)
+agreed_after looks agrees due (made.Shows _) p p' s s' own on a saw ds h = absurd own
+agreed_after looks agrees due _ p p' s s' own on a saw ds h = rw (append-nil, a.1) h
 
 -- a fiber before its first step
 pub kept_at_first : (nodes code : List Node) (begin : Begin) (agrees : List Deed → Type 0) (finished : Bool) (trace : List Event) (s : Standing) → code ≡ nodes → IsCode code → begin ≡ begin_of_main code → agrees [] → finished ≡ false → trace ≡ []
@@ -132,19 +111,20 @@ kept_at_first nodes code begin agrees finished trace s e is_code b a f t sound c
       countable =
           let masks : s.masks.entries ≡ 0 = ap (λ (c : Counts). c.masks) counts in
           let few = code_entries_fit is_code in
-          rw (masks, progress, fill_entries) (omega arith);
+          let acquired : s.acquired ≡ 0 = ap (λ (c : Counts). c.acquired) counts in
+          rw (masks, acquired, progress, fill_entries) (omega arith);
       ended = rw progress refl;
     } in
     rw (← e, b, f, t) kept
 
 -- a step that was not the last keeps the fiber
-pub kept_going : {P S : Type 0} (nodes code : List Node) (begin begin' : Begin) (looks : P → S → Bool → P → S → Type 0) (agrees : P → List Deed → Type 0) (due : Bool) (shown : Option Event) (p p' : P) (sh sh' : S) (finished finished' : Bool) (trace trace' : List Event) (s s' : Standing)
-    → code ≡ nodes → begin' ≡ begin → IsKept nodes begin (agrees p) finished trace s → has_ended (progress_of nodes s) ≡ false → Steps code s (label_of shown) s' → IsSoundStanding code s' → finished' ≡ finished
-    → IsOwnEvent shown → ((o : Outcome) → shown ≢ Some (event.Ended o)) → Asks looks due (label_of shown) p sh p' sh' → (shown ≡ Some event.Seen → (ds : List Deed) → agrees p ds → agrees p' (ds ++ Saw ∷ []))
-    → trace' ≡ trace ++ events (label_of shown ∷ []) → IsKept nodes begin' (agrees p') finished' trace' s'
-kept_going nodes code begin begin' looks agrees due shown p p' sh sh' finished finished' trace trace' s s' e b kept going step sound f own on asks saw t =
-    kept_step nodes begin begin' (agrees p) (agrees p') finished finished' trace trace' s s' b (label_of shown) (deeds_shown shown) (are_deeds_shown nodes shown) kept (rw e at step) (rw e at sound) t
-    (agreed_after looks agrees due shown p p' sh sh' own on asks saw) (f ∙ kept.ended ∙ going ∙ sym (goes_on shown on))
+pub kept_going : {P S : Type 0} (nodes code : List Node) (begin begin' : Begin) (looks : P → S → Bool → P → S → Type 0) (agrees : P → List Deed → Type 0) (due : Bool) (m : Made) (p p' : P) (sh sh' : S) (finished finished' : Bool) (trace trace' : List Event) (s s' : Standing)
+    → code ≡ nodes → begin' ≡ begin → IsKept nodes begin (agrees p) finished trace s → has_ended (progress_of nodes s) ≡ false → Steps code s (label_of m) s' → IsSoundStanding code s' → finished' ≡ finished
+    → IsOwnMade m → shows_end (label_of m) ≡ false → Asks looks due (label_of m) p sh p' sh' → (m ≡ made.Shows event.Seen → (ds : List Deed) → agrees p ds → agrees p' (ds ++ Saw ∷ []))
+    → trace' ≡ trace ++ events (label_of m ∷ []) → IsKept nodes begin' (agrees p') finished' trace' s'
+kept_going nodes code begin begin' looks agrees due m p p' sh sh' finished finished' trace trace' s s' e b kept going step sound f own on asks saw t =
+    kept_step nodes begin begin' (agrees p) (agrees p') finished finished' trace trace' s s' b (label_of m) (deeds_made m) (are_deeds_made nodes m) kept (rw e at step) (rw e at sound) t
+    (agreed_after looks agrees due m p p' sh sh' own on asks saw) (f ∙ kept.ended ∙ going ∙ sym on)
 
 -- so does the last one
 pub kept_ended : {P S : Type 0} (nodes code : List Node) (begin begin' : Begin) (looks : P → S → Bool → P → S → Type 0) (agrees : P → List Deed → Type 0) (due : Bool) (o : Outcome) (p p' p'' : P) (sh sh' : S) (finished finished' : Bool) (trace trace' : List Event) (s s' : Standing)
@@ -159,7 +139,8 @@ kept_ended nodes code begin begin' looks agrees due o p p' p'' sh sh' finished f
 pub one_more : (old room new : List Event) (e : Event) → room ≡ old → new ≡ room ++ e ∷ [] → new ≡ old ++ e ∷ []
 one_more old room new e p q = q ∙ ap (λ (es : List Event). es ++ e ∷ []) p
 
-pub answer_went : (shown : Option Event) → ((o : Outcome) → shown ≢ Some (event.Ended o)) → Went ≡ answer_to (label_of shown)
-answer_went None h = refl
-answer_went (Some (event.Ended o)) h = absurd (h o refl)
-answer_went (Some _) h = refl
+-- a step that shows an event, and is not the last, went on, wherever it was made
+pub answer_went : (gives : Bool) (e : Event) → shows_end (Shows e) ≡ false → Went ≡ answer_to gives (Shows e)
+answer_went gives (event.Ended o) on = absurd (let no : true ≡ false = on in cc)
+answer_went true _ on = refl
+answer_went false _ on = refl

@@ -1,12 +1,12 @@
 -- The rules of a leaf.
-use Rattle.std.proofs.Common.{◌≡◌, ◌≢◌, ℕ, suc, ◌<◌, ◌≤◌, Bool, true, false, Some, List, ◌∷◌, length, refl, sym, ◌∙◌, ap, arith}
-use Rattle.std.specs.Prelude.{not, ◌&&◌, ◌||◌, MatchBool}
+use Rattle.std.proofs.Common.{◌≡◌, ◌≢◌, ℕ, zero, suc, ◌<◌, ◌≤◌, Bool, true, false, Some, List, [], ◌∷◌, length, refl, sym, ◌∙◌, ap, arith}
+use Rattle.std.specs.Prelude.{All, not, ◌&&◌, ◌||◌, MatchBool}
 use Rattle.fx_term.specs.declared.node.Arg.{Arg}
 use Rattle.fx_term.specs.declared.node.Arg.TheVariants.{Number, Slot}
 use Rattle.fx_term.specs.declared.node.NodeId.{NodeId}
 use Rattle.fx_term.specs.declared.node.Node.{Node}
 use Rattle.fx_term.specs.declared.node.Node.TheVariants as node
-use Rattle.fx_term.specs.Term.{Term, Masked, Opened, Poll}
+use Rattle.fx_term.specs.Term.{Term, Cede, If, Masked, Opened, Poll}
 use Rattle.fx_term.specs.Fill.{AgreeBelow, fill_arg, fill}
 use Rattle.fx_term.specs.Registers.{with_number}
 use Rattle.fx_term.specs.Scope.{IsArgBelow, HasLevels}
@@ -18,27 +18,33 @@ use Rattle.fx_mask.specs.declared.masks.Region as mask_region
 use Rattle.fx_frames.specs.declared.frame.Frame.{Frame}
 use Rattle.fx_frames.specs.declared.frame.Frame.TheVariants as frame
 use Rattle.fx_fiber.specs.Path.{is_canceled_form}
-use Rattle.fx_fiber.specs.Row.{Counts, Label, Silent, Row, one_more_mask, mask, poll}
-use Rattle.fx_fiber.specs.Step.{Progress, Step}
+use Rattle.fx_fiber.specs.Row.{Counts, Label, Silent, Row, one_more_mask, if_not_zero, if_zero, mask, poll}
+use Rattle.fx_fiber.specs.Step.{Progress, leaf_at, Step}
 use Rattle.fx_fiber.specs.declared.standing.place.Place.TheVariants.{At}
 use Rattle.fx_fiber.specs.declared.standing.Standing.{Standing}
 use Rattle.fx_fiber.specs.Standing.{filled, inner, closed_again, within, running, progress_at, progress_of, counts_of, taken_off, IsNode, IsBound, IsClosedBy, IsSound}
-use Rattle.fx_fiber.specs.Rule.{IsSame, StandsAt, IsLeafNode, is_due, is_open_standing}
+use Rattle.fx_fiber.specs.Rule.{WaitsAt, IsSame, StandsAt, IsLeafNode, is_due, is_open_standing}
+use Rattle.fx_fiber.specs.MakesStep.{is_giving_way}
 use Rattle.fx_fiber.proofs.Contexts.{row_within}
 use Rattle.fx_fiber.proofs.Numbers.{filled_same, running_same, running_named}
-use Rattle.fx_fiber.proofs.Nodes.{arg_in_registers, levels_at, child_before, child_node, inner_is, leaf_step}
+use Rattle.fx_fiber.proofs.Nodes.{arg_in_registers, levels_at, child_before, child_node, inner_is, leaf_is, leaf_is_free, leaf_step}
 
 -- whether a leaf is `canceled`
 pub canceled_node : (b : ℕ) (ns : List ℕ) (f : ℕ → Term) (n : Node) → n ≢ node.Canceled → is_canceled_form (fill b ns (assemble (Some n) f)) ≡ false
 canceled_node b ns f node.Canceled h = absurd (h refl)
 canceled_node b ns f n h = refl
 
+-- whether a leaf is `cede`
+giving_node : (b : ℕ) (ns : List ℕ) (f : ℕ → Term) (n : Node) → n ≢ node.Cede → is_giving_way (Some (fill b ns (assemble (Some n) f))) ≡ false
+giving_node b ns f node.Cede h = absurd (h refl)
+giving_node b ns f n h = refl
+
 -- a fiber that stands at a leaf
 module _ (nodes : List Node) (s : Standing) (id : NodeId) (n : Node) (at : StandsAt nodes s id n) where
   pub levels : HasLevels at.sound.bound (assemble (Some n) (term_of nodes))
   levels = levels_at nodes s.registers s.frames s.masks s.cleanups s.place id n at.place at.node at.sound
 
-  child : (c : NodeId) (d : ℕ) → c.0 < id.0 → HasLevels d (term_of nodes c.0) → IsNode nodes d c
+  pub child : (c : NodeId) (d : ℕ) → c.0 < id.0 → HasLevels d (term_of nodes c.0) → IsNode nodes d c
   child = child_node nodes s.registers s.frames s.masks s.cleanups s.place id n at.place at.node at.sound
 
   -- there is a register for its argument
@@ -56,6 +62,25 @@ module _ (nodes : List Node) (s : Standing) (id : NodeId) (n : Node) (at : Stand
       (λ k h. row_within nodes s.registers k (counts_of s) d l s.frames s.masks.regions t t' (go k h)) in
       rw is step
 
+  -- the leaf of what the fiber runs
+  leaf_here : IsLeafNode (Some n) → leaf_at (progress_of nodes s) ≡ Some (fill (length s.registers) s.registers (assemble (Some n) (term_of nodes)))
+  leaf_here leaf = leaf_is nodes s.registers s.frames s.masks s.cleanups s.place id n at.place at.node at.sound leaf
+
+  -- a rule of another leaf is not that of `cede`
+  pub leaf_is_no_cede : IsLeafNode (Some n) → n ≢ node.Cede → is_giving_way (leaf_at (progress_of nodes s)) ≡ false
+  leaf_is_no_cede leaf other = ap is_giving_way (leaf_here leaf) ∙ giving_node (length s.registers) s.registers (term_of nodes) n other
+
+pub leaf_at_cede : (nodes : List Node) (s : Standing) (id : NodeId) → StandsAt nodes s id node.Cede → leaf_at (progress_of nodes s) ≡ Some Cede
+leaf_at_cede nodes s id at = leaf_here nodes s id node.Cede at tt
+
+-- where the fiber waits
+pub never_waits : (nodes : List Node) (s : Standing) (id : NodeId) → StandsAt nodes s id node.Never → is_due nodes s ≡ false → WaitsAt nodes s s
+never_waits nodes s id at free = record {
+  leaf = leaf_here nodes s id node.Never at tt;
+  free = leaf_is_free nodes s.registers s.frames s.masks s.cleanups s.place id node.Never at.place at.node at.sound tt s.known free;
+  same = record { progress = refl; counts = refl };
+}
+
 -- where `canceled` does not cancel, the place is closed
 pub closed_at_canceled : (nodes : List Node) (s : Standing) (id : NodeId) → StandsAt nodes s id node.Canceled → is_due nodes s ≡ false → is_open_standing s ≡ false
 closed_at_canceled nodes s id at free =
@@ -69,6 +94,49 @@ closed_at_canceled nodes s id at free =
 
 pub free_where_closed : (nodes : List Node) (s : Standing) → is_open_standing s ≡ false → is_due nodes s ≡ false
 free_where_closed nodes s shut = rw shut refl
+
+-- a fiber that stands at an `if`
+module _ (nodes : List Node) (s : Standing) (id : NodeId) (v : Arg) (part other : NodeId) (at : StandsAt nodes s id (node.If v part other)) where
+  if_levels : IsArgBelow at.sound.bound v × HasLevels at.sound.bound (term_of nodes part.0) × HasLevels at.sound.bound (term_of nodes other.0)
+  if_levels = levels nodes s id (node.If v part other) at
+
+  pub value_within : IsArgBelow (length s.registers) v
+  value_within = arg_within nodes s id (node.If v part other) at v if_levels.0
+
+  below : All (λ c. c < id.0) (part.0 ∷ other.0 ∷ [])
+  below = child_before nodes s.registers s.frames s.masks s.cleanups s.place id (node.If v part other) at.place at.node at.sound
+
+  chosen_sound : (c : NodeId) → c.0 < id.0 → HasLevels at.sound.bound (term_of nodes c.0) → IsSound nodes s.registers s.frames s.masks s.cleanups (At c)
+  chosen_sound c before reach = record {
+    tree = at.sound.tree;
+    bound = at.sound.bound;
+    fits = at.sound.fits;
+    place_in = child nodes s id (node.If v part other) at c _ before reach;
+    frames_in = at.sound.frames_in;
+    closed = at.sound.closed;
+    room = at.sound.room;
+    between = tt;
+  }
+
+  pub part_sound : IsSound nodes s.registers s.frames s.masks s.cleanups (At part)
+  part_sound = chosen_sound part (below 0 0 (omega arith)) if_levels.1
+
+  pub other_sound : IsSound nodes s.registers s.frames s.masks s.cleanups (At other)
+  other_sound = chosen_sound other (below 1 0 (omega arith)) if_levels.2
+
+  module _ (n : ℕ) (number : fill_arg (length s.registers) s.registers v ≡ Number n) (free : is_due nodes s ≡ false) where
+    chosen_step : (c : NodeId) → ((k : Bool) → Row k (counts_of s) (If (Number n) (filled nodes s.registers part) (filled nodes s.registers other)) Silent (counts_of s) (filled nodes s.registers c)) → Step (counts_of s) (progress_of nodes s) Silent (counts_of s) (progress_at nodes s.registers s.frames s.masks.regions s.cleanups (At c))
+    chosen_step c go = row_at nodes s id (node.If v part other) at tt free (counts_of s) Silent _ (filled nodes s.registers c) _ (ap (λ (a : Arg). If a (filled nodes s.registers part) (filled nodes s.registers other)) number) refl (λ k h. go k)
+
+    pub part_step : n ≢ 0 → Step (counts_of s) (progress_of nodes s) Silent (counts_of s) (progress_at nodes s.registers s.frames s.masks.regions s.cleanups (At part))
+    part_step some = chosen_step part (by_number n some)
+      where
+        by_number : (n : ℕ) → n ≢ 0 → (k : Bool) → Row k (counts_of s) (If (Number n) (filled nodes s.registers part) (filled nodes s.registers other)) Silent (counts_of s) (filled nodes s.registers part)
+        by_number zero some k = absurd (some refl)
+        by_number (suc n) some k = if_not_zero
+
+    pub other_step : n ≡ 0 → Step (counts_of s) (progress_of nodes s) Silent (counts_of s) (progress_at nodes s.registers s.frames s.masks.regions s.cleanups (At other))
+    other_step none = chosen_step other (λ k. rw none if_zero)
 
 -- a fiber that stands at a mask
 module _ (nodes : List Node) (s : Standing) (id : NodeId) (p : ℕ) (part : NodeId) (at : StandsAt nodes s id (node.Mask p part)) where

@@ -4,8 +4,11 @@ pub mod Rules
 pub mod Nodes
 pub mod Leaves
 pub mod Results
+pub mod Loops
+pub mod Resources
 pub mod Unwindings
 pub mod EntriesLaws
+pub mod Ends
 pub mod Looks
 pub mod Keeping
 pub mod Beginnings

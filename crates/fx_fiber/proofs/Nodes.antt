@@ -12,18 +12,19 @@ use Rattle.fx_term.specs.Scope.{IsArgBelow, HasLevels}
 use Rattle.fx_term.specs.Meaning.{assemble, term_of}
 use Rattle.fx_term.specs.Tree.{children, ChildrenComeFirst}
 use Rattle.fx_term.proofs.NodeTerms.{term_of_node}
-use Rattle.fx_mask.specs.Closing.{Closing, MasksView, is_none_closed}
+use Rattle.fx_mask.specs.Closing.{Closing, Seal, MasksView, is_none_closed}
+use Rattle.fx_mask.specs.Masks.{closed_by}
 use Rattle.fx_frames.specs.declared.frame.Frame.{Frame}
 use Rattle.fx_frames.specs.declared.frame.Frame.TheVariants as frame
-use Rattle.fx_frames.specs.declared.cleanup.Cleanup.{Cleanup}
+use Rattle.fx_fiber.specs.declared.standing.cleaning.Cleaning.{Cleaning}
 use Rattle.fx_fiber.specs.Path.{is_canceled_form}
 use Rattle.fx_fiber.specs.Row.{Counts, Label, Row}
-use Rattle.fx_fiber.specs.Step.{Step}
+use Rattle.fx_fiber.specs.Step.{leaf_at, must_cancel_at, Step}
 use Rattle.fx_fiber.specs.declared.standing.place.Place.{Place}
-use Rattle.fx_fiber.specs.declared.standing.place.Place.TheVariants.{At, Gave, Unwinding, Ended}
-use Rattle.fx_fiber.specs.Standing.{filled, inner, within, running, progress_at, IsNode, IsSound}
+use Rattle.fx_fiber.specs.declared.standing.place.Place.TheVariants.{At, Gave, Turn, Unwinding, Ended}
+use Rattle.fx_fiber.specs.Standing.{filled, loop_of, inner, outside_frame, masks_inside, within, running, progress_at, taken_off, IsNode, IsBound, IsBracketIn, IsFrameIn, IsClosedBy, IsSound}
 use Rattle.fx_fiber.specs.Rule.{IsLeafNode, IsEntered, IsEntryOf}
-use Rattle.fx_fiber.proofs.Rules.{IsLeafTerm, result_term, row_step}
+use Rattle.fx_fiber.proofs.Rules.{IsLeafTerm, result_term, row_step, leaf_of_running, free_running}
 
 pub arg_in_registers : (d e : ℕ) (a : Arg) → IsArgBelow d a → d ≤ e → IsArgBelow e a
 arg_in_registers d e (Number n) h p = tt
@@ -33,7 +34,12 @@ leaf_of_node : (cs : List Closing) (b : ℕ) (ns : List ℕ) (f : ℕ → Term) 
 leaf_of_node cs b ns f (node.Let x c d) h = absurd h
 leaf_of_node cs b ns f (node.Handle c x d) h = absurd h
 leaf_of_node cs b ns f (node.OnCancel c d) h = absurd h
+leaf_of_node cs b ns f (node.Bracket x c d e) h = absurd h
 leaf_of_node cs b ns f n h = record { is_leaf = refl; stays = refl; nothing = refl }
+
+pub loop_term : (nodes : List Node) (ns : List ℕ) (cs : List Closing) (o : Option Node) (turn : ℕ) → IsLeafTerm cs (loop_of nodes ns o turn)
+loop_term nodes ns cs (Some (node.For i n a)) turn = record { is_leaf = refl; stays = refl; nothing = refl }
+loop_term nodes ns cs o turn = record { is_leaf = refl; stays = refl; nothing = refl }
 
 -- what stands inside all contexts is a leaf, once all are entered
 pub leaf_of_place : (nodes : List Node) (ns : List ℕ) (cs : List Closing) (place : Place) → ChildrenComeFirst nodes → IsEntered nodes place → IsLeafTerm cs (inner nodes ns place)
@@ -43,10 +49,11 @@ leaf_of_place nodes ns cs (At id) tree h = by_node (slice_get nodes id.0) refl h
     by_node None e h = absurd h
     by_node (Some n) e h = rw (term_of_node nodes tree id.0 n e) (leaf_of_node cs (length ns) ns (term_of nodes) n h)
 leaf_of_place nodes ns cs (Gave v) tree h = result_term cs v
+leaf_of_place nodes ns cs (Turn id turn) tree h = loop_term nodes ns cs (slice_get nodes id.0) turn
 leaf_of_place nodes ns cs Unwinding tree h = record { is_leaf = refl; stays = refl; nothing = refl }
 leaf_of_place nodes ns cs (Ended o) tree h = record { is_leaf = refl; stays = refl; nothing = refl }
 
-module _ (nodes : List Node) (ns : List ℕ) (fs : List Frame) (m : MasksView) (left : Option (List Cleanup)) (place : Place) (id : NodeId) (n : Node) (here : place ≡ At id) (is : slice_get nodes id.0 ≡ Some n) (sound : IsSound nodes ns fs m left place) where
+module _ (nodes : List Node) (ns : List ℕ) (fs : List Frame) (m : MasksView) (left : Option Cleaning) (place : Place) (id : NodeId) (n : Node) (here : place ≡ At id) (is : slice_get nodes id.0 ≡ Some n) (sound : IsSound nodes ns fs m left place) where
   pub node_in : IsNode nodes sound.bound id
   node_in = rw here at sound.place_in
 
@@ -65,6 +72,16 @@ module _ (nodes : List Node) (ns : List ℕ) (fs : List Frame) (m : MasksView) (
   pub progress_is : (t : Term) → fill (length ns) ns (assemble (Some n) (term_of nodes)) ≡ t → progress_at nodes ns fs m.regions left place ≡ running nodes ns left (within nodes ns fs m.regions t)
   progress_is t e = rw here (ap (λ (u : Term). running nodes ns left (within nodes ns fs m.regions u)) (ap (λ (u : Term). fill (length ns) ns u) term_is ∙ e))
 
+  -- the leaf of what the fiber runs
+  pub leaf_is : IsLeafNode (Some n) → leaf_at (progress_at nodes ns fs m.regions left place) ≡ Some (fill (length ns) ns (assemble (Some n) (term_of nodes)))
+  leaf_is leaf = ap leaf_at (progress_is _ refl) ∙ leaf_of_running nodes ns fs m.regions _ (leaf_of_node m.regions (length ns) ns (term_of nodes) n leaf) left
+
+  -- where cancellation is not the one rule at the leaf, it is not the one of the fiber
+  pub leaf_is_free : IsLeafNode (Some n) → (known : Bool) → (is_none_closed m.regions && (known || is_canceled_form (inner nodes ns place))) ≡ false → must_cancel_at known (progress_at nodes ns fs m.regions left place) ≡ false
+  leaf_is_free leaf known free =
+      let free' : (is_none_closed m.regions && (known || is_canceled_form (fill (length ns) ns (assemble (Some n) (term_of nodes))))) ≡ false = rw (inner_is _ refl) at free in
+      ap (must_cancel_at known) (progress_is _ refl) ∙ free_running nodes ns fs m.regions _ (leaf_of_node m.regions (length ns) ns (term_of nodes) n leaf) left known sound.closed free'
+
   -- the row of a leaf
   pub leaf_step : (c d : Counts) (l : Label) (t t' : Term) → fill (length ns) ns (assemble (Some n) (term_of nodes)) ≡ t → IsLeafNode (Some n)
       → (is_none_closed m.regions && (c.known || is_canceled_form (inner nodes ns place))) ≡ false
@@ -80,58 +97,65 @@ module _ (nodes : List Node) (ns : List ℕ) (fs : List Frame) (m : MasksView) (
 
   -- a context is entered, which is no step
   module _ (a : NodeId) where
-    pub entered_sound : (f : Frame) → IsEntryOf n f a → IsSound nodes ns (f ∷ fs) m left (At a)
+    sound_inside : (f : Frame) (inside : MasksView) → IsNode nodes sound.bound a → IsFrameIn nodes sound.bound f → IsClosedBy f inside.regions → outside_frame f inside.regions ≡ m.regions → taken_off (f ∷ fs) ≤ inside.opened → IsSound nodes ns (f ∷ fs) inside left (At a)
+    sound_inside f inside first frame_in by outside room = record {
+      tree = sound.tree;
+      bound = sound.bound;
+      fits = sound.fits;
+      place_in = first;
+      frames_in = (sound.bound, omega arith, frame_in, sound.frames_in);
+      closed = (by, rw outside sound.closed);
+      room = room;
+      between = tt;
+    }
+
+    pub entered_sound : (f : Frame) → IsEntryOf id n f a → IsSound nodes ns (f ∷ fs) (masks_inside f m) left (At a)
     entered_sound (frame.Let x b) e =
         let s : HasLevels sound.bound (assemble (Some (node.Let x a b)) (term_of nodes)) = rw e at levels_at in
         let below : All (λ c. c < id.0) (children (node.Let x a b)) = rw e at child_before in
-        record {
-          tree = sound.tree;
-          bound = sound.bound;
-          fits = sound.fits;
-          place_in = child_node a sound.bound (below 0 0 (omega arith)) s.0;
-          frames_in = (sound.bound, omega arith, record { binder = s.1; node = child_node b _ (below 1 0 (omega arith)) s.2 }, sound.frames_in);
-          closed = (tt, sound.closed);
-          room = sound.room;
-          between = tt;
-        }
+        sound_inside (frame.Let x b) m (child_node a sound.bound (below 0 0 (omega arith)) s.0) (record { binder = s.1; node = child_node b _ (below 1 0 (omega arith)) s.2 }) tt refl sound.room
     entered_sound (frame.Handle x b) e =
         let s : HasLevels sound.bound (assemble (Some (node.Handle a x b)) (term_of nodes)) = rw e at levels_at in
         let below : All (λ c. c < id.0) (children (node.Handle a x b)) = rw e at child_before in
-        record {
-          tree = sound.tree;
-          bound = sound.bound;
-          fits = sound.fits;
-          place_in = child_node a sound.bound (below 0 0 (omega arith)) s.0;
-          frames_in = (sound.bound, omega arith, record { binder = s.1; node = child_node b _ (below 1 0 (omega arith)) s.2 }, sound.frames_in);
-          closed = (tt, sound.closed);
-          room = sound.room;
-          between = tt;
-        }
+        sound_inside (frame.Handle x b) m (child_node a sound.bound (below 0 0 (omega arith)) s.0) (record { binder = s.1; node = child_node b _ (below 1 0 (omega arith)) s.2 }) tt refl sound.room
     entered_sound (frame.OnCancel f) e =
         let s : HasLevels sound.bound (assemble (Some (node.OnCancel a f)) (term_of nodes)) = rw e at levels_at in
         let below : All (λ c. c < id.0) (children (node.OnCancel a f)) = rw e at child_before in
-        record {
-          tree = sound.tree;
-          bound = sound.bound;
-          fits = sound.fits;
-          place_in = child_node a sound.bound (below 0 0 (omega arith)) s.0;
-          frames_in = (sound.bound, omega arith, child_node f sound.bound (below 1 0 (omega arith)) s.1, sound.frames_in);
-          closed = (tt, sound.closed);
-          room = sound.room;
-          between = tt;
-        }
+        sound_inside (frame.OnCancel f) m (child_node a sound.bound (below 0 0 (omega arith)) s.0) (child_node f sound.bound (below 1 0 (omega arith)) s.1) tt refl sound.room
+    entered_sound (frame.Acquire own) e =
+        let x : Option ℕ = e.1 in
+        let u : NodeId = e.2 in
+        let r : NodeId = e.3 in
+        let s : HasLevels sound.bound (assemble (Some (node.Bracket x a u r)) (term_of nodes)) = rw e.4 at levels_at in
+        let below : All (λ c. c < id.0) (children (node.Bracket x a u r)) = rw e.4 at child_before in
+        let used : IsBound nodes sound.bound x u = record { binder = s.1; node = child_node u _ (below 1 0 (omega arith)) s.2 } in
+        let released : IsBound nodes sound.bound x r = record { binder = s.1; node = child_node r _ (below 2 0 (omega arith)) s.3 } in
+        let bracket : IsBracketIn nodes sound.bound (slice_get nodes own.0) = rw (e.0, is, e.4) (used, released) in
+        sound_inside (frame.Acquire own) (closed_by Seal m) (child_node a sound.bound (below 0 0 (omega arith)) s.0) bracket (m.regions, refl) refl sound.room
+    entered_sound (frame.Using k r) e = absurd e
+    entered_sound (frame.Releasing k v) e = absurd e
+    entered_sound (frame.Loop own turn) e = absurd e
     entered_sound frame.Masked e = absurd e
     entered_sound (frame.Opened r b) e = absurd e
 
     entered_term : (u : Term) → fill (length ns) ns (assemble (Some n) (term_of nodes)) ≡ u → running nodes ns left (within nodes ns fs m.regions u) ≡ progress_at nodes ns fs m.regions left place
     entered_term u e = sym (progress_is u e)
 
-    pub entered_same : (f : Frame) → IsEntryOf n f a → progress_at nodes ns (f ∷ fs) m.regions left (At a) ≡ progress_at nodes ns fs m.regions left place
+    pub entered_same : (f : Frame) → IsEntryOf id n f a → progress_at nodes ns (f ∷ fs) (masks_inside f m).regions left (At a) ≡ progress_at nodes ns fs m.regions left place
     entered_same (frame.Let x b) e = entered_term _ (rw e refl)
     entered_same (frame.Handle x b) e = entered_term _ (rw e refl)
     entered_same (frame.OnCancel f) e = entered_term _ (rw e refl)
+    entered_same (frame.Acquire own) e = rw (e.0, is, e.4) (entered_term _ (rw e.4 refl))
+    entered_same (frame.Using k r) e = absurd e
+    entered_same (frame.Releasing k v) e = absurd e
+    entered_same (frame.Loop own turn) e = absurd e
     entered_same frame.Masked e = absurd e
     entered_same (frame.Opened r b) e = absurd e
+
+-- and no mask is entered by it
+pub inside_entries : (f : Frame) (m : MasksView) → (masks_inside f m).entries ≡ m.entries
+inside_entries (frame.Acquire id) m = refl
+inside_entries f m = refl
 
 -- how far down the parts of a node's term may reach
 abbrev pub levels_below : Place → ℕ
@@ -139,9 +163,16 @@ levels_below (At id) = id.0 + 1
 levels_below _ = 0
 
 -- the first part stands before its form
-pub first_lower : (nodes : List Node) (place place' : Place) (id a : NodeId) (n : Node) (f : Frame) → ChildrenComeFirst nodes → slice_get nodes id.0 ≡ Some n → IsEntryOf n f a → place ≡ At id → place' ≡ At a → levels_below place' < levels_below place
-first_lower nodes place place' id a n (frame.Let x b) tree is entry e e' = let p : All (λ c. c < id.0) (a.0 ∷ b.0 ∷ []) = rw entry at (tree id.0 n is) in let q = p 0 0 (omega arith) in rw (e, e') (omega arith)
-first_lower nodes place place' id a n (frame.Handle x b) tree is entry e e' = let p : All (λ c. c < id.0) (a.0 ∷ b.0 ∷ []) = rw entry at (tree id.0 n is) in let q = p 0 0 (omega arith) in rw (e, e') (omega arith)
-first_lower nodes place place' id a n (frame.OnCancel b) tree is entry e e' = let p : All (λ c. c < id.0) (a.0 ∷ b.0 ∷ []) = rw entry at (tree id.0 n is) in let q = p 0 0 (omega arith) in rw (e, e') (omega arith)
-first_lower nodes place place' id a n frame.Masked tree is entry e e' = absurd entry
-first_lower nodes place place' id a n (frame.Opened r b) tree is entry e e' = absurd entry
+pub first_lower : (nodes : List Node) (place place' : Place) (id a : NodeId) (n : Node) (f : Frame) → ChildrenComeFirst nodes → slice_get nodes id.0 ≡ Some n → IsEntryOf id n f a → place ≡ At id → place' ≡ At a → levels_below place' < levels_below place
+first_lower nodes place place' id a n f tree is entry e e' = let p = below f entry in rw (e, e') (omega arith)
+  where
+    below : (f : Frame) → IsEntryOf id n f a → a.0 < id.0
+    below (frame.Let x b) entry = let p : All (λ c. c < id.0) (a.0 ∷ b.0 ∷ []) = rw entry at (tree id.0 n is) in p 0 0 (omega arith)
+    below (frame.Handle x b) entry = let p : All (λ c. c < id.0) (a.0 ∷ b.0 ∷ []) = rw entry at (tree id.0 n is) in p 0 0 (omega arith)
+    below (frame.OnCancel b) entry = let p : All (λ c. c < id.0) (a.0 ∷ b.0 ∷ []) = rw entry at (tree id.0 n is) in p 0 0 (omega arith)
+    below (frame.Acquire own) entry = let p : All (λ c. c < id.0) (a.0 ∷ entry.2.0 ∷ entry.3.0 ∷ []) = rw entry.4 at (tree id.0 n is) in p 0 0 (omega arith)
+    below (frame.Using k r) entry = absurd entry
+    below (frame.Releasing k v) entry = absurd entry
+    below (frame.Loop own turn) entry = absurd entry
+    below frame.Masked entry = absurd entry
+    below (frame.Opened r b) entry = absurd entry

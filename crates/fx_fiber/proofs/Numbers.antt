@@ -1,8 +1,10 @@
 -- The numbers above the names in scope make no difference, and a number put for the name of a part that waits is one more register.
+use Rattle.std.specs.Prelude.{slice_get}
 use Rattle.std.proofs.Common.{◌≡◌, ℕ, suc, ◌≤◌, Option, Some, None, List, [], ◌∷◌, length, refl, sym, ◌∙◌, ap, arith}
 use Rattle.fx_term.specs.declared.node.NodeId.{NodeId}
 use Rattle.fx_term.specs.declared.node.Node.{Node}
-use Rattle.fx_term.specs.Term.{Term, Let, Handle, OnCancel, put_named}
+use Rattle.fx_term.specs.declared.node.Node.TheVariants as node
+use Rattle.fx_term.specs.Term.{Term, Let, Handle, OnCancel, Using, Loop, put_named}
 use Rattle.fx_term.specs.Fill.{AgreeBelow}
 use Rattle.fx_term.specs.Registers.{with_number}
 use Rattle.fx_term.specs.Scope.{bound_under, HasLevels}
@@ -15,9 +17,10 @@ use Rattle.fx_frames.specs.declared.frame.Frame.TheVariants as frame
 use Rattle.fx_frames.specs.declared.cleanup.Cleanup.{Cleanup}
 use Rattle.fx_frames.specs.declared.cleanup.Cleanup.TheVariants as cleanup
 use Rattle.fx_frames.specs.Frames.{cleanups_of}
-use Rattle.fx_fiber.specs.Path.{CleanUp}
+use Rattle.fx_fiber.specs.declared.standing.cleaning.Cleaning.{Cleaning}
+use Rattle.fx_fiber.specs.Path.{CleanUp, Finalizer, Release}
 use Rattle.fx_fiber.specs.Step.{CleansUp}
-use Rattle.fx_fiber.specs.Standing.{filled, waiting, outside_frame, in_frame, within, clean_ups_of, running, left_of, IsNode, IsBound, IsFrameIn, AreCleanupsIn, AreFramesIn}
+use Rattle.fx_fiber.specs.Standing.{filled, waiting, loop_of, bracket_of, outside_frame, in_frame, within, clean_up_of, clean_ups_of, running, left_of, IsNode, IsBound, IsLoopIn, IsBracketIn, IsFrameIn, IsCleanupIn, AreCleanupsIn, AreFramesIn}
 
 pub cleanups_up : (nodes : List Node) (d e : ℕ) (cs : List Cleanup) → AreCleanupsIn nodes d cs → d ≤ e → AreCleanupsIn nodes e cs
 cleanups_up nodes d e [] h p = tt
@@ -33,6 +36,10 @@ cleanups_in nodes d [] h = tt
 cleanups_in nodes d (frame.Let x b ∷ fs) h = cleanups_up nodes h.0 d (cleanups_of fs) (cleanups_in nodes h.0 fs h.3) h.1
 cleanups_in nodes d (frame.Handle x b ∷ fs) h = cleanups_up nodes h.0 d (cleanups_of fs) (cleanups_in nodes h.0 fs h.3) h.1
 cleanups_in nodes d (frame.OnCancel f ∷ fs) h = (h.0, h.1, h.2, cleanups_in nodes h.0 fs h.3)
+cleanups_in nodes d (frame.Acquire id ∷ fs) h = cleanups_up nodes h.0 d (cleanups_of fs) (cleanups_in nodes h.0 fs h.3) h.1
+cleanups_in nodes d (frame.Using k r ∷ fs) h = (h.0, h.1, h.2, cleanups_in nodes h.0 fs h.3)
+cleanups_in nodes d (frame.Releasing k v ∷ fs) h = cleanups_up nodes h.0 d (cleanups_of fs) (cleanups_in nodes h.0 fs h.3) h.1
+cleanups_in nodes d (frame.Loop id turn ∷ fs) h = cleanups_up nodes h.0 d (cleanups_of fs) (cleanups_in nodes h.0 fs h.3) h.1
 cleanups_in nodes d (frame.Masked ∷ fs) h = cleanups_up nodes h.0 d (cleanups_of fs) (cleanups_in nodes h.0 fs h.3) h.1
 cleanups_in nodes d (frame.Opened r b ∷ fs) h = cleanups_up nodes h.0 d (cleanups_of fs) (cleanups_in nodes h.0 fs h.3) h.1
 
@@ -52,28 +59,47 @@ module _ (nodes : List Node) (ns ms : List ℕ) where
       let v : x ≤ length ms = omega arith in
       rw (lower_below (length ns) x u, lower_below (length ms) x v, at) (fill_agree e ns ms (term_of nodes b.0) h)
 
+  bracket_same : (e : ℕ) (o : Option Node) (t : Term) → IsBracketIn nodes e o → e ≤ length ns → e ≤ length ms → AgreeBelow e ns ms → bracket_of nodes ns o t ≡ bracket_of nodes ms o t
+  bracket_same e (Some (node.Bracket x a u r)) t s p q h =
+      let used = waiting_same e x u s.0 p q h in
+      let released = waiting_same e x r s.1 p q h in
+      cc
+  bracket_same e o t s p q h = refl
+
+  pub loop_same : (e : ℕ) (o : Option Node) (turn : ℕ) → IsLoopIn nodes e o → e ≤ length ns → e ≤ length ms → AgreeBelow e ns ms → loop_of nodes ns o turn ≡ loop_of nodes ms o turn
+  loop_same e (Some (node.For i n a)) turn s p q h = ap (λ (w : Term). Loop i turn n w) (waiting_same e (Some i) a s p q h)
+  loop_same e o turn s p q h = refl
+
   frame_same : (e : ℕ) (cs : List Closing) (f : Frame) (t : Term) → IsFrameIn nodes e f → e ≤ length ns → e ≤ length ms → AgreeBelow e ns ms → in_frame nodes ns cs f t ≡ in_frame nodes ms cs f t
   frame_same e cs (frame.Let x b) t s p q h = ap (λ (w : Term). Let x t w) (waiting_same e x b s p q h)
   frame_same e cs (frame.Handle x b) t s p q h = ap (λ (w : Term). Handle t x w) (waiting_same e x b s p q h)
   frame_same e cs (frame.OnCancel f) t s p q h = ap (λ (w : Term). OnCancel t w) (filled_same e f s p q h)
+  frame_same e cs (frame.Acquire id) t s p q h = bracket_same e (slice_get nodes id.0) t s p q h
+  frame_same e cs (frame.Using k r) t s p q h = ap (λ (w : Term). Using k t w) (filled_same e r s p q h)
+  frame_same e cs (frame.Releasing k v) t s p q h = refl
+  frame_same e cs (frame.Loop id turn) t s p q h = ap (λ (w : Term). Let None t w) (loop_same e (slice_get nodes id.0) turn s p q h)
   frame_same e cs frame.Masked t s p q h = refl
   frame_same e cs (frame.Opened r b) t s p q h = refl
 
+  clean_up_same : (e : ℕ) (c : Cleanup) → IsCleanupIn nodes e c → e ≤ length ns → e ≤ length ms → AgreeBelow e ns ms → clean_up_of nodes ns c ≡ clean_up_of nodes ms c
+  clean_up_same e (cleanup.Finalizer f) s p q h = ap Finalizer (filled_same e f s p q h)
+  clean_up_same e (cleanup.Release k r) s p q h = ap (λ (w : Term). Release k w) (filled_same e r s p q h)
+
   clean_ups_same : (d : ℕ) (left : List Cleanup) → AreCleanupsIn nodes d left → d ≤ length ns → d ≤ length ms → AgreeBelow d ns ms → clean_ups_of nodes ns left ≡ clean_ups_of nodes ms left
   clean_ups_same d [] s p q h = refl
-  clean_ups_same d (cleanup.Finalizer f ∷ left) s p q h =
+  clean_ups_same d (c ∷ left) s p q h =
       let e_le = s.1 in
       let u : s.0 ≤ length ns = omega arith in
       let v : s.0 ≤ length ms = omega arith in
       let k = agree_down d s.0 ns ms h e_le in
-      let first = filled_same s.0 f s.2 u v k in
+      let first = clean_up_same s.0 c s.2 u v k in
       let rest = clean_ups_same s.0 left s.3 u v k in
       cc
 
-  pub running_same : (d : ℕ) (fs : List Frame) (cs : List Closing) (left : Option (List Cleanup)) (t : Term) → AreFramesIn nodes d fs (left_of left) → d ≤ length ns → d ≤ length ms → AgreeBelow d ns ms
+  pub running_same : (d : ℕ) (fs : List Frame) (cs : List Closing) (left : Option Cleaning) (t : Term) → AreFramesIn nodes d fs (left_of left) → d ≤ length ns → d ≤ length ms → AgreeBelow d ns ms
       → running nodes ns left (within nodes ns fs cs t) ≡ running nodes ms left (within nodes ms fs cs t)
   running_same d [] cs None t s p q h = refl
-  running_same d [] cs (Some left) t s p q h = ap (λ (c : List CleanUp). CleansUp None t c) (clean_ups_same d left s p q h)
+  running_same d [] cs (Some c) t s p q h = ap (λ (xs : List CleanUp). CleansUp c.resource t xs) (clean_ups_same d c.left s p q h)
   running_same d (f ∷ fs) cs left t s p q h =
       let e : ℕ = s.0 in
       let e_le : e ≤ d = s.1 in
@@ -85,7 +111,7 @@ module _ (nodes : List Node) (ns ms : List ℕ) where
 
 -- a number put for the name of a part that waits: the part goes on with one more register
 module _ (nodes : List Node) (ns : List ℕ) (n e : ℕ) (b : NodeId) (fits : e ≤ length ns) where
-  part_named : (x : Option ℕ) → IsBound nodes e x b → put_named x n (waiting nodes ns x b) ≡ filled nodes (with_number x n ns) b
+  pub part_named : (x : Option ℕ) → IsBound nodes e x b → put_named x n (waiting nodes ns x b) ≡ filled nodes (with_number x n ns) b
   part_named None s = refl
   part_named (Some x) s =
       let at = s.binder in
@@ -97,7 +123,7 @@ module _ (nodes : List Node) (ns : List ℕ) (n e : ℕ) (b : NodeId) (fits : e 
       (put_fill x n ns (with_number (Some x) n ns) (agree_below x n ns h) (number_at x n ns h) (suc x) (term_of nodes b.0) levels (omega arith) ∙ sym filled_same)
 
   -- a register for the name changes nothing outside its scope
-  pub running_bound : (x : Option ℕ) (fs : List Frame) (cs : List Closing) (left : Option (List Cleanup)) (t : Term) → IsBound nodes e x b → AreFramesIn nodes e fs (left_of left)
+  pub running_bound : (x : Option ℕ) (fs : List Frame) (cs : List Closing) (left : Option Cleaning) (t : Term) → IsBound nodes e x b → AreFramesIn nodes e fs (left_of left)
       → running nodes ns left (within nodes ns fs cs t) ≡ running nodes (with_number x n ns) left (within nodes (with_number x n ns) fs cs t)
   running_bound None fs cs left t s outer = refl
   running_bound (Some x) fs cs left t s outer =
@@ -108,7 +134,7 @@ module _ (nodes : List Node) (ns : List ℕ) (n e : ℕ) (b : NodeId) (fits : e 
       running_same nodes ns (with_number (Some x) n ns) x fs cs left t outer' h (omega arith) (agree_below x n ns h)
 
   -- the fiber where the part goes on, inside a context of its own
-  pub running_named : (wrap : Term → Term) (x : Option ℕ) (fs : List Frame) (cs : List Closing) (left : Option (List Cleanup)) → IsBound nodes e x b → AreFramesIn nodes e fs (left_of left)
+  pub running_named : (wrap : Term → Term) (x : Option ℕ) (fs : List Frame) (cs : List Closing) (left : Option Cleaning) → IsBound nodes e x b → AreFramesIn nodes e fs (left_of left)
       → running nodes ns left (within nodes ns fs cs (wrap (put_named x n (waiting nodes ns x b)))) ≡ running nodes (with_number x n ns) left (within nodes (with_number x n ns) fs cs (wrap (filled nodes (with_number x n ns) b)))
   running_named wrap x fs cs left s outer =
       running_bound x fs cs left (wrap (put_named x n (waiting nodes ns x b))) s outer

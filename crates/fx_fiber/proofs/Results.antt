@@ -10,26 +10,31 @@ use Rattle.fx_term.specs.Scope.{bound_under}
 use Rattle.fx_mask.specs.Closing.{Closing, is_none_closed}
 use Rattle.fx_frames.specs.declared.frame.Frame.{Frame}
 use Rattle.fx_fiber.specs.Row.{Counts, Label, Silent, Row}
-use Rattle.fx_fiber.specs.Step.{Progress, Step}
+use Rattle.fx_fiber.specs.Step.{Progress, leaf_at, Step}
 use Rattle.fx_fiber.specs.declared.standing.place.Place.TheVariants.{At}
 use Rattle.fx_fiber.specs.declared.standing.Standing.{Standing}
 use Rattle.fx_fiber.specs.Standing.{filled, waiting, outside_frame, in_frame, within, running, progress_of, counts_of, closed_outside, left_of, taken_off, AreClosedBy, AreFramesIn, IsFrameIn, IsBound, IsClosedBy, IsSound}
 use Rattle.fx_fiber.specs.Path.{must_cancel}
 use Rattle.fx_fiber.specs.Rule.{StandsIn, HasGiven, is_due}
+use Rattle.fx_fiber.specs.MakesStep.{is_giving_way}
 use Rattle.fx_fiber.proofs.Contexts.{row_within}
 use Rattle.fx_fiber.proofs.Numbers.{frames_up, running_named, fits_named, under_above}
-use Rattle.fx_fiber.proofs.Rules.{row_step, result_term}
+use Rattle.fx_fiber.proofs.Rules.{row_step, result_term, leaf_of_running}
+
+-- the leaf of a fiber with a result is that result, so no rule of it is that of `cede`
+pub given_is_no_cede : (nodes : List Node) (s : Standing) (v : Done) → HasGiven nodes s v → is_giving_way (leaf_at (progress_of nodes s)) ≡ false
+given_is_no_cede nodes s v given = rw given.place (ap is_giving_way (leaf_of_running nodes s.registers s.frames s.masks.regions (Finished v) (result_term s.masks.regions v) s.cleanups))
 
 -- a fiber with a result in its innermost context
 module _ (nodes : List Node) (s : Standing) (f : Frame) (v : Done) (inside : StandsIn nodes s f v) where
-  closed_in : AreClosedBy (closed_outside s.cleanups) (f ∷ inside.outer) s.masks.regions
+  pub closed_in : AreClosedBy (closed_outside s.cleanups) (f ∷ inside.outer) s.masks.regions
   closed_in = rw inside.frames at inside.given.sound.closed
 
   -- the context stands where this is closed
   pub closed_inside : IsClosedBy f s.masks.regions
   closed_inside = closed_in.0
 
-  frames_in : AreFramesIn nodes inside.given.sound.bound (f ∷ inside.outer) (left_of s.cleanups)
+  pub frames_in : AreFramesIn nodes inside.given.sound.bound (f ∷ inside.outer) (left_of s.cleanups)
   frames_in = rw inside.frames at inside.given.sound.frames_in
 
   -- the row of that context is a step
@@ -84,5 +89,5 @@ on_any_error (Ok x) p = tt
 on_any_error (Err e) p = p
 
 -- counts with as many masks
-pub counts_same : (s : Standing) (n : ℕ) → n ≡ s.masks.entries → ◌≡◌ {A = Counts} (record { masks = n; acquired = 0; next = s.next; end = s.end; known = s.known }) (counts_of s)
+pub counts_same : (s : Standing) (n : ℕ) → n ≡ s.masks.entries → ◌≡◌ {A = Counts} (record { masks = n; acquired = s.acquired; next = s.next; end = s.end; known = s.known }) (counts_of s)
 counts_same s n e = rw e refl

@@ -7,13 +7,13 @@ use Rattle.fx_term.specs.declared.event.Event.TheVariants as event
 use Rattle.fx_term.specs.Term.{Term, Finished}
 use Rattle.fx_mask.specs.Closing.{Closing, is_none_closed}
 use Rattle.fx_frames.specs.declared.frame.Frame.{Frame}
-use Rattle.fx_frames.specs.declared.cleanup.Cleanup.{Cleanup}
+use Rattle.fx_fiber.specs.declared.standing.cleaning.Cleaning.{Cleaning}
 use Rattle.fx_frames.specs.Frames.{cleanups_of}
 use Rattle.fx_fiber.specs.Path.{closed_regions, clean_ups, leaf, is_canceled_form, is_open}
 use Rattle.fx_fiber.specs.Row.{Counts, Label, Shows, Row, known_canceled}
-use Rattle.fx_fiber.specs.Step.{Runs, Unwinds, Step, cancelled, seen, row, cleans}
+use Rattle.fx_fiber.specs.Step.{Runs, Unwinds, leaf_at, must_cancel_at, Step, cancelled, seen, row, cleans}
 use Rattle.fx_fiber.specs.Standing.{within, clean_ups_of, running, closed_outside, AreClosedBy}
-use Rattle.fx_fiber.proofs.Contexts.{clean_within, open_within, must_within, clean_up_is_closed}
+use Rattle.fx_fiber.proofs.Contexts.{leaf_within, clean_within, open_within, must_within, clean_up_is_closed}
 
 -- what holds of the term of a leaf: it is its own leaf, and closes and cleans nothing
 pub record IsLeafTerm (cs : List Closing) (t : Term) : Type 0 where
@@ -23,7 +23,7 @@ pub record IsLeafTerm (cs : List Closing) (t : Term) : Type 0 where
 
 module _ (nodes : List Node) (ns : List ℕ) (fs : List Frame) (cs : List Closing) (t : Term) (leaf_term : IsLeafTerm cs t) where
   -- a row of the whole term is a step of the fiber, where cancellation is not the one rule
-  pub row_step : (left : Option (List Cleanup)) (c d : Counts) (l : Label) (t' : Term) → AreClosedBy (closed_outside left) fs cs → (is_none_closed cs && (c.known || is_canceled_form t)) ≡ false
+  pub row_step : (left : Option Cleaning) (c d : Counts) (l : Label) (t' : Term) → AreClosedBy (closed_outside left) fs cs → (is_none_closed cs && (c.known || is_canceled_form t)) ≡ false
       → ((k : Bool) → k ≡ not (is_none_closed cs) → Row k c (within nodes ns fs cs t) l d t') → Step c (running nodes ns left (within nodes ns fs cs t)) l d (running nodes ns left t')
   row_step None c d l t' closed free go =
       let opened = open_within nodes ns fs cs t closed leaf_term.stays in
@@ -31,7 +31,7 @@ module _ (nodes : List Node) (ns : List ℕ) (fs : List Frame) (cs : List Closin
   row_step (Some left) c d l t' closed free go = cleans (go true (sym (ap not (clean_up_is_closed fs cs left closed))))
 
   -- cancellation gives the whole term up for the clean-ups of the contexts
-  pub cancelled_step : (left : Option (List Cleanup)) (c : Counts) → AreClosedBy (closed_outside left) fs cs → (is_none_closed cs && (c.known || is_canceled_form t)) ≡ true
+  pub cancelled_step : (left : Option Cleaning) (c : Counts) → AreClosedBy (closed_outside left) fs cs → (is_none_closed cs && (c.known || is_canceled_form t)) ≡ true
       → Step c (running nodes ns left (within nodes ns fs cs t)) (Shows event.Cancelled) c (Unwinds (clean_ups_of nodes ns (cleanups_of fs)))
   cancelled_step None c closed due =
       let step : Step c (Runs (within nodes ns fs cs t)) (Shows event.Cancelled) c (Unwinds (clean_ups (within nodes ns fs cs t))) = cancelled (must_within nodes ns fs cs t closed leaf_term.stays c.known leaf_term.is_leaf ∙ due) in
@@ -42,10 +42,20 @@ module _ (nodes : List Node) (ns : List ℕ) (fs : List Frame) (cs : List Closin
       by_shut a b e h = let no : (a && b) ≡ false = rw e refl in cc
 
   -- a request that is found at an open place
-  pub seen_step : (left : Option (List Cleanup)) (c : Counts) → AreClosedBy (closed_outside left) fs cs → is_none_closed cs ≡ true → (is_none_closed cs && (c.known || is_canceled_form t)) ≡ false
+  pub seen_step : (left : Option Cleaning) (c : Counts) → AreClosedBy (closed_outside left) fs cs → is_none_closed cs ≡ true → (is_none_closed cs && (c.known || is_canceled_form t)) ≡ false
       → Step c (running nodes ns left (within nodes ns fs cs t)) (Shows event.Seen) (known_canceled c) (running nodes ns left (within nodes ns fs cs t))
   seen_step None c closed shown free = seen (must_within nodes ns fs cs t closed leaf_term.stays c.known leaf_term.is_leaf ∙ free) (open_within nodes ns fs cs t closed leaf_term.stays ∙ shown)
   seen_step (Some left) c closed shown free = absurd (let shut = clean_up_is_closed fs cs left closed in cc)
+
+  -- the leaf of what the fiber runs stands inside all contexts
+  pub leaf_of_running : (left : Option Cleaning) → leaf_at (running nodes ns left (within nodes ns fs cs t)) ≡ Some t
+  leaf_of_running None = ap Some (leaf_within nodes ns fs cs t ∙ leaf_term.is_leaf)
+  leaf_of_running (Some c) = ap Some (leaf_within nodes ns fs cs t ∙ leaf_term.is_leaf)
+
+  -- where cancellation is not the one rule inside, it is not the one of the whole term
+  pub free_running : (left : Option Cleaning) (known : Bool) → AreClosedBy (closed_outside left) fs cs → (is_none_closed cs && (known || is_canceled_form t)) ≡ false → must_cancel_at known (running nodes ns left (within nodes ns fs cs t)) ≡ false
+  free_running None known closed free = must_within nodes ns fs cs t closed leaf_term.stays known leaf_term.is_leaf ∙ free
+  free_running (Some c) known closed free = refl
 
 pub result_term : (cs : List Closing) (v : Done) → IsLeafTerm cs (Finished v)
 result_term cs v = record { is_leaf = refl; stays = refl; nothing = refl }

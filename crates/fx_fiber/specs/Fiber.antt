@@ -5,7 +5,6 @@ use Rattle.fx_term.specs.declared.begin.Begin.{Begin}
 use Rattle.fx_term.specs.declared.event.Event.{Event}
 use Rattle.fx_mask.specs.Closing.{Closing}
 use Rattle.fx_frames.specs.declared.frame.Frame.{Frame}
-use Rattle.fx_frames.specs.declared.cleanup.Cleanup.{Cleanup}
 use Rattle.fx_fiber.specs.Row.{Counts, Label}
 use Rattle.fx_fiber.specs.Step.{Progress, HasEnded}
 use Rattle.fx_fiber.specs.Run.{IsRun, events}
@@ -13,6 +12,7 @@ use Rattle.fx_fiber.specs.Begins.{beginning_of}
 use Rattle.fx_fiber.specs.Deed.{Deed, AreDeeds}
 use Rattle.fx_fiber.specs.Entries.{entries_left}
 use Rattle.fx_fiber.specs.declared.standing.place.Place.{Place}
+use Rattle.fx_fiber.specs.declared.standing.cleaning.Cleaning.{Cleaning}
 use Rattle.fx_fiber.specs.declared.standing.Standing.{Standing}
 use Rattle.fx_fiber.specs.Standing.{counts_of, progress_at, progress_of, IsSoundStanding}
 
@@ -24,7 +24,7 @@ pub record FiberView (P : Type 0) : Type 0 where
   pub registers : List ℕ
   pub frames : List Frame
   pub closed : List Closing
-  pub cleanups : Option (List Cleanup)
+  pub cleanups : Option Cleaning
   pub place : Place
 
 -- how far it is
@@ -51,9 +51,9 @@ pub record IsLawful (nodes : List Node) (begin : Begin) (agrees : List Deed → 
   pub are_deeds : AreDeeds nodes labels deeds
   pub agreed : agrees deeds
 
--- what a fiber's parts keep: they are sound, lawful, its masks can be counted, and its port knows whether it has ended
+-- what a fiber's parts keep: they are sound, lawful, its masks and resources can be counted, and its port knows whether it has ended
 pub record IsKept (nodes : List Node) (begin : Begin) (agrees : List Deed → Type 0) (finished : Bool) (trace : List Event) (s : Standing) : Type 0 where
   pub sound : IsSoundStanding nodes s
   pub lawful : IsLawful nodes begin agrees trace (counts_of s) (progress_of nodes s)
-  pub countable : s.masks.entries + entries_left (progress_of nodes s) < 2 ^ 63
+  pub countable : s.masks.entries + s.acquired + entries_left (progress_of nodes s) < 2 ^ 63
   pub ended : finished ≡ has_ended (progress_of nodes s)

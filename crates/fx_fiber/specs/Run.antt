@@ -1,12 +1,11 @@
 -- The runs of a fiber.
-use Rattle.std.specs.Prelude.{◌≡◌, ◌≢◌, ◌+◌, false, List, [], ◌∷◌, All}
-use Rattle.fx_term.specs.declared.outcome.Outcome.{Outcome}
+use Rattle.std.specs.Prelude.{◌≡◌, ◌+◌, false, List, [], ◌∷◌}
 use Rattle.fx_term.specs.declared.event.Event.{Event}
 use Rattle.fx_term.specs.declared.event.Event.TheVariants as event
 use Rattle.fx_term.specs.Term.{Term}
 use Rattle.fx_term.specs.Need.{need}
 use Rattle.fx_fiber.specs.Row.{Counts, Beginning, Label, Silent, Shows, Learns, Starts}
-use Rattle.fx_fiber.specs.Step.{Progress, Runs, HasEnded, Step}
+use Rattle.fx_fiber.specs.Step.{Progress, Runs, Step}
 
 -- the counts of a fiber that begins so
 abbrev pub first_counts : Beginning → Counts
@@ -32,15 +31,3 @@ events (Starts f b ∷ ls) = event.Start f ∷ events ls
 -- what the main fiber of a script begins with: it has the numbers from 1 on
 abbrev pub beginning_of_main : Term → Beginning
 beginning_of_main t = record { term = t; next = 1; end = 1 + need t }
-
--- the main fiber, which nobody requests, has a run that ends so
-pub record EndsAlone (t : Term) (o : Outcome) : Type 0 where
-  pub labels : List Label
-  pub counts : Counts
-  pub run : IsRun (beginning_of_main t) labels counts (HasEnded o)
-  pub unrequested : All (λ l. l ≢ Shows event.Seen) labels
-
--- the one outcome of the main fiber, which nobody requests: a run ends so, and no run ends otherwise
-pub record IsOutcome (t : Term) (o : Outcome) : Type 0 where
-  pub ends : EndsAlone t o
-  pub only : (other : Outcome) → EndsAlone t other → other ≡ o

@@ -1,5 +1,5 @@
 -- The steps of a fiber: cancellation, a request that is found, the table, the ends, and unwinding.
-use Rattle.std.specs.Prelude.{◌≡◌, ℕ, true, false, not, Option, Some, None, List, [], ◌∷◌}
+use Rattle.std.specs.Prelude.{◌≡◌, ℕ, Bool, true, false, not, Option, Some, None, List, [], ◌∷◌}
 use Rattle.fx_term.specs.declared.done.Done.{Done}
 use Rattle.fx_term.specs.declared.done.Done.TheVariants.{Val, Err}
 use Rattle.fx_term.specs.declared.outcome.Outcome.{Outcome}
@@ -7,7 +7,7 @@ use Rattle.fx_term.specs.declared.outcome.Outcome.TheVariants.{Succeeded, Errore
 use Rattle.fx_term.specs.declared.outcome.Outcome.TheVariants as outcome
 use Rattle.fx_term.specs.declared.event.Event.TheVariants as event
 use Rattle.fx_term.specs.Term.{Term, Finished}
-use Rattle.fx_fiber.specs.Path.{CleanUp, Finalizer, Release, clean_ups, is_open, must_cancel}
+use Rattle.fx_fiber.specs.Path.{CleanUp, Finalizer, Release, clean_ups, leaf, is_open, must_cancel}
 use Rattle.fx_fiber.specs.Row.{Counts, known_canceled, Label, Silent, Shows, Row}
 
 -- how far a fiber is: at its term; unwinding, between two clean-ups or in one (with the number of the resource that it releases); or at its end
@@ -16,6 +16,17 @@ pub data Progress : Type 0 where
   Unwinds : List CleanUp → Progress
   CleansUp : Option ℕ → Term → List CleanUp → Progress
   HasEnded : Outcome → Progress
+
+-- the leaf of what a fiber runs, its term or a clean-up
+abbrev pub leaf_at : Progress → Option Term
+leaf_at (Runs t) = Some (leaf t)
+leaf_at (CleansUp k t rest) = Some (leaf t)
+leaf_at _ = None
+
+-- cancellation is the one rule
+abbrev pub must_cancel_at : Bool → Progress → Bool
+must_cancel_at known (Runs t) = must_cancel known t
+must_cancel_at known _ = false
 
 -- A step of a fiber. The world's answers are read from the labels
 pub data Step (c : Counts) : Progress → Label → Counts → Progress → Type 0 where

@@ -1,13 +1,15 @@
 //! A fiber over a port.
 ghost use Rattle.std.specs.Prelude.{◌≡◌, ◌^◌, ◌<◌, ◌++◌, ◌∷◌, [], true, false, Some, List, IfOk, OnErr};
 ghost use Rattle.fx_fiber.specs.Standing.{IsSoundStanding, counts_of, progress_of};
-ghost use Rattle.fx_fiber.specs.Rule.{Steps, IsSame, IsGoing, is_open_standing, label_of, IsOwnEvent};
+ghost use Rattle.fx_fiber.specs.declared.standing.made.Made.TheVariants as made;
+ghost use Rattle.fx_fiber.specs.Rule.{Makes, IsSame, IsGoing, is_open_standing, label_of, IsOwnMade};
 ghost use Rattle.fx_fiber.specs.Deed.{Deed, Saw};
 ghost use Rattle.fx_fiber.specs.MakesStep.{looks_first, LooksInVain, Asks};
 ghost use Rattle.std.specs.Bool.{OnTrue, OnFalse};
 
 use crate::port::Port;
 use crate::standing::Standing;
+use crate::standing::made::Made;
 use crate::standing::place::Place;
 use crate::stepped::Stepped;
 use fx_term::{Code, Event, Memory};
@@ -28,36 +30,37 @@ fn finds_request<P: Port>(port: &mut P, standing: &Standing, shared: &mut P::Sha
     standing.is_open() && port.look(shared)
 }
 
-/// Makes one rule, and gives the event that it shows. At an open place cancellation comes first, and
-/// then a request that is found.
+/// Makes one rule, or none where the fiber waits. At an open place cancellation comes first, and then
+/// a request that is found.
 fn advance<P: Port>(
     port: &mut P,
     standing: &mut Standing,
     code: &Code,
     shared: &mut P::Shared,
-) -> Result<Option<Event>, Memory>
+) -> Result<Made, Memory>
     requires sound { IsSoundStanding code.now standing.old }
     requires going { IsGoing standing.old.place }
-    requires countable { standing.old.masks.entries < 2 ^ 63 }
+    requires masks_countable { standing.old.masks.entries < 2 ^ 63 }
+    requires resources_countable { standing.old.acquired < 2 ^ 63 }
     ensures sound { IsSoundStanding code.now standing.new }
-    ensures step { IfOk result (λ shown. Steps code.now standing.old (label_of shown) standing.new) }
-    ensures own { IfOk result IsOwnEvent }
-    ensures calls { IfOk result (λ shown. Asks P.looks (looks_first standing.old.known (progress_of code.now standing.old)) (label_of shown) port.old shared.old port.new shared.new) }
+    ensures made { IfOk result (λ made. Makes code.now standing.old made standing.new) }
+    ensures own { IfOk result IsOwnMade }
+    ensures calls { IfOk result (λ made. Asks P.looks (looks_first standing.old.known (progress_of code.now standing.old)) (label_of made) port.old shared.old port.new shared.new) }
     ensures number { P.number port.new ≡ P.number port.old }
     ensures beginning { P.beginning port.new ≡ P.beginning port.old }
     ensures finished { P.has_finished port.new ≡ P.has_finished port.old }
-    ensures saw { IfOk result (λ shown. shown ≡ Some Event.Seen → (deeds : List Deed) → P.agrees port.old deeds → P.agrees port.new (deeds ++ Saw ∷ [])) }
+    ensures saw { IfOk result (λ m. m ≡ made.Shows Event.Seen → (deeds : List Deed) → P.agrees port.old deeds → P.agrees port.new (deeds ++ Saw ∷ [])) }
     ensures same { OnErr result (IsSame code.now standing.old standing.new) }
     ensures unchanged { OnErr result ((port.new ≡ port.old) × (shared.new ≡ shared.old)) }
 {
     standing.enter(code)?;
     if standing.is_due(code) {
         standing.cancelled(code)?;
-        return Ok(Some(Event::Cancelled));
+        return Ok(Made::Shows(Event::Cancelled));
     }
     if finds_request(port, standing, shared) {
         standing.seen(code);
-        return Ok(Some(Event::Seen));
+        return Ok(Made::Shows(Event::Seen));
     }
     standing.rule(code)
 }
@@ -99,7 +102,7 @@ impl<P: Port> Fiber<P> {
     ghost use Rattle.fx_fiber.specs.Run.{first_counts};
     ghost use Rattle.fx_fiber.specs.Step.{Runs};
     ghost use Rattle.fx_fiber.specs.Fiber.{IsLawful, IsUnchanged, progress, has_ended};
-    ghost use Rattle.fx_fiber.specs.MakesStep.{MakesStep};
+    ghost use Rattle.fx_fiber.specs.MakesStep.{DoesStep};
 
     /// The main fiber before its first step.
     pub fn new(alloc: Global, code: &Code, port: P) -> Result<Fiber<P>, Memory>
@@ -148,19 +151,23 @@ impl<P: Port> Fiber<P> {
         matches!(self.standing.place, Place::Ended(_))
     }
 
-    /// Makes exactly one rule. Room for what it needs is had before anything is done through the
-    /// port, so that want of memory leaves the fiber and the world as they were.
+    /// Makes exactly one rule; or answers that the fiber waits, and has changed nothing. Room for what
+    /// it needs is had before anything is done through the port, so that want of memory leaves the
+    /// fiber and the world as they were.
     pub fn step(&mut self, code: &Code, shared: &mut P::Shared) -> Result<Stepped, Memory>
         requires code { code.now ≡ P.code }
         requires going { has_ended (progress P.code self.old) ≡ false }
-        ensures ok { IfOk result (λ answer. MakesStep P.looks P.finishes P.code self.old shared.old answer self.new shared.new) }
+        ensures ok { IfOk result (λ answer. DoesStep P.looks P.finishes P.code self.old shared.old answer self.new shared.new) }
         ensures err { OnErr result (IsUnchanged P.code self.old self.new × (shared.new ≡ shared.old)) }
         ensures number { P.number self.new.port ≡ P.number self.old.port }
         ensures beginning { P.beginning self.new.port ≡ P.beginning self.old.port }
     {
         self.trace.reserve(1)?;
-        let Some(event) = advance(&mut self.port, &mut self.standing, code, shared)? else {
-            return Ok(Stepped::Went);
+        let event = match advance(&mut self.port, &mut self.standing, code, shared)? {
+            Made::Shows(event) => event,
+            Made::Silent => return Ok(Stepped::Went),
+            Made::Gave => return Ok(Stepped::Gave),
+            Made::Waits => return Ok(Stepped::Waits),
         };
         self.trace.push_reserved(event);
         match event {

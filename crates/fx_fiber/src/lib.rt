@@ -1,28 +1,39 @@
 //! A fiber as a machine of its own, over any port to the world around it.
 //!
-//! A [`Fiber`] stands inside contexts that it has entered, with a number for each name in scope. A
-//! step looks at that place and makes exactly one rule:
+//! A [`Fiber`] stands inside contexts that it has entered, with a number for each name in scope. The
+//! acquire part and the release of a bracket are sealed inside, and so is each clean-up: no poll opens
+//! a place there. A step looks at the place and makes exactly one rule, or none where the fiber waits:
 //!
 //! 1. A fiber that is between two clean-ups begins the next one, or ends as canceled: `finalizer`,
-//!    `unwound`.
+//!    `release`, `unwound`.
 //! 2. Contexts are entered down to a leaf or a result, which shows nothing.
-//! 3. Where no mask closes the place and the fiber is known to be canceled, or is at `canceled`, its
+//! 3. Where nothing closes the place and the fiber is known to be canceled, or is at `canceled`, its
 //!    term is given up for its clean-ups: `cancelled`.
-//! 4. Else, where no mask closes the place, the port is asked whether the fiber is requested; a
+//! 4. Else, where nothing closes the place, the port is asked whether the fiber is requested; a
 //!    request that is found is known from then on: `seen`.
 //! 5. Else the table makes the rule of that place:
 //!
 //! | inside all contexts | the innermost context | rule |
 //! |---|---|---|
-//! | `pure n`; `raise e`; `canceled` | any or none | `pure`; `raise`; `self_request` |
+//! | `pure n`; `raise e`; `canceled`; `cede` | any or none | `pure`; `raise`; `self_request`; `cede` |
+//! | `never` | any or none | none: the fiber waits |
+//! | `if` of another number than 0; of 0 | any or none | `if_not_zero`; `if_zero` |
+//! | `for`; its loop with a turn left; with none | any or none | `for_begins`; `loop_turns`; `loop_ends` |
 //! | `mask`; `poll` | any or none | `mask`; `poll` |
-//! | a value | a `let`; a `handle`; none | `let_value`; `handle_value`; `succeeds` |
-//! | an error | a `let`; a `handle`; none | `let_error`; `handle_error`; `errs` |
+//! | a value | a `let`, or a turn of a loop; a `handle`; none | `let_value`; `handle_value`; `succeeds` |
+//! | an error | a `let`, or a turn of a loop; a `handle`; none | `let_error`; `handle_error`; `errs` |
 //! | a value or an error | a mask; a poll; an `oncancel` | `masked_ends`; `opened_ends`; `oncancel_ends` |
-//! | a value or an error of a clean-up | none | `finalizer_ends` |
+//! | a value; an error | the acquire part of a bracket | `acquired`; `acquire_fails` |
+//! | a value or an error | the use of a bracket; its release | `used`; `released` |
+//! | a value or an error of a clean-up | none | `finalizer_ends`; `release_ends` |
+//!
+//! The answer of a step is [`Stepped::Gave`] exactly where its rule is `cede`, and [`Stepped::Waits`]
+//! exactly where it made none. A fiber that waits at an open place looks in each step, so a request is
+//! found there; where something closes the place it waits for good.
 //!
 //! What never happens: a row of the table at an open place before a look in that step; an event that
-//! is made and not in the trace; a change where memory runs out; a call to the depth of a term.
+//! is made and not in the trace; a change where memory runs out or the fiber waits; a call to the
+//! depth of a term.
 #![tactic(auto)]
 
 mod begin;

@@ -5,6 +5,10 @@
 pub enum Stepped {
     /// It made a rule, and the fiber goes on.
     Went,
+    /// It made no rule, since the fiber waits; nothing has changed.
+    Waits,
+    /// It made the rule of `cede`: the fiber goes on, after others.
+    Gave,
     /// It made the last rule: the fiber has ended.
     Ended,
 }

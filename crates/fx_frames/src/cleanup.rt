@@ -7,4 +7,6 @@ use fx_term::NodeId;
 pub enum Cleanup {
     /// Runs the finalizer of an `oncancel`.
     Finalizer(NodeId),
+    /// Runs the release of the resource of this number.
+    Release(u64, NodeId),
 }

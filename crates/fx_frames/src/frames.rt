@@ -59,6 +59,16 @@ impl Frames {
         self.items.pop()
     }
 
+    /// Puts a context in the stead of the innermost, for which there is room.
+    pub fn replace(&mut self, frame: Frame)
+        requires { (inner : Frame) × (outer : List Frame) × (self.old ≡ inner ∷ outer) }
+        ensures { (inner : Frame) (outer : List Frame) → self.old ≡ inner ∷ outer → self.new ≡ frame ∷ outer }
+    {
+        let items = &mut self.items;
+        let _ = items.pop();
+        items.push_reserved(frame);
+    }
+
     /// Gives all contexts up for their clean-ups.
     pub fn unwind(self) -> Unwinding
         ensures { result ≡ cleanups_of self }
@@ -73,7 +83,7 @@ mod tests {
     use crate::cleanup::Cleanup;
     use crate::frame::Frame;
     use fx_mask::Region;
-    use fx_term::NodeId;
+    use fx_term::{Done, NodeId};
     use std::test::Fail;
 
     #[test]
@@ -82,8 +92,12 @@ mod tests {
             ("let", Frame::Let(Some(2), NodeId(5))),
             ("handle", Frame::Handle(None, NodeId(4))),
             ("oncancel", Frame::OnCancel(NodeId(3))),
+            ("acquire", Frame::Acquire(NodeId(8))),
+            ("use", Frame::Using(1, NodeId(9))),
+            ("release", Frame::Releasing(1, Done::Err(7))),
             ("mask", Frame::Masked),
             ("poll", Frame::Opened(Region(6), true)),
+            ("loop", Frame::Loop(NodeId(2), 10)),
         ];
         let mut frames = Frames::new(rt.alloc());
         for (_, frame) in rows {
@@ -99,13 +113,27 @@ mod tests {
     }
 
     #[test]
-    fn finalizers_from_the_inside(rt: HostRuntime) -> Result<(), Fail> {
+    fn the_innermost_is_replaced(rt: HostRuntime) -> Result<(), Fail> {
+        let mut frames = Frames::new(rt.alloc());
+        frames.push(Frame::Let(None, NodeId(5)))?;
+        frames.push(Frame::Acquire(NodeId(8)))?;
+        frames.replace(Frame::Using(0, NodeId(6)));
+        assert_eq!(rt; frames.pop(), Some(Frame::Using(0, NodeId(6))));
+        assert_eq!(rt; frames.pop(), Some(Frame::Let(None, NodeId(5))));
+        Ok(())
+    }
+
+    #[test]
+    fn clean_ups_from_the_inside(rt: HostRuntime) -> Result<(), Fail> {
         let mut frames = Frames::new(rt.alloc());
         frames.push(Frame::OnCancel(NodeId(3)))?;
-        frames.push(Frame::Let(None, NodeId(5)))?;
+        frames.push(Frame::Let(None, NodeId(4)))?;
+        frames.push(Frame::Using(0, NodeId(5)))?;
+        frames.push(Frame::Loop(NodeId(6), 1))?;
         frames.push(Frame::OnCancel(NodeId(7)))?;
         let mut unwinding = frames.unwind();
         assert_eq!(rt; unwinding.next(), Some(Cleanup::Finalizer(NodeId(7))));
+        assert_eq!(rt; unwinding.next(), Some(Cleanup::Release(0, NodeId(5))));
         assert_eq!(rt; unwinding.next(), Some(Cleanup::Finalizer(NodeId(3))));
         assert_eq!(rt; unwinding.next(), None);
         assert_eq!(rt; unwinding.next(), None);

@@ -7,20 +7,25 @@
 //! |---|---|---|
 //! | `Let`, `Handle` | the first part | none |
 //! | `OnCancel` | the first part | the finalizer |
+//! | `Acquire` | the acquire part of a bracket | none |
+//! | `Using` | its use | the release |
+//! | `Releasing` | its release | none |
 //! | `Masked` | the inside of a mask | none |
 //! | `Opened` | the inside of a poll | none |
+//! | `Loop` | one turn of a loop | none |
 //!
 //! | what is done | the contexts, the innermost first |
 //! |---|---|
 //! | `new` | none |
 //! | `push` | that one, and all that were |
 //! | `pop` | all but the innermost |
+//! | `replace` | all but the innermost, and that one in its stead |
 //! | `unwind` | none: its `Unwinding` has their clean-ups, of which each `next` takes the innermost |
 //!
 //! 1. A context is entered and left at the inner end alone.
 //! 2. Each clean-up comes once, from the inside out, and none is left out.
 //! 3. An `Unwinding` that has come to its end stays there.
-//! 4. `unwind` and `next` take no memory. Where it runs out in `push`, nothing has changed.
+//! 4. `replace`, `unwind` and `next` take no memory. Where it runs out in `push`, nothing has changed.
 #![tactic(auto)]
 
 mod cleanup;

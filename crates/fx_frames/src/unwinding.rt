@@ -29,7 +29,14 @@ fn cleanup_of(frame: Frame) -> Option<Cleanup>
 {
     match frame {
         Frame::OnCancel(finalizer) => Some(Cleanup::Finalizer(finalizer)),
-        Frame::Let(..) | Frame::Handle(..) | Frame::Masked | Frame::Opened(..) => None,
+        Frame::Using(resource, release) => Some(Cleanup::Release(resource, release)),
+        Frame::Let(..)
+        | Frame::Handle(..)
+        | Frame::Acquire(_)
+        | Frame::Releasing(..)
+        | Frame::Masked
+        | Frame::Opened(..)
+        | Frame::Loop(..) => None,
     }
 }
 

@@ -7,13 +7,13 @@ use Rattle.fx_term.specs.declared.code.CodeFault.{CodeFault}
 use Rattle.fx_term.specs.declared.code.CodeFault.TheVariants.{Memory}
 use Rattle.fx_term.specs.Tree.{IsOneTree}
 use Rattle.fx_term.specs.Spots.{Spot, spots, IsWellPlaced}
-use Rattle.fx_term.specs.Code.{IsCode, IsFault, no_node, too_many, stray, orphan, slot, kind}
+use Rattle.fx_term.specs.Code.{IsCode, IsFault, no_node, too_many, stray, orphan, slot, kind, limit}
 use Rattle.fx_term.proofs.AllParts.{all_middle}
-use Rattle.fx_term.proofs.SpotLaws.{root_in_scope, root_placed}
+use Rattle.fx_term.proofs.SpotLaws.{root_right, root_placed}
 use Rattle.fx_term.proofs.TreeLaws.{forest_take}
 
 placed_there : (nodes : List Node) (before after : List Spot) (s : Spot) → IsCode nodes → spots nodes ≡ before ++ s ∷ after → IsWellPlaced nodes s
-placed_there nodes before after s code split = all_middle (IsWellPlaced nodes) before s after (subst (All (IsWellPlaced nodes)) split (root_placed nodes code.tree.forest.before code.scope))
+placed_there nodes before after s code split = all_middle (IsWellPlaced nodes) before s after (subst (All (IsWellPlaced nodes)) split (root_placed nodes code.tree.forest.before code.scope code.turns))
 
 -- a code has no fault
 pub no_fault_of_code : (nodes : List Node) (fault : CodeFault) → IsFault nodes fault → IsCode nodes → ⊥
@@ -25,6 +25,8 @@ no_fault_of_code nodes fault (slot before after s fits tree split placed at) cod
     at (placed_there nodes before after s code split).slots
 no_fault_of_code nodes fault (kind before after s fits tree split placed right at) code =
     at (placed_there nodes before after s code split).kinds
+no_fault_of_code nodes fault (limit before after s fits tree split placed right of_kind at) code =
+    at (placed_there nodes before after s code split).turns
 
 -- of a code no fault is answered but want of memory
 pub only_memory : (nodes : List Node) (fault : CodeFault) → (fault ≡ Memory) ⊎ IsFault nodes fault → IsCode nodes → fault ≡ Memory
@@ -33,4 +35,6 @@ only_memory nodes fault (inr found) code = absurd (no_fault_of_code nodes fault 
 
 -- what the tests find makes a code
 pub code_of_tests : (nodes : List Node) → length nodes < 2 ^ 32 → IsOneTree nodes → All (IsWellPlaced nodes) (spots nodes) → IsCode nodes
-code_of_tests nodes fits tree placed = record { fits = fits; tree = tree; scope = root_in_scope nodes tree.forest.before placed }
+code_of_tests nodes fits tree placed =
+    let root = root_right nodes tree.forest.before placed in
+    record { fits = fits; tree = tree; scope = root.scope; turns = root.turns }

@@ -1,16 +1,17 @@
 -- A list of nodes has one fault at most.
-use Rattle.std.proofs.Common.{◌≡◌, ℕ, suc, ◌<◌, ◌≤◌, List, [], ◌∷◌, ◌++◌, take, refl, sym, subst, inl, inr, ap, ◌∙◌, arith}
+use Rattle.std.proofs.Common.{◌≡◌, ℕ, suc, ◌^◌, ◌<◌, ◌≤◌, List, [], ◌∷◌, ◌++◌, length, take, refl, sym, subst, inl, inr, ◌∙◌, arith}
 use Rattle.std.specs.Prelude.{All, Contains, slice_get}
 use Rattle.std.proofs.lemmas.Bool.{cases_lt}
-use Rattle.std.proofs.lemmas.List.{nil_from_length, take-take}
-use Rattle.std.proofs.lemmas.List.Elements.{All-head, All-tail}
+use Rattle.std.proofs.lemmas.List.{take-take}
+use Rattle.std.proofs.lemmas.List.Elements.{All-nil, All-cons, All-head, All-tail, All-push}
 use Rattle.fx_term.specs.declared.node.Node.{Node}
 use Rattle.fx_term.specs.declared.code.CodeFault.{CodeFault}
-use Rattle.fx_term.specs.declared.code.CodeFault.TheVariants.{Child}
-use Rattle.fx_term.specs.Tree.{all_children, IsForest}
-use Rattle.fx_term.specs.Spots.{Spot, spots, HasRightSlots, IsWellPlaced}
-use Rattle.fx_term.specs.Code.{IsFault, no_node, too_many, stray, orphan, slot, kind}
-use Rattle.fx_term.proofs.TreeLaws.{forest_take}
+use Rattle.fx_term.specs.declared.code.CodeFault.TheVariants.{Child, Slot, Kind, Limit}
+use Rattle.fx_term.specs.Tree.{all_children, IsForest, IsOneTree}
+use Rattle.fx_term.specs.Spots.{Spot, spots, HasRightSlots, HasRightKinds, HasRightTurns, IsWellPlaced}
+use Rattle.fx_term.specs.Code.{IsFault, node_id, no_node, too_many, stray, orphan, slot, kind, limit}
+use Rattle.fx_term.proofs.AllParts.{all_middle}
+use Rattle.fx_term.proofs.TreeLaws.{length_positive, forest_take}
 
 -- of two first faults of a kind neither comes before the other
 same_stray : (nodes : List Node) (i j : ℕ) → (IsForest (take (suc i) nodes) → ⊥) → IsForest (take j nodes) → j ≤ i
@@ -29,58 +30,125 @@ same_first P [] after x (z ∷ sooner) later y e h k at also = let same : z ≡ 
 same_first P (z ∷ before) after x [] later y e h k at also = let same : z ≡ y = cc in absurd (also (subst P same (All-head P z before h)))
 same_first P (z ∷ before) after x (w ∷ sooner) later y e h k at also = let rest : before ++ x ∷ after ≡ sooner ++ y ∷ later = cc in same_first P before after x sooner later y rest (All-tail P z before h) (All-tail P w sooner k) at also
 
--- the first spot that is not well placed
-same_spot : (nodes : List Node) (before after : List Spot) (s : Spot) (sooner later : List Spot) (t : Spot) → spots nodes ≡ before ++ s ∷ after → spots nodes ≡ sooner ++ t ∷ later → All (IsWellPlaced nodes) before → All (IsWellPlaced nodes) sooner → (IsWellPlaced nodes s → ⊥) → (IsWellPlaced nodes t → ⊥) → s ≡ t
-same_spot nodes before after s sooner later t split split2 placed placed2 at at2 = same_first (IsWellPlaced nodes) before after s sooner later t (sym split ∙ split2) placed placed2 at at2
-
-child_same : (i j : ℕ) → i ≤ j → j ≤ i → ◌≡◌ {A = CodeFault} (Child (record { 0 = i })) (Child (record { 0 = j }))
+child_same : (i j : ℕ) → i ≤ j → j ≤ i → ◌≡◌ {A = CodeFault} (Child (node_id i)) (Child (node_id j))
 child_same i j le ge = let same : i ≡ j = omega arith in cc
+
+-- the tests of a whole list, in their order
+data Test : Type 0 where
+  OfCount : Test
+  OfChildren : Test
+  OfParents : Test
+  OfPlaces : Test
+
+abbrev tests : List Test
+tests = OfCount ∷ OfChildren ∷ OfParents ∷ OfPlaces ∷ []
+
+abbrev Passes : List Node → Test → Type 0
+Passes nodes OfCount = (0 < length nodes) × (length nodes < 2 ^ 32)
+Passes nodes OfChildren = IsForest nodes
+Passes nodes OfParents = IsOneTree nodes
+Passes nodes OfPlaces = All (IsWellPlaced nodes) (spots nodes)
+
+-- the tests at one spot
+data IsSpotFault (nodes : List Node) (s : Spot) : CodeFault → Type 0 where
+  of_slots : (HasRightSlots s.kinds (slice_get nodes s.id) → ⊥) → IsSpotFault nodes s (Slot (node_id s.id))
+  of_kinds : HasRightSlots s.kinds (slice_get nodes s.id) → (HasRightKinds s.kinds (slice_get nodes s.id) → ⊥) → IsSpotFault nodes s (Kind (node_id s.id))
+  of_turns : HasRightSlots s.kinds (slice_get nodes s.id) → HasRightKinds s.kinds (slice_get nodes s.id) → (HasRightTurns s.turns (slice_get nodes s.id) → ⊥) → IsSpotFault nodes s (Limit (node_id s.id))
+
+not_placed : (nodes : List Node) (s : Spot) (f : CodeFault) → IsSpotFault nodes s f → IsWellPlaced nodes s → ⊥
+not_placed nodes s f (of_slots at) placed = at placed.slots
+not_placed nodes s f (of_kinds right at) placed = at placed.kinds
+not_placed nodes s f (of_turns right of_kind at) placed = at placed.turns
+
+one_at_spot : (nodes : List Node) (s : Spot) (f g : CodeFault) → IsSpotFault nodes s f → IsSpotFault nodes s g → f ≡ g
+one_at_spot nodes s f g (of_slots at) (of_slots also) = refl
+one_at_spot nodes s f g (of_slots at) (of_kinds right also) = absurd (at right)
+one_at_spot nodes s f g (of_slots at) (of_turns right of_kind also) = absurd (at right)
+one_at_spot nodes s f g (of_kinds right at) (of_slots also) = absurd (also right)
+one_at_spot nodes s f g (of_kinds right at) (of_kinds right2 also) = refl
+one_at_spot nodes s f g (of_kinds right at) (of_turns right2 of_kind also) = absurd (at of_kind)
+one_at_spot nodes s f g (of_turns right of_kind at) (of_slots also) = absurd (also right)
+one_at_spot nodes s f g (of_turns right of_kind at) (of_kinds right2 also) = absurd (also of_kind)
+one_at_spot nodes s f g (of_turns right of_kind at) (of_turns right2 of_kind2 also) = refl
+
+-- what a test answers where it is the first that fails
+data Answers (nodes : List Node) : Test → CodeFault → Type 0 where
+  by_count : Answers nodes OfCount (Child (node_id 0))
+  by_children : (id : ℕ) → IsForest (take id nodes) → (IsForest (take (suc id) nodes) → ⊥) → Answers nodes OfChildren (Child (node_id id))
+  by_parents : (id : ℕ) → ((k : ℕ) → k < id → Contains (all_children nodes) k) → (Contains (all_children nodes) id → ⊥) → Answers nodes OfParents (Child (node_id id))
+  by_places : (before after : List Spot) (s : Spot) (f : CodeFault) → spots nodes ≡ before ++ s ∷ after → All (IsWellPlaced nodes) before → IsSpotFault nodes s f → Answers nodes OfPlaces f
+
+one_answer : (nodes : List Node) (t : Test) (f g : CodeFault) → Answers nodes t f → Answers nodes t g → f ≡ g
+one_answer nodes t f g by_count by_count = refl
+one_answer nodes t f g (by_children i front at) (by_children j also at2) = child_same i j (same_stray nodes j i at2 front) (same_stray nodes i j at also)
+one_answer nodes t f g (by_parents i front at) (by_parents j also at2) = child_same i j (same_orphan (all_children nodes) j i at2 front) (same_orphan (all_children nodes) i j at also)
+one_answer nodes t f g (by_places before after s f2 split placed at) (by_places sooner later r g2 split2 placed2 at2) =
+    let same = same_first (IsWellPlaced nodes) before after s sooner later r (sym split ∙ split2) placed placed2 (not_placed nodes s f at) (not_placed nodes r g at2) in
+    one_at_spot nodes s f g at (subst (λ (q : Spot). IsSpotFault nodes q g) (sym same) at2)
+
+-- a fault is the answer of the first test that fails
+record IsAnswered (nodes : List Node) (f : CodeFault) : Type 0 where
+  test : Test
+  before : List Test
+  after : List Test
+  split : tests ≡ before ++ test ∷ after
+  passed : All (Passes nodes) before
+  fails : Passes nodes test → ⊥
+  answer : Answers nodes test f
+
+module _ (nodes : List Node) where
+  passes_count : 0 < length nodes → length nodes < 2 ^ 32 → All (Passes nodes) (OfCount ∷ [])
+  passes_count some fits = All-cons (Passes nodes) OfCount [] (some, fits) (All-nil (Passes nodes))
+
+  passes_children : 0 < length nodes → length nodes < 2 ^ 32 → IsForest nodes → All (Passes nodes) (OfCount ∷ OfChildren ∷ [])
+  passes_children some fits forest = All-push (Passes nodes) (OfCount ∷ []) OfChildren (passes_count some fits) forest
+
+  passes_parents : length nodes < 2 ^ 32 → IsOneTree nodes → All (Passes nodes) (OfCount ∷ OfChildren ∷ OfParents ∷ [])
+  passes_parents fits tree = All-push (Passes nodes) (OfCount ∷ OfChildren ∷ []) OfParents (passes_children (length_positive nodes tree.some_node) fits tree.forest) tree
+
+  count_answered : (Passes nodes OfCount → ⊥) → IsAnswered nodes (Child (node_id 0))
+  count_answered fails = record { test = OfCount; before = []; after = OfChildren ∷ OfParents ∷ OfPlaces ∷ []; split = refl; passed = All-nil (Passes nodes); fails = fails; answer = by_count }
+
+  spot_answered : (before after : List Spot) (s : Spot) (f : CodeFault) → length nodes < 2 ^ 32 → IsOneTree nodes → spots nodes ≡ before ++ s ∷ after → All (IsWellPlaced nodes) before → IsSpotFault nodes s f → IsAnswered nodes f
+  spot_answered before after s f fits tree split placed at = record {
+    test = OfPlaces;
+    before = OfCount ∷ OfChildren ∷ OfParents ∷ [];
+    after = [];
+    split = refl;
+    passed = passes_parents fits tree;
+    fails = λ all. not_placed nodes s f at (all_middle (IsWellPlaced nodes) before s after (subst (All (IsWellPlaced nodes)) split all));
+    answer = by_places before after s f split placed at;
+  }
+
+  answered : (f : CodeFault) → IsFault nodes f → IsAnswered nodes f
+  answered f (no_node e) = count_answered (λ count. absurd (omega arith))
+  answered f (too_many m) = count_answered (λ count. absurd (omega arith))
+  answered f (stray {id} fits within front at) = record {
+    test = OfChildren;
+    before = OfCount ∷ [];
+    after = OfParents ∷ OfPlaces ∷ [];
+    split = refl;
+    passed = passes_count (omega arith) fits;
+    fails = λ forest. at (forest_take (suc id) nodes forest);
+    answer = by_children id front at;
+  }
+  answered f (orphan {id} fits forest within before at) = record {
+    test = OfParents;
+    before = OfCount ∷ OfChildren ∷ [];
+    after = OfPlaces ∷ [];
+    split = refl;
+    passed = passes_children (omega arith) fits forest;
+    fails = λ tree. at (tree.each id within);
+    answer = by_parents id before at;
+  }
+  answered f (slot before after s fits tree split placed at) = spot_answered before after s f fits tree split placed (of_slots at)
+  answered f (kind before after s fits tree split placed right at) = spot_answered before after s f fits tree split placed (of_kinds right at)
+  answered f (limit before after s fits tree split placed right of_kind at) = spot_answered before after s f fits tree split placed (of_turns right of_kind at)
 
 -- a list of nodes has one fault at most
 pub one_fault : (nodes : List Node) (f g : CodeFault) → IsFault nodes f → IsFault nodes g → f ≡ g
-one_fault nodes f g (no_node e) (no_node d) = refl
-one_fault nodes f g (no_node e) (too_many m) = refl
-one_fault nodes f g (no_node e) (stray {id} fits within front at) = absurd (omega arith)
-one_fault nodes f g (no_node e) (orphan {id} fits forest within before at) = absurd (omega arith)
-one_fault nodes f g (no_node e) (slot before after s fits tree split placed at) = absurd (tree.some_node (nil_from_length nodes e))
-one_fault nodes f g (no_node e) (kind before after s fits tree split placed right at) = absurd (tree.some_node (nil_from_length nodes e))
-one_fault nodes f g (too_many m) (no_node e) = refl
-one_fault nodes f g (too_many m) (too_many k) = refl
-one_fault nodes f g (too_many m) (stray {id} fits within front at) = absurd (omega arith)
-one_fault nodes f g (too_many m) (orphan {id} fits forest within before at) = absurd (omega arith)
-one_fault nodes f g (too_many m) (slot before after s fits tree split placed at) = absurd (omega arith)
-one_fault nodes f g (too_many m) (kind before after s fits tree split placed right at) = absurd (omega arith)
-one_fault nodes f g (stray {id} fits within front at) (no_node e) = absurd (omega arith)
-one_fault nodes f g (stray {id} fits within front at) (too_many m) = absurd (omega arith)
-one_fault nodes f g (stray {id} fits within front at) (stray {id = other} fits2 within2 front2 at2) = child_same id other (same_stray nodes other id at2 front) (same_stray nodes id other at front2)
-one_fault nodes f g (stray {id} fits within front at) (orphan {id = other} fits2 forest within2 before at2) = absurd (at (forest_take (suc id) nodes forest))
-one_fault nodes f g (stray {id} fits within front at) (slot before after s fits2 tree split placed at2) = absurd (at (forest_take (suc id) nodes tree.forest))
-one_fault nodes f g (stray {id} fits within front at) (kind before after s fits2 tree split placed right at2) = absurd (at (forest_take (suc id) nodes tree.forest))
-one_fault nodes f g (orphan {id} fits forest within before at) (no_node e) = absurd (omega arith)
-one_fault nodes f g (orphan {id} fits forest within before at) (too_many m) = absurd (omega arith)
-one_fault nodes f g (orphan {id} fits forest within before at) (stray {id = other} fits2 within2 front at2) = absurd (at2 (forest_take (suc other) nodes forest))
-one_fault nodes f g (orphan {id} fits forest within before at) (orphan {id = other} fits2 forest2 within2 before2 at2) = child_same id other (same_orphan (all_children nodes) other id at2 before) (same_orphan (all_children nodes) id other at before2)
-one_fault nodes f g (orphan {id} fits forest within before at) (slot before2 after s fits2 tree split placed at2) = absurd (at (tree.each id within))
-one_fault nodes f g (orphan {id} fits forest within before at) (kind before2 after s fits2 tree split placed right at2) = absurd (at (tree.each id within))
-one_fault nodes f g (slot before after s fits tree split placed at) (no_node e) = absurd (tree.some_node (nil_from_length nodes e))
-one_fault nodes f g (slot before after s fits tree split placed at) (too_many m) = absurd (omega arith)
-one_fault nodes f g (slot before after s fits tree split placed at) (stray {id} fits2 within front at2) = absurd (at2 (forest_take (suc id) nodes tree.forest))
-one_fault nodes f g (slot before after s fits tree split placed at) (orphan {id} fits2 forest within before2 at2) = absurd (at2 (tree.each id within))
-one_fault nodes f g (slot before after s fits tree split placed at) (slot sooner later t fits2 tree2 split2 placed2 at2) =
-    let same = same_spot nodes before after s sooner later t split split2 placed placed2 (λ p. at p.slots) (λ p. at2 p.slots) in
-    let id : s.id ≡ t.id = ap (λ (u : Spot). u.id) same in
-    cc
-one_fault nodes f g (slot before after s fits tree split placed at) (kind sooner later t fits2 tree2 split2 placed2 right at2) =
-    let same = same_spot nodes before after s sooner later t split split2 placed placed2 (λ p. at p.slots) (λ p. at2 p.kinds) in
-    absurd (at (subst (λ (u : Spot). HasRightSlots u.kinds (slice_get nodes u.id)) (sym same) right))
-one_fault nodes f g (kind before after s fits tree split placed right at) (no_node e) = absurd (tree.some_node (nil_from_length nodes e))
-one_fault nodes f g (kind before after s fits tree split placed right at) (too_many m) = absurd (omega arith)
-one_fault nodes f g (kind before after s fits tree split placed right at) (stray {id} fits2 within front at2) = absurd (at2 (forest_take (suc id) nodes tree.forest))
-one_fault nodes f g (kind before after s fits tree split placed right at) (orphan {id} fits2 forest within before2 at2) = absurd (at2 (tree.each id within))
-one_fault nodes f g (kind before after s fits tree split placed right at) (slot sooner later t fits2 tree2 split2 placed2 at2) =
-    let same = same_spot nodes before after s sooner later t split split2 placed placed2 (λ p. at p.kinds) (λ p. at2 p.slots) in
-    absurd (at2 (subst (λ (u : Spot). HasRightSlots u.kinds (slice_get nodes u.id)) same right))
-one_fault nodes f g (kind before after s fits tree split placed right at) (kind sooner later t fits2 tree2 split2 placed2 right2 at2) =
-    let same = same_spot nodes before after s sooner later t split split2 placed placed2 (λ p. at p.kinds) (λ p. at2 p.kinds) in
-    let id : s.id ≡ t.id = ap (λ (u : Spot). u.id) same in
-    cc
+one_fault nodes f g first second =
+    let a = answered nodes f first in
+    let b = answered nodes g second in
+    let same = same_first (Passes nodes) a.before a.after a.test b.before b.after b.test (sym a.split ∙ b.split) a.passed b.passed a.fails b.fails in
+    one_answer nodes a.test f g a.answer (subst (λ (t : Test). Answers nodes t g) (sym same) b.answer)

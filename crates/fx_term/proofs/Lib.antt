@@ -12,8 +12,10 @@ pub mod SpotLaws
 pub mod SpotsToCome
 pub mod TakenLaws
 pub mod TermNeeds
+pub mod TermSizes
+pub mod TurnLaws
 pub mod TreeLaws
-pub mod MaskEntriesLaws
-pub mod MaskEntriesOfCode
+pub mod EntriesLaws
+pub mod EntriesOfCode
 pub mod SumBelow
 pub mod FillNothing

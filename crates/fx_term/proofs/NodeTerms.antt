@@ -12,9 +12,12 @@ use Rattle.fx_term.specs.Tree.{children, ChildrenComeFirst}
 pub assemble_same : (n : Node) (f g : ℕ → Term) → All (λ c. f c ≡ g c) (children n) → assemble (Some n) f ≡ assemble (Some n) g
 assemble_same (node.Let x a b) f g h = let p = h 0 0 (omega arith) in let q = h 1 0 (omega arith) in cc
 assemble_same (node.Handle a x b) f g h = let p = h 0 0 (omega arith) in let q = h 1 0 (omega arith) in cc
+assemble_same (node.If v a b) f g h = let p = h 0 0 (omega arith) in let q = h 1 0 (omega arith) in cc
+assemble_same (node.For i c a) f g h = let p = h 0 0 (omega arith) in cc
 assemble_same (node.Mask p a) f g h = let q = h 0 0 (omega arith) in cc
 assemble_same (node.Poll p a) f g h = let q = h 0 0 (omega arith) in cc
 assemble_same (node.OnCancel a b) f g h = let p = h 0 0 (omega arith) in let q = h 1 0 (omega arith) in cc
+assemble_same (node.Bracket x a b c) f g h = let p = h 0 0 (omega arith) in let q = h 1 0 (omega arith) in let r = h 2 0 (omega arith) in cc
 assemble_same _ f g h = refl
 
 -- what holds of each number below holds of each child

@@ -1,6 +1,6 @@
 -- Places as spots, and a stack of places that grows by the parts of a node.
-use Rattle.std.proofs.Common.{◌≡◌, ℕ, ◌≤◌, Option, Some, None, List, [], ◌∷◌, ◌++◌, length, map, take, refl, sym, ◌∙◌, ap, subst, arith, append_assoc}
-use Rattle.std.proofs.lemmas.List.{map_push, length_push, take_all, take-take, take-append-le, length-take-le}
+use Rattle.std.proofs.Common.{◌≡◌, ℕ, ◌≤◌, Option, Some, None, List, [], ◌∷◌, ◌++◌, length, map, take, reverse, refl, sym, ◌∙◌, ap, subst, arith, append_assoc}
+use Rattle.std.proofs.lemmas.List.{append-nil, map_push, length_push, reverse-append, take_all, take-take, take-append-le, length-take-le}
 use Rattle.fx_term.specs.declared.node.NodeId.{NodeId}
 use Rattle.fx_term.specs.declared.kinds.NameKind.{NameKind}
 use Rattle.fx_term.specs.declared.walk.Place.{Place}
@@ -9,8 +9,8 @@ use Rattle.fx_term.specs.Kinds.{kind_of}
 use Rattle.fx_term.specs.Spots.{Spot}
 use Rattle.fx_term.specs.Place.{with_own, path_to, spot_at, AreNested, under, ArePushed}
 
-pub path_under : (path : List NameKind) (id : NodeId) (own : Option NameKind) → path_to path (under path id own) ≡ with_own own path
-path_under path id own = ap (with_own own) (take_all (length path) path (omega arith))
+pub path_under : (path : List NameKind) (id : NodeId) (own : Option NameKind) (turns : ℕ) → path_to path (under path id own turns) ≡ with_own own path
+path_under path id own turns = ap (with_own own) (take_all (length path) path (omega arith))
 
 -- a place keeps its path as scopes below it are left and entered
 pub path_kept : (path : List NameKind) (p q : Place) → q.outer ≤ p.outer → p.outer ≤ length path → path_to (path_to path p) q ≡ path_to path q
@@ -57,32 +57,40 @@ spots_kept path p least (q ∷ stack) h within =
     let rest = spots_kept path p q.outer stack h.1 within in
     cc
 
--- parts that are pushed
-spot_under : List NameKind → NodeId → Option NameKind → Spot
-spot_under path part own = record { id = part.0; kinds = map kind_of (with_own own path) }
+-- parts that are pushed one by one, the last one first
+pub pushed_none : (path : List NameKind) (old : List Place) → ArePushed path [] old old
+pushed_none path old = record { spots = sym (append-nil (map (spot_at path) old)); nested = λ h. h }
 
-spots_push : (path : List NameKind) (old new : List Place) (part : NodeId) (own : Option NameKind) → new ≡ old ++ under path part own ∷ [] → map (spot_at path) new ≡ map (spot_at path) old ++ spot_under path part own ∷ []
-unfolding spot_under
-spots_push path old new part own e =
-    ap (map (spot_at path)) e ∙ map_push (spot_at path) old (under path part own)
-    ∙ ap (λ xs. map (spot_at path) old ++ record { id = part.0; kinds = map kind_of xs } ∷ []) (path_under path part own)
+module _ (path : List NameKind) (part : NodeId) (own : Option NameKind) (kinds : List Kind) (turns : ℕ) (own_is : map kind_of (with_own own path) ≡ kinds) where
+  abbrev spot_under : Spot
+  spot_under = record { id = part.0; kinds = kinds; turns = turns }
 
-nested_under : (path : List NameKind) (old new : List Place) (part : NodeId) (own : Option NameKind) → new ≡ old ++ under path part own ∷ [] → AreNested 0 old (length path) → AreNested 0 new (length path)
-nested_under path old new part own e h = subst (λ xs. AreNested 0 xs (length path)) (sym e) (nested_push 0 old (under path part own) (length path) h refl)
+  spot_is : spot_at path (under path part own turns) ≡ spot_under
+  spot_is = ap (λ (ks : List Kind). record { id = part.0; kinds = ks; turns = turns }) (ap (map kind_of) (path_under path part own turns) ∙ own_is)
 
-pub pushed_one : (path : List NameKind) (old new : List Place) (part : NodeId) (own : Option NameKind) (kinds : List Kind) → map kind_of (with_own own path) ≡ kinds → new ≡ old ++ under path part own ∷ [] → ArePushed path (record { id = part.0; kinds = kinds } ∷ []) old new
-unfolding spot_under
-pushed_one path old new part own kinds own_is e = record {
-  spots = spots_push path old new part own e ∙ ap (λ (ks : List Kind). map (spot_at path) old ++ record { id = part.0; kinds = ks } ∷ []) own_is;
-  nested = nested_under path old new part own e;
-}
+  pub pushed_more : (ps : List Spot) (old mid new : List Place) → ArePushed path ps old mid → new ≡ mid ++ under path part own turns ∷ [] → ArePushed path (record { id = part.0; kinds = kinds; turns = turns } ∷ ps) old new
+  pushed_more ps old mid new below e = record {
+    spots = ap (map (spot_at path)) e ∙ map_push (spot_at path) mid (under path part own turns)
+        ∙ ap (λ s. map (spot_at path) mid ++ s ∷ []) spot_is
+        ∙ ap (λ xs. xs ++ spot_under ∷ []) below.spots
+        ∙ append_assoc (map (spot_at path) old) (reverse ps) (spot_under ∷ [])
+        ∙ ap (λ xs. map (spot_at path) old ++ xs) (sym (reverse-append (spot_under ∷ []) ps));
+    nested = λ h. subst (λ xs. AreNested 0 xs (length path)) (sym e) (nested_push 0 mid (under path part own turns) (length path) (below.nested h) refl);
+  }
 
-pub pushed_two : (path : List NameKind) (old mid new : List Place) (first second : NodeId) (own : Option NameKind) (kinds : List Kind) → map kind_of (with_own own path) ≡ kinds → mid ≡ old ++ under path second own ∷ [] → new ≡ mid ++ under path first None ∷ [] → ArePushed path (record { id = first.0; kinds = map kind_of path } ∷ record { id = second.0; kinds = kinds } ∷ []) old new
-unfolding spot_under
-pushed_two path old mid new first second own kinds own_is e f =
-    let below = pushed_one path old mid second own kinds own_is e in
-    let here : Spot = record { id = first.0; kinds = map kind_of path } in
-    record {
-      spots = spots_push path mid new first None f ∙ ap (λ xs. xs ++ here ∷ []) below.spots ∙ append_assoc (map (spot_at path) old) (record { id = second.0; kinds = kinds } ∷ []) (here ∷ []);
-      nested = λ h. nested_under path mid new first None f (below.nested h);
-    }
+pub pushed_one : (path : List NameKind) (part : NodeId) (own : Option NameKind) (kinds : List Kind) (turns : ℕ) → map kind_of (with_own own path) ≡ kinds → (old new : List Place) → new ≡ old ++ under path part own turns ∷ [] → ArePushed path (record { id = part.0; kinds = kinds; turns = turns } ∷ []) old new
+pushed_one path part own kinds turns own_is old new e = pushed_more path part own kinds turns own_is [] old old new (pushed_none path old) e
+
+-- a part round which nothing is bound, above others
+pub pushed_first : (path : List NameKind) (part : NodeId) (turns : ℕ) (ps : List Spot) (old mid new : List Place) → ArePushed path ps old mid → new ≡ mid ++ under path part None turns ∷ [] → ArePushed path (record { id = part.0; kinds = map kind_of path; turns = turns } ∷ ps) old new
+pushed_first path part turns ps old mid new below e = pushed_more path part None (map kind_of path) turns refl ps old mid new below e
+
+pub pushed_two : (path : List NameKind) (first second : NodeId) (own : Option NameKind) (kinds : List Kind) (turns : ℕ) → map kind_of (with_own own path) ≡ kinds → (old mid new : List Place) → mid ≡ old ++ under path second own turns ∷ [] → new ≡ mid ++ under path first None turns ∷ [] → ArePushed path (record { id = first.0; kinds = map kind_of path; turns = turns } ∷ record { id = second.0; kinds = kinds; turns = turns } ∷ []) old new
+pushed_two path first second own kinds turns own_is old mid new e f =
+    pushed_first path first turns (record { id = second.0; kinds = kinds; turns = turns } ∷ []) old mid new (pushed_one path second own kinds turns own_is old mid e) f
+
+pub pushed_three : (path : List NameKind) (first second third : NodeId) (own also : Option NameKind) (kinds : List Kind) (turns : ℕ) → map kind_of (with_own own path) ≡ kinds → map kind_of (with_own also path) ≡ kinds → (old low mid new : List Place) → low ≡ old ++ under path third also turns ∷ [] → mid ≡ low ++ under path second own turns ∷ [] → new ≡ mid ++ under path first None turns ∷ [] → ArePushed path (record { id = first.0; kinds = map kind_of path; turns = turns } ∷ record { id = second.0; kinds = kinds; turns = turns } ∷ record { id = third.0; kinds = kinds; turns = turns } ∷ []) old new
+pushed_three path first second third own also kinds turns own_is also_is old low mid new e f g =
+    let last : Spot = record { id = third.0; kinds = kinds; turns = turns } in
+    let two = pushed_more path second own kinds turns own_is (last ∷ []) old low mid (pushed_one path third also kinds turns also_is old low e) f in
+    pushed_first path first turns (record { id = second.0; kinds = kinds; turns = turns } ∷ last ∷ []) old mid new two g

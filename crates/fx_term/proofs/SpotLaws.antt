@@ -1,4 +1,4 @@
--- The walk through a tree: how its spots come node by node, and that the root's term is in scope where all are well placed.
+-- The walk through a tree: how its spots come node by node, and that the root's term is right exactly where all are well placed.
 use Rattle.std.proofs.Common.{◌≡◌, ℕ, zero, suc, ◌-◌, ◌<◌, Option, Some, None, List, [], ◌∷◌, length, get_or, refl, sym, ap, subst, arith}
 use Rattle.std.specs.Prelude.{All, slice_get}
 use Rattle.std.specs.List.{flat_map}
@@ -7,18 +7,24 @@ use Rattle.fx_term.specs.declared.node.Node.{Node}
 use Rattle.fx_term.specs.Scope.{IsInScope}
 use Rattle.fx_term.specs.Meaning.{assemble, read, term_of, root_term}
 use Rattle.fx_term.specs.Tree.{ChildrenComeFirst}
+use Rattle.fx_term.specs.Turns.{turns_inside, HasFewTurns}
 use Rattle.fx_term.specs.Spots.{Spot, parts, walk, spots_from, spots, IsWellPlaced}
 use Rattle.fx_term.proofs.AllParts.{all_from_map, all_flat_map, all_from_flat_map, flat_map_same}
 use Rattle.fx_term.proofs.NodeTerms.{term_of_node}
 use Rattle.fx_term.proofs.PartLaws.{part_ids, in_scope_node, right_slots, right_kinds, scope_of_parts}
+use Rattle.fx_term.proofs.TurnLaws.{few_turns_node, right_turns, turns_of_parts}
+
+-- the parts of the node at a spot
+abbrev pub parts_at : List Node → Spot → List Spot
+parts_at nodes s = parts (slice_get nodes s.id) s.kinds (turns_inside (slice_get nodes s.id) s.turns)
 
 module _ (nodes : List Node) (tree : ChildrenComeFirst nodes) where
-  pub parts_before : (s : Spot) → All (λ (part : Spot). part.id < s.id) (parts (slice_get nodes s.id) s.kinds)
+  pub parts_before : (s : Spot) → All (λ (part : Spot). part.id < s.id) (parts_at nodes s)
   parts_before s = by_node (slice_get nodes s.id) refl
     where
-      by_node : (o : Option Node) → slice_get nodes s.id ≡ o → All (λ (part : Spot). part.id < s.id) (parts o s.kinds)
+      by_node : (o : Option Node) → slice_get nodes s.id ≡ o → All (λ (part : Spot). part.id < s.id) (parts o s.kinds (turns_inside o s.turns))
       by_node None e = All-nil (λ (part : Spot). part.id < s.id)
-      by_node (Some n) e = all_from_map (λ c. c < s.id) (λ (part : Spot). part.id) (parts (Some n) s.kinds) (subst (All (λ c. c < s.id)) (sym (part_ids n s.kinds)) (tree s.id n e))
+      by_node (Some n) e = all_from_map (λ c. c < s.id) (λ (part : Spot). part.id) (parts (Some n) s.kinds (turns_inside (Some n) s.turns)) (subst (All (λ c. c < s.id)) (sym (part_ids n s.kinds (turns_inside (Some n) s.turns))) (tree s.id n e))
 
   -- a walk is the same at each depth above the node's number
   walk_same : (k m : ℕ) (s : Spot) → s.id < k → s.id < m → walk k nodes s ≡ walk m nodes s
@@ -26,15 +32,15 @@ module _ (nodes : List Node) (tree : ChildrenComeFirst nodes) where
   walk_same zero m s p q = absurd (omega arith)
   walk_same (suc k) zero s p q = absurd (omega arith)
   walk_same (suc k) (suc m) s p q =
-      ap (λ (rest : List Spot). s ∷ rest) (flat_map_same (walk k nodes) (walk m nodes) (parts (slice_get nodes s.id) s.kinds)
-      (All-weaker (λ (part : Spot). part.id < s.id) (λ (part : Spot). walk k nodes part ≡ walk m nodes part) (λ part h. walk_same k m part (omega arith) (omega arith)) (parts (slice_get nodes s.id) s.kinds) (parts_before s)))
+      ap (λ (rest : List Spot). s ∷ rest) (flat_map_same (walk k nodes) (walk m nodes) (parts_at nodes s)
+      (All-weaker (λ (part : Spot). part.id < s.id) (λ (part : Spot). walk k nodes part ≡ walk m nodes part) (λ part h. walk_same k m part (omega arith) (omega arith)) (parts_at nodes s) (parts_before s)))
 
   -- a node comes first, and then what stands below its parts
-  pub spots_at : (s : Spot) → spots_from nodes s ≡ s ∷ flat_map (spots_from nodes) (parts (slice_get nodes s.id) s.kinds)
+  pub spots_at : (s : Spot) → spots_from nodes s ≡ s ∷ flat_map (spots_from nodes) (parts_at nodes s)
   unfolding spots_from walk
   spots_at s =
-      ap (λ (rest : List Spot). s ∷ rest) (flat_map_same (walk s.id nodes) (spots_from nodes) (parts (slice_get nodes s.id) s.kinds)
-      (All-weaker (λ (part : Spot). part.id < s.id) (λ (part : Spot). walk s.id nodes part ≡ spots_from nodes part) (λ part h. walk_same s.id (suc part.id) part h (omega arith)) (parts (slice_get nodes s.id) s.kinds) (parts_before s)))
+      ap (λ (rest : List Spot). s ∷ rest) (flat_map_same (walk s.id nodes) (spots_from nodes) (parts_at nodes s)
+      (All-weaker (λ (part : Spot). part.id < s.id) (λ (part : Spot). walk s.id nodes part ≡ spots_from nodes part) (λ part h. walk_same s.id (suc part.id) part h (omega arith)) (parts_at nodes s) (parts_before s)))
 
   term_at : (id : ℕ) → term_of nodes id ≡ assemble (slice_get nodes id) (term_of nodes)
   unfolding term_of read
@@ -44,34 +50,68 @@ module _ (nodes : List Node) (tree : ChildrenComeFirst nodes) where
       by_node None e = rw e refl
       by_node (Some n) e = term_of_node nodes tree id n e
 
+-- what a code's term must be where it stands
+pub record IsTermRight (nodes : List Node) (s : Spot) : Type 0 where
+  pub scope : IsInScope s.kinds (term_of nodes s.id)
+  pub turns : HasFewTurns s.turns (term_of nodes s.id)
+
 module _ (nodes : List Node) (tree : ChildrenComeFirst nodes) where
-  -- where all is well placed, the term is in scope
-  in_scope_from : (k : ℕ) (s : Spot) → s.id < k → All (IsWellPlaced nodes) (spots_from nodes s) → IsInScope s.kinds (term_of nodes s.id)
-  in_scope_from zero s lt placed = absurd (omega arith)
-  in_scope_from (suc k) s lt placed =
-      let ps = parts (slice_get nodes s.id) s.kinds in
+  -- where a node is well placed and the terms of its parts are right, its term is
+  right_up : (s : Spot) → IsWellPlaced nodes s → All (IsTermRight nodes) (parts_at nodes s) → IsTermRight nodes s
+  right_up s placed below = record {
+    scope = subst (IsInScope s.kinds) (sym (term_at nodes tree s.id)) (in_scope_node (slice_get nodes s.id) s.kinds (turns_inside (slice_get nodes s.id) s.turns) (term_of nodes) placed.slots placed.kinds (λ i d h. (below i d h).scope));
+    turns = subst (HasFewTurns s.turns) (sym (term_at nodes tree s.id)) (few_turns_node (slice_get nodes s.id) s.kinds s.turns (term_of nodes) placed.turns (λ i d h. (below i d h).turns));
+  }
+
+  -- the term as that of its node
+  scope_of_node : (s : Spot) → IsTermRight nodes s → IsInScope s.kinds (assemble (slice_get nodes s.id) (term_of nodes))
+  scope_of_node s right = subst (IsInScope s.kinds) (term_at nodes tree s.id) right.scope
+
+  turns_of_node : (s : Spot) → IsTermRight nodes s → HasFewTurns s.turns (assemble (slice_get nodes s.id) (term_of nodes))
+  turns_of_node s right = subst (HasFewTurns s.turns) (term_at nodes tree s.id) right.turns
+
+  -- where a node's term is right, the node is well placed
+  right_here : (s : Spot) → IsTermRight nodes s → IsWellPlaced nodes s
+  right_here s right = record {
+    slots = right_slots (slice_get nodes s.id) s.kinds (term_of nodes) (scope_of_node s right);
+    kinds = right_kinds (slice_get nodes s.id) s.kinds (term_of nodes) (scope_of_node s right);
+    turns = right_turns (slice_get nodes s.id) s.turns (term_of nodes) (turns_of_node s right);
+  }
+
+  -- and the terms of its parts are right
+  right_down : (s : Spot) → IsTermRight nodes s → All (IsTermRight nodes) (parts_at nodes s)
+  right_down s right i d h = record {
+    scope = scope_of_parts (slice_get nodes s.id) s.kinds (turns_inside (slice_get nodes s.id) s.turns) (term_of nodes) (scope_of_node s right) i d h;
+    turns = turns_of_parts (slice_get nodes s.id) s.kinds s.turns (term_of nodes) (turns_of_node s right) i d h;
+  }
+
+  -- where all is well placed, the term is right
+  right_from : (k : ℕ) (s : Spot) → s.id < k → All (IsWellPlaced nodes) (spots_from nodes s) → IsTermRight nodes s
+  right_from zero s lt placed = absurd (omega arith)
+  right_from (suc k) s lt placed =
+      let ps = parts_at nodes s in
       let all : All (IsWellPlaced nodes) (s ∷ flat_map (spots_from nodes) ps) = subst (All (IsWellPlaced nodes)) (spots_at nodes tree s) placed in
       let here = All-head (IsWellPlaced nodes) s (flat_map (spots_from nodes) ps) all in
       let below = all_from_flat_map (IsWellPlaced nodes) (spots_from nodes) ps (All-tail (IsWellPlaced nodes) s (flat_map (spots_from nodes) ps) all) in
       let near = parts_before nodes tree s in
-      subst (IsInScope s.kinds) (sym (term_at nodes tree s.id)) (in_scope_node (slice_get nodes s.id) s.kinds (term_of nodes) here.slots here.kinds
-      (λ i d h. let before : (get_or ps i d).id < s.id = near i d h in in_scope_from k (get_or ps i d) (omega arith) (below i d h)))
+      right_up s here (λ i d h. let before : (get_or ps i d).id < s.id = near i d h in right_from k (get_or ps i d) (omega arith) (below i d h))
 
-  -- where a term is in scope, all is well placed
-  placed_from : (k : ℕ) (s : Spot) → s.id < k → IsInScope s.kinds (term_of nodes s.id) → All (IsWellPlaced nodes) (spots_from nodes s)
-  placed_from zero s lt scope = absurd (omega arith)
-  placed_from (suc k) s lt scope =
-      let ps = parts (slice_get nodes s.id) s.kinds in
-      let whole : IsInScope s.kinds (assemble (slice_get nodes s.id) (term_of nodes)) = subst (IsInScope s.kinds) (term_at nodes tree s.id) scope in
-      let here : IsWellPlaced nodes s = record { slots = right_slots (slice_get nodes s.id) s.kinds (term_of nodes) whole; kinds = right_kinds (slice_get nodes s.id) s.kinds (term_of nodes) whole } in
-      let below = scope_of_parts (slice_get nodes s.id) s.kinds (term_of nodes) whole in
+  -- where a term is right, all is well placed
+  placed_from : (k : ℕ) (s : Spot) → s.id < k → IsTermRight nodes s → All (IsWellPlaced nodes) (spots_from nodes s)
+  placed_from zero s lt right = absurd (omega arith)
+  placed_from (suc k) s lt right =
+      let ps = parts_at nodes s in
+      let below = right_down s right in
       let near = parts_before nodes tree s in
-      subst (All (IsWellPlaced nodes)) (sym (spots_at nodes tree s)) (All-cons (IsWellPlaced nodes) s (flat_map (spots_from nodes) ps) here
+      subst (All (IsWellPlaced nodes)) (sym (spots_at nodes tree s)) (All-cons (IsWellPlaced nodes) s (flat_map (spots_from nodes) ps) (right_here s right)
       (all_flat_map (IsWellPlaced nodes) (spots_from nodes) ps
       (λ i d h. let before : (get_or ps i d).id < s.id = near i d h in placed_from k (get_or ps i d) (omega arith) (below i d h))))
 
-  pub root_in_scope : All (IsWellPlaced nodes) (spots nodes) → IsInScope [] (root_term nodes)
-  root_in_scope placed = in_scope_from (suc (length nodes - 1)) (record { id = length nodes - 1; kinds = [] }) (omega arith) placed
+  abbrev pub root : Spot
+  root = record { id = length nodes - 1; kinds = []; turns = 1 }
 
-  pub root_placed : IsInScope [] (root_term nodes) → All (IsWellPlaced nodes) (spots nodes)
-  root_placed scope = placed_from (suc (length nodes - 1)) (record { id = length nodes - 1; kinds = [] }) (omega arith) scope
+  pub root_right : All (IsWellPlaced nodes) (spots nodes) → IsTermRight nodes root
+  root_right placed = right_from (suc (length nodes - 1)) root (omega arith) placed
+
+  pub root_placed : IsInScope [] (root_term nodes) → HasFewTurns 1 (root_term nodes) → All (IsWellPlaced nodes) (spots nodes)
+  root_placed scope turns = placed_from (suc (length nodes - 1)) root (omega arith) (record { scope = scope; turns = turns })

@@ -13,12 +13,14 @@ use Rattle.fx_term.specs.declared.code.CodeFault.TheVariants as fault
 use Rattle.fx_term.specs.Tree.{IsOneTree}
 use Rattle.fx_term.specs.Scope.{Kind}
 use Rattle.fx_term.specs.Kinds.{kind_of}
-use Rattle.fx_term.specs.Spots.{Spot, parts, spots_from, spots, HasRightSlots, HasRightKinds, IsWellPlaced}
+use Rattle.fx_term.specs.Turns.{turns_inside}
+use Rattle.fx_term.specs.Spots.{Spot, parts, spots_from, spots, HasRightSlots, HasRightKinds, HasRightTurns, IsWellPlaced}
 use Rattle.fx_term.specs.Place.{path_to, spot_at, AreNested, ArePushed}
-use Rattle.fx_term.specs.Code.{IsFault, slot, kind}
+use Rattle.fx_term.specs.Code.{IsFault, slot, kind, limit}
 use Rattle.fx_term.proofs.AllParts.{all_front, all_middle, all_reverse}
 use Rattle.fx_term.proofs.PlaceLaws.{path_reaches, nested_last, nested_more, spots_kept}
 use Rattle.fx_term.proofs.SpotLaws.{parts_before, spots_at}
+use Rattle.fx_term.proofs.TreeLaws.{length_positive}
 
 -- the spots below a stack of places, of which the last is looked at first
 unfoldable pub spots_to_come : List Node → List NameKind → List Place → List Spot
@@ -38,11 +40,7 @@ pub record IsWalked (nodes : List Node) (path : List NameKind) (stack : List Pla
 
 -- where the walk begins
 unfoldable pub root_place : List Node → Place
-root_place nodes = record { node = record { 0 = length nodes - 1 }; outer = 0; own = None }
-
-length_positive : (nodes : List Node) → nodes ≢ [] → 0 < length nodes
-length_positive [] some = absurd (some refl)
-length_positive (n ∷ nodes) some = omega arith
+root_place nodes = record { node = record { 0 = length nodes - 1 }; outer = 0; own = None; turns = 1 }
 
 come_pop : (nodes : List Node) (path : List NameKind) (rest : List Place) (p : Place) → spots_to_come nodes path (rest ++ p ∷ []) ≡ spots_from nodes (spot_at path p) ++ spots_to_come nodes path rest
 unfolding spots_to_come
@@ -107,63 +105,79 @@ module _ (nodes : List Node) (tree : IsOneTree nodes) (path : List NameKind) (st
 
   -- its path is entered
   module _ (here : List NameKind) (entered : here ≡ path_to path p) where
-    come_next : spots_to_come nodes path stack ≡ spot_at path p ∷ (flat_map (spots_from nodes) (parts (Some (get_or nodes p.node.0 d)) (map kind_of here)) ++ spots_to_come nodes path rest)
+    abbrev node_here : Option Node
+    node_here = Some (get_or nodes p.node.0 d)
+
+    abbrev parts_here : List Spot
+    parts_here = parts node_here (map kind_of here) (turns_inside node_here p.turns)
+
+    come_next : spots_to_come nodes path stack ≡ spot_at path p ∷ (flat_map (spots_from nodes) parts_here ++ spots_to_come nodes path rest)
     come_next = ap (spots_to_come nodes path) popped ∙ come_pop nodes path rest p
         ∙ ap (λ xs. xs ++ spots_to_come nodes path rest) (spots_at nodes tree.forest.before (spot_at path p))
-        ∙ ap (λ o. spot_at path p ∷ (flat_map (spots_from nodes) (parts o (map kind_of (path_to path p))) ++ spots_to_come nodes path rest)) node_there
-        ∙ ap (λ xs. spot_at path p ∷ (flat_map (spots_from nodes) (parts (Some (get_or nodes p.node.0 d)) (map kind_of xs)) ++ spots_to_come nodes path rest)) (sym entered)
+        ∙ ap (λ o. spot_at path p ∷ (flat_map (spots_from nodes) (parts o (map kind_of (path_to path p)) (turns_inside o p.turns)) ++ spots_to_come nodes path rest)) node_there
+        ∙ ap (λ xs. spot_at path p ∷ (flat_map (spots_from nodes) (parts node_here (map kind_of xs) (turns_inside node_here p.turns)) ++ spots_to_come nodes path rest)) (sym entered)
+
+    split_next : spots nodes ≡ walked.before ++ spot_at path p ∷ (flat_map (spots_from nodes) parts_here ++ spots_to_come nodes path rest)
+    split_next = walked.split ∙ ap (λ xs. walked.before ++ xs) come_next
 
     -- what is known of the node, of the spot that is looked at
-    right_there : (Right : List Kind → Option Node → Type 0) → Right (map kind_of here) (Some (get_or nodes p.node.0 d)) → Right (map kind_of (path_to path p)) (slice_get nodes p.node.0)
-    right_there Right h = subst (λ o. Right (map kind_of (path_to path p)) o) (sym node_there) (subst (λ xs. Right (map kind_of xs) (Some (get_or nodes p.node.0 d))) entered h)
+    right_there : (Right : List Kind → Option Node → Type 0) → Right (map kind_of here) node_here → Right (map kind_of (path_to path p)) (slice_get nodes p.node.0)
+    right_there Right h = subst (λ o. Right (map kind_of (path_to path p)) o) (sym node_there) (subst (λ xs. Right (map kind_of xs) node_here) entered h)
 
-    right_here : (Right : List Kind → Option Node → Type 0) → Right (map kind_of (path_to path p)) (slice_get nodes p.node.0) → Right (map kind_of here) (Some (get_or nodes p.node.0 d))
-    right_here Right h = subst (λ xs. Right (map kind_of xs) (Some (get_or nodes p.node.0 d))) (sym entered) (subst (λ o. Right (map kind_of (path_to path p)) o) node_there h)
+    right_here : (Right : List Kind → Option Node → Type 0) → Right (map kind_of (path_to path p)) (slice_get nodes p.node.0) → Right (map kind_of here) node_here
+    right_here Right h = subst (λ xs. Right (map kind_of xs) node_here) (sym entered) (subst (λ o. Right (map kind_of (path_to path p)) o) node_there h)
+
+    abbrev HasTurns : List Kind → Option Node → Type 0
+    HasTurns kinds o = HasRightTurns p.turns o
 
     pub wrong_slot : length nodes < 2 ^ 32 → (HasRightSlots (map kind_of here) (Some (get_or nodes p.node.0 d)) → ⊥) → IsFault nodes (fault.Slot p.node)
     wrong_slot fits wrong =
-        slot walked.before (flat_map (spots_from nodes) (parts (Some (get_or nodes p.node.0 d)) (map kind_of here)) ++ spots_to_come nodes path rest) (spot_at path p) fits tree
-        (walked.split ∙ ap (λ xs. walked.before ++ xs) come_next) walked.placed (λ right. wrong (right_here HasRightSlots right))
+        slot walked.before (flat_map (spots_from nodes) parts_here ++ spots_to_come nodes path rest) (spot_at path p) fits tree split_next walked.placed
+        (λ right. wrong (right_here HasRightSlots right))
 
     pub wrong_kind : length nodes < 2 ^ 32 → HasRightSlots (map kind_of here) (Some (get_or nodes p.node.0 d)) → (HasRightKinds (map kind_of here) (Some (get_or nodes p.node.0 d)) → ⊥) → IsFault nodes (fault.Kind p.node)
     wrong_kind fits right wrong =
-        kind walked.before (flat_map (spots_from nodes) (parts (Some (get_or nodes p.node.0 d)) (map kind_of here)) ++ spots_to_come nodes path rest) (spot_at path p) fits tree
-        (walked.split ∙ ap (λ xs. walked.before ++ xs) come_next) walked.placed (right_there HasRightSlots right) (λ of_kind. wrong (right_here HasRightKinds of_kind))
+        kind walked.before (flat_map (spots_from nodes) parts_here ++ spots_to_come nodes path rest) (spot_at path p) fits tree split_next walked.placed
+        (right_there HasRightSlots right) (λ of_kind. wrong (right_here HasRightKinds of_kind))
+
+    pub too_many_turns : length nodes < 2 ^ 32 → HasRightSlots (map kind_of here) (Some (get_or nodes p.node.0 d)) → HasRightKinds (map kind_of here) (Some (get_or nodes p.node.0 d)) → (HasRightTurns p.turns (Some (get_or nodes p.node.0 d)) → ⊥) → IsFault nodes (fault.Limit p.node)
+    too_many_turns fits right of_kind wrong =
+        limit walked.before (flat_map (spots_from nodes) parts_here ++ spots_to_come nodes path rest) (spot_at path p) fits tree split_next walked.placed
+        (right_there HasRightSlots right) (right_there HasRightKinds of_kind) (λ few. wrong (right_here HasTurns few))
 
     -- its parts are pushed
-    module _ (new : List Place) (pushed : ArePushed here (parts (Some (get_or nodes p.node.0 d)) (map kind_of here)) rest new) where
+    module _ (new : List Place) (pushed : ArePushed here (parts (Some (get_or nodes p.node.0 d)) (map kind_of here) (turns_inside (Some (get_or nodes p.node.0 d)) p.turns)) rest new) where
       spots_rest : map (spot_at here) rest ≡ map (spot_at path) rest
       spots_rest = ap (λ xs. map (spot_at xs) rest) entered ∙ spots_kept path p 0 rest nested_popped.0 nested_popped.1
 
       come_then : spots_to_come nodes path stack ≡ spot_at path p ∷ spots_to_come nodes here new
       come_then = come_next ∙ ap (λ xs. spot_at path p ∷ xs)
-          (ap (λ xs. flat_map (spots_from nodes) (parts (Some (get_or nodes p.node.0 d)) (map kind_of here)) ++ xs) (sym (come_kept nodes path here rest spots_rest))
-          ∙ sym (come_push nodes here rest new (parts (Some (get_or nodes p.node.0 d)) (map kind_of here)) pushed.spots))
+          (ap (λ xs. flat_map (spots_from nodes) parts_here ++ xs) (sym (come_kept nodes path here rest spots_rest))
+          ∙ sym (come_push nodes here rest new parts_here pushed.spots))
 
       pub fewer_to_come : length (spots_to_come nodes here new) < length (spots_to_come nodes path stack)
       fewer_to_come = let e = ap length come_then in omega arith
 
-      near_parts : All (IsNear nodes) (parts (Some (get_or nodes p.node.0 d)) (map kind_of here))
+      near_parts : All (IsNear nodes) parts_here
       near_parts i s h =
-          let ps = parts (Some (get_or nodes p.node.0 d)) (map kind_of here) in
-          let before : (get_or ps i s).id < p.node.0 = right_here (λ kinds o. All (λ (part : Spot). part.id < p.node.0) (parts o kinds)) (parts_before nodes tree.forest.before (spot_at path p)) i s h in
+          let before : (get_or parts_here i s).id < p.node.0 = right_here (λ kinds o. All (λ (part : Spot). part.id < p.node.0) (parts o kinds (turns_inside o p.turns))) (parts_before nodes tree.forest.before (spot_at path p)) i s h in
           let near = place_near in
           omega arith
 
-      near_new : All (IsNear nodes) (map (spot_at here) rest ++ reverse (parts (Some (get_or nodes p.node.0 d)) (map kind_of here)))
+      near_new : All (IsNear nodes) (map (spot_at here) rest ++ reverse parts_here)
       near_new =
-          All-append (IsNear nodes) (map (spot_at here) rest) (reverse (parts (Some (get_or nodes p.node.0 d)) (map kind_of here)))
+          All-append (IsNear nodes) (map (spot_at here) rest) (reverse parts_here)
           (subst (All (IsNear nodes)) (sym spots_rest) (all_front (IsNear nodes) (map (spot_at path) rest) (spot_at path p ∷ []) spots_popped))
-          (all_reverse (IsNear nodes) (parts (Some (get_or nodes p.node.0 d)) (map kind_of here)) near_parts)
+          (all_reverse (IsNear nodes) parts_here near_parts)
 
       nested_rest : AreNested 0 rest (length here)
       nested_rest = nested_more 0 rest p.outer (length here) nested_popped.0 (subst (λ xs. p.outer ≤ length xs) (sym entered) (path_reaches path p nested_popped.1))
 
-      pub walked_more : HasRightSlots (map kind_of here) (Some (get_or nodes p.node.0 d)) → HasRightKinds (map kind_of here) (Some (get_or nodes p.node.0 d)) → IsWalked nodes here new
-      walked_more right of_kind = record {
+      pub walked_more : HasRightSlots (map kind_of here) (Some (get_or nodes p.node.0 d)) → HasRightKinds (map kind_of here) (Some (get_or nodes p.node.0 d)) → HasRightTurns p.turns (Some (get_or nodes p.node.0 d)) → IsWalked nodes here new
+      walked_more right of_kind few = record {
         before = walked.before ++ spot_at path p ∷ [];
         split = walked.split ∙ ap (λ xs. walked.before ++ xs) come_then ∙ sym (append_assoc walked.before (spot_at path p ∷ []) (spots_to_come nodes here new));
-        placed = All-push (IsWellPlaced nodes) walked.before (spot_at path p) walked.placed (record { slots = right_there HasRightSlots right; kinds = right_there HasRightKinds of_kind });
+        placed = All-push (IsWellPlaced nodes) walked.before (spot_at path p) walked.placed (record { slots = right_there HasRightSlots right; kinds = right_there HasRightKinds of_kind; turns = right_there HasTurns few });
         near = subst (All (IsNear nodes)) (sym pushed.spots) near_new;
         nested = pushed.nested nested_rest;
       }

@@ -1,5 +1,5 @@
 -- Forests, node by node.
-use Rattle.std.proofs.Common.{◌≡◌, ℕ, zero, suc, ◌+◌, ◌<◌, nat_eq, Bool, true, false, Some, List, [], ◌∷◌, ◌++◌, length, get_or, take, drop, add-one, sym, ◌∙◌, ap, subst, arith}
+use Rattle.std.proofs.Common.{◌≡◌, ◌≢◌, ℕ, zero, suc, ◌+◌, ◌<◌, nat_eq, Bool, true, false, Some, List, [], ◌∷◌, ◌++◌, length, get_or, take, drop, add-one, refl, sym, ◌∙◌, ap, subst, arith}
 use Rattle.std.specs.Prelude.{slice_get}
 use Rattle.std.specs.List.{IsDistinct}
 use Rattle.std.proofs.lemmas.List.{append-nil, take-append-drop, take_more, length-take-le}
@@ -9,6 +9,10 @@ use Rattle.fx_term.specs.Tree.{children, all_children, IsForest}
 use Rattle.fx_term.specs.Taken.{AreMarks, MayFollow, TakesChildren}
 use Rattle.fx_term.proofs.DistinctNumbers.{distinct_front}
 use Rattle.fx_term.proofs.NodeTerms.{get_last, children_first_push}
+
+pub length_positive : (nodes : List Node) → nodes ≢ [] → 0 < length nodes
+length_positive [] some = absurd (some refl)
+length_positive (n ∷ nodes) some = omega arith
 
 pub children_push : (xs : List Node) (n : Node) → all_children (xs ++ n ∷ []) ≡ all_children xs ++ children n
 children_push xs n = flat_map-append children xs (n ∷ []) ∙ ap (λ cs. all_children xs ++ cs) (append-nil (children n))

@@ -3,19 +3,21 @@ use Rattle.std.specs.Prelude.{◌≡◌, ℕ, suc, ◌+◌, ◌^◌, ◌<◌, �
 use Rattle.fx_term.specs.declared.node.NodeId.{NodeId}
 use Rattle.fx_term.specs.declared.node.Node.{Node}
 use Rattle.fx_term.specs.declared.code.CodeFault.{CodeFault}
-use Rattle.fx_term.specs.declared.code.CodeFault.TheVariants.{Child, Slot, Kind, Memory}
+use Rattle.fx_term.specs.declared.code.CodeFault.TheVariants.{Child, Slot, Kind, Limit, Memory}
 use Rattle.fx_term.specs.Scope.{IsInScope}
 use Rattle.fx_term.specs.Meaning.{root_term}
+use Rattle.fx_term.specs.Turns.{HasFewTurns}
 use Rattle.fx_term.specs.Tree.{all_children, IsForest, IsOneTree}
-use Rattle.fx_term.specs.Spots.{Spot, spots, HasRightSlots, HasRightKinds, IsWellPlaced}
+use Rattle.fx_term.specs.Spots.{Spot, spots, HasRightSlots, HasRightKinds, HasRightTurns, IsWellPlaced}
 
--- one tree whose term stands in no binder's scope
+-- one tree whose term stands in no binder's scope, and whose loops have few turns
 pub record IsCode (nodes : List Node) : Type 0 where
   pub fits : length nodes < 2 ^ 32
   pub tree : IsOneTree nodes
   pub scope : IsInScope [] (root_term nodes)
+  pub turns : HasFewTurns 1 (root_term nodes)
 
-abbrev node_id : ℕ → NodeId
+abbrev pub node_id : ℕ → NodeId
 node_id n = record { 0 = n }
 
 -- The first fault, in the order of the tests
@@ -30,6 +32,8 @@ pub data IsFault (nodes : List Node) : CodeFault → Type 0 where
   slot : (before after : List Spot) (s : Spot) → length nodes < 2 ^ 32 → IsOneTree nodes → spots nodes ≡ before ++ s ∷ after → All (IsWellPlaced nodes) before → (HasRightSlots s.kinds (slice_get nodes s.id) → ⊥) → IsFault nodes (Slot (node_id s.id))
   -- from the root down, this node is the first that is not well placed, and its slots are right
   kind : (before after : List Spot) (s : Spot) → length nodes < 2 ^ 32 → IsOneTree nodes → spots nodes ≡ before ++ s ∷ after → All (IsWellPlaced nodes) before → HasRightSlots s.kinds (slice_get nodes s.id) → (HasRightKinds s.kinds (slice_get nodes s.id) → ⊥) → IsFault nodes (Kind (node_id s.id))
+  -- from the root down, this node is the first that is not well placed; its slots are right, and its names are of the right kinds
+  limit : (before after : List Spot) (s : Spot) → length nodes < 2 ^ 32 → IsOneTree nodes → spots nodes ≡ before ++ s ∷ after → All (IsWellPlaced nodes) before → HasRightSlots s.kinds (slice_get nodes s.id) → HasRightKinds s.kinds (slice_get nodes s.id) → (HasRightTurns s.turns (slice_get nodes s.id) → ⊥) → IsFault nodes (Limit (node_id s.id))
 
 -- the number of a fault
 abbrev pub fault_number : CodeFault → ℕ
@@ -37,3 +41,4 @@ fault_number (Child id) = 1
 fault_number (Slot id) = 2
 fault_number (Kind id) = 3
 fault_number Memory = 4
+fault_number (Limit id) = 5

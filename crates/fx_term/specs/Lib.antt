@@ -5,9 +5,10 @@ pub mod Fill
 pub mod Meaning
 pub mod Tree
 pub mod Taken
+pub mod Turns
 pub mod Spots
 pub mod Kinds
 pub mod Place
 pub mod Code
 pub mod Registers
-pub mod MaskEntries
+pub mod Entries

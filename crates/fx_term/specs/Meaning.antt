@@ -3,7 +3,7 @@ use Rattle.std.specs.Prelude.{ℕ, zero, suc, ◌-◌, Option, Some, None, List,
 use Rattle.fx_term.specs.declared.node.Arg.TheVariants.{Slot}
 use Rattle.fx_term.specs.declared.node.Node.{Node}
 use Rattle.fx_term.specs.declared.node.Node.TheVariants as node
-use Rattle.fx_term.specs.Term.{Term, Pure, Raise, Canceled, Never, Let, Handle, Mask, Poll, OnCancel}
+use Rattle.fx_term.specs.Term.{Term, Pure, Raise, Canceled, Never, Cede, Let, Handle, If, For, Mask, Poll, OnCancel, Bracket}
 
 -- a node's term, from the terms of its children
 abbrev pub assemble : Option Node → (ℕ → Term) → Term
@@ -11,11 +11,16 @@ assemble None child = Never
 assemble (Some (node.Pure a)) child = Pure a
 assemble (Some (node.Raise a)) child = Raise a
 assemble (Some node.Canceled) child = Canceled
+assemble (Some node.Never) child = Never
+assemble (Some node.Cede) child = Cede
 assemble (Some (node.Let x a b)) child = Let x (child a.0) (child b.0)
 assemble (Some (node.Handle a x b)) child = Handle (child a.0) x (child b.0)
+assemble (Some (node.If v a b)) child = If v (child a.0) (child b.0)
+assemble (Some (node.For i c a)) child = For i c (child a.0)
 assemble (Some (node.Mask p a)) child = Mask p (child a.0)
 assemble (Some (node.Poll p a)) child = Poll (Slot p) (child a.0)
 assemble (Some (node.OnCancel a f)) child = OnCancel (child a.0) (child f.0)
+assemble (Some (node.Bracket x a u r)) child = Bracket x (child a.0) (child u.0) (child r.0)
 
 -- the node's term, read that many levels deep
 unfoldable pub read : ℕ → List Node → ℕ → Term

@@ -17,16 +17,16 @@ path_to path p = with_own p.own (take p.outer path)
 
 -- the spot of a place
 abbrev pub spot_at : List NameKind → Place → Spot
-spot_at path p = record { id = p.node.0; kinds = map kind_of (path_to path p) }
+spot_at path p = record { id = p.node.0; kinds = map kind_of (path_to path p); turns = p.turns }
 
 -- of the places of a stack each has no fewer names round it than those below, and none has more than so many
 abbrev pub AreNested : ℕ → List Place → ℕ → Type 0
 AreNested least [] most = least ≤ most
 AreNested least (p ∷ stack) most = (least ≤ p.outer) × AreNested p.outer stack most
 
--- the place of a part of a node, where names of these kinds are in scope round the part
-abbrev pub under : List NameKind → NodeId → Option NameKind → Place
-under path part own = record { node = part; outer = length path; own = own }
+-- the place of a part of a node, where names of these kinds are in scope round the part, which is run so many times
+abbrev pub under : List NameKind → NodeId → Option NameKind → ℕ → Place
+under path part own turns = record { node = part; outer = length path; own = own; turns = turns }
 
 -- the spots of these parts are on the stack, the first one uppermost, and nothing below has changed
 pub record ArePushed (path : List NameKind) (ps : List Spot) (old new : List Place) : Type 0 where

@@ -9,11 +9,16 @@ abbrev pub children : Node → List ℕ
 children (node.Pure a) = []
 children (node.Raise a) = []
 children node.Canceled = []
+children node.Never = []
+children node.Cede = []
 children (node.Let x a b) = a.0 ∷ b.0 ∷ []
 children (node.Handle a x b) = a.0 ∷ b.0 ∷ []
+children (node.If v a b) = a.0 ∷ b.0 ∷ []
+children (node.For i c a) = a.0 ∷ []
 children (node.Mask p a) = a.0 ∷ []
 children (node.Poll p a) = a.0 ∷ []
 children (node.OnCancel a f) = a.0 ∷ f.0 ∷ []
+children (node.Bracket x a u r) = a.0 ∷ u.0 ∷ r.0 ∷ []
 
 -- the children of the nodes, node by node
 abbrev pub all_children : List Node → List ℕ

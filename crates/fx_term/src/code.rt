@@ -24,6 +24,10 @@ pub enum CodeFault {
     /// stand, or a value's where a poll is.
     #[error("node {}: a slot that is that of a name of another kind", .0.0)]
     Kind(NodeId),
+    /// With this loop's count the product of the counts of the loops round its part, a count of 0
+    /// taken as 1, is above 1,000,000.
+    #[error("node {}: a count that takes the turns of a part above 1000000", .0.0)]
+    Limit(NodeId),
     /// Memory ran out before a fault was found.
     #[error("out of memory")]
     Memory,
@@ -41,6 +45,7 @@ impl CodeFault {
             CodeFault::Slot(_) => 2,
             CodeFault::Kind(_) => 3,
             CodeFault::Memory => 4,
+            CodeFault::Limit(_) => 5,
         }
     }
 }

@@ -39,12 +39,16 @@ pub(crate) fn has_right_kinds(node: Node, kinds: &[NameKind]) -> bool
     ensures { IsTrue result ↔ HasRightKinds (map kind_of kinds.now) (Some node) }
 {
     match node {
-        Node::Pure(arg) | Node::Raise(arg) => is_value(arg, kinds),
+        Node::Pure(arg) | Node::Raise(arg) | Node::If(arg, ..) => is_value(arg, kinds),
         Node::Canceled
-        | Node::Let(_, _, _)
-        | Node::Handle(_, _, _)
-        | Node::Mask(_, _)
-        | Node::OnCancel(_, _) => true,
+        | Node::Never
+        | Node::Cede
+        | Node::Let(..)
+        | Node::Handle(..)
+        | Node::For(..)
+        | Node::Mask(..)
+        | Node::OnCancel(..)
+        | Node::Bracket(..) => true,
         Node::Poll(slot, _) => is_poll(slot, kinds),
     }
 }

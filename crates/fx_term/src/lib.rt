@@ -9,7 +9,8 @@
 //! 3. Each node but the last is a child, so the last one is the root.
 //! 4. From the root down, node by node: a binder has the number of names in whose scope it stands, and
 //!    a name that is used is in scope there; then, that name is of the kind that it is used as, a
-//!    value or a poll.
+//!    value or a poll; then, the counts of the loops round a part have a product of at most
+//!    1,000,000, a count of 0 taken as 1.
 //!
 //! A `Code` never changes, and nothing but `build` makes one.
 #![tactic(auto)]
@@ -26,6 +27,7 @@ mod registers;
 mod slots;
 mod taken;
 mod tree;
+mod turns;
 mod walk;
 
 pub use begin::Begin;

@@ -20,14 +20,25 @@ pub enum Node {
     Raise(Arg),
     /// Cancels the fiber that runs it (`canceled`).
     Canceled,
+    /// Does not end (`never`).
+    Never,
+    /// Gives way to other fibers, and gives 0 (`cede`).
+    Cede,
     /// The first part's value, by this slot, in the second part (`flatMap`).
     Let(Option<u32>, NodeId, NodeId),
     /// The first part's error, by this slot, in the second part (`handleErrorWith`).
     Handle(NodeId, Option<u32>, NodeId),
+    /// The second part where the value is not 0, else the third.
+    If(Arg, NodeId, NodeId),
+    /// The part with this slot's number from 0 to below the count, one after the other; gives 0.
+    For(u32, u32, NodeId),
     /// The part with the fiber masked; by this slot its poll is in scope there (`uncancelable`).
     Mask(u32, NodeId),
     /// The part with the mask of this slot's poll taken off (the `poll` of `uncancelable`).
     Poll(u32, NodeId),
     /// The first part; where that is canceled, the second one is run (`onCancel`).
     OnCancel(NodeId, NodeId),
+    /// Acquires by the first part, whose value has this slot in the others; uses by the second part;
+    /// releases by the third, once (`bracket`).
+    Bracket(Option<u32>, NodeId, NodeId, NodeId),
 }

@@ -30,10 +30,12 @@ pub(crate) fn has_right_slots(node: Node, names: usize) -> bool
     ensures { (kinds : List Kind) → length kinds ≡ names → (IsTrue result ↔ HasRightSlots kinds (Some node)) }
 {
     match node {
-        Node::Pure(arg) | Node::Raise(arg) => is_in_scope(arg, names),
-        Node::Canceled | Node::OnCancel(_, _) => true,
-        Node::Let(binder, _, _) | Node::Handle(_, binder, _) => is_next(binder, names),
-        Node::Mask(slot, _) => is_next(Some(slot), names),
+        Node::Pure(arg) | Node::Raise(arg) | Node::If(arg, ..) => is_in_scope(arg, names),
+        Node::Canceled | Node::Never | Node::Cede | Node::OnCancel(..) => true,
+        Node::Let(binder, ..) | Node::Handle(_, binder, _) | Node::Bracket(binder, ..) => {
+            is_next(binder, names)
+        }
+        Node::For(slot, ..) | Node::Mask(slot, _) => is_next(Some(slot), names),
         Node::Poll(slot, _) => is_in_scope(Arg::Slot(slot), names),
     }
 }

@@ -11,15 +11,17 @@ use crate::code::CodeFault;
 use crate::kinds::{NameKind, has_right_kinds};
 use crate::node::{Node, NodeId};
 use crate::slots::has_right_slots;
+use crate::turns::turns_inside;
 use std::alloc::Global;
 
-/// A node that is still to be looked at, how many names are in scope where its parent stands, and
-/// the kind of the name that the parent binds for it.
+/// A node that is still to be looked at, how many names are in scope where its parent stands, the
+/// kind of the name that the parent binds for it, and how often the loops round it run it.
 #[derive(Clone, Copy)]
 pub(crate) struct Place {
     node: NodeId,
     outer: usize,
     own: Option<NameKind>,
+    turns: u32,
 }
 
 /// Leaves the scopes that are not round this place, and enters the place's own.
@@ -50,41 +52,54 @@ fn push_part(
     part: NodeId,
     path: &[NameKind],
     own: Option<NameKind>,
+    turns: u32,
 ) -> Result<(), CodeFault>
-    ensures pushed { OnOk result (stack.new.items ≡ stack.old.items ++ under path.now part own ∷ []) }
+    ensures pushed { OnOk result (stack.new.items ≡ stack.old.items ++ under path.now part own turns ∷ []) }
     ensures memory { IfErr result (λ fault. fault ≡ CodeFault.Memory) }
 {
     stack.push(Place {
         node: part,
         outer: path.len(),
         own,
+        turns,
     })?;
     Ok(())
 }
 
-/// Pushes the children of a node that stands where names of these kinds are in scope, the last child
-/// first.
-fn push_parts(stack: &mut Vec<Place>, node: Node, path: &[NameKind]) -> Result<(), CodeFault>
-    ensures pushed { OnOk result (ArePushed path.now (parts (Some node) (map kind_of path.now)) stack.old.items stack.new.items) }
+/// Pushes the children of a node that stands where names of these kinds are in scope, each to be run
+/// so many times, the last child first.
+fn push_parts(
+    stack: &mut Vec<Place>,
+    node: Node,
+    path: &[NameKind],
+    turns: u32,
+) -> Result<(), CodeFault>
+    ensures pushed { OnOk result (ArePushed path.now (parts (Some node) (map kind_of path.now) turns) stack.old.items stack.new.items) }
     ensures memory { IfErr result (λ fault. fault ≡ CodeFault.Memory) }
 {
     match node {
-        Node::Pure(_) | Node::Raise(_) | Node::Canceled => {}
+        Node::Pure(_) | Node::Raise(_) | Node::Canceled | Node::Never | Node::Cede => {}
         Node::Let(binder, first, then) | Node::Handle(first, binder, then) => {
-            push_part(stack, then, path, value_of(binder))?;
-            push_part(stack, first, path, None)?;
+            push_part(stack, then, path, value_of(binder), turns)?;
+            push_part(stack, first, path, None, turns)?;
         }
-        Node::Mask(_, part) => push_part(stack, part, path, Some(NameKind::Poll))?,
-        Node::Poll(_, part) => push_part(stack, part, path, None)?,
-        Node::OnCancel(part, finalizer) => {
-            push_part(stack, finalizer, path, None)?;
-            push_part(stack, part, path, None)?;
+        Node::If(_, one, other) | Node::OnCancel(one, other) => {
+            push_part(stack, other, path, None, turns)?;
+            push_part(stack, one, path, None, turns)?;
+        }
+        Node::For(_, _, part) => push_part(stack, part, path, Some(NameKind::Value), turns)?,
+        Node::Mask(_, part) => push_part(stack, part, path, Some(NameKind::Poll), turns)?,
+        Node::Poll(_, part) => push_part(stack, part, path, None, turns)?,
+        Node::Bracket(binder, acquire, used, release) => {
+            push_part(stack, release, path, value_of(binder), turns)?;
+            push_part(stack, used, path, value_of(binder), turns)?;
+            push_part(stack, acquire, path, None, turns)?;
         }
     }
     Ok(())
 }
 
-/// Tests the names of each node of a tree, from its root down.
+/// Tests the names and counts of each node of a tree, from its root down.
 pub(crate) fn check_names(alloc: Global, nodes: &[Node]) -> Result<(), CodeFault>
     requires fits { length nodes.now < 2 ^ 32 }
     requires tree { IsOneTree nodes.now }
@@ -97,6 +112,7 @@ pub(crate) fn check_names(alloc: Global, nodes: &[Node]) -> Result<(), CodeFault
         node: NodeId((nodes.len() - 1) as u32),
         outer: 0,
         own: None,
+        turns: 1,
     })?;
     while let Some(place) = stack.pop() {
         enter(&mut path, place)?;
@@ -107,7 +123,10 @@ pub(crate) fn check_names(alloc: Global, nodes: &[Node]) -> Result<(), CodeFault
         if !has_right_kinds(node, &path) {
             return Err(CodeFault::Kind(place.node));
         }
-        push_parts(&mut stack, node, &path)?;
+        let Some(turns) = turns_inside(node, place.turns) else {
+            return Err(CodeFault::Limit(place.node));
+        };
+        push_parts(&mut stack, node, &path, turns)?;
     }
     Ok(())
 }

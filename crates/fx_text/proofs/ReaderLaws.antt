@@ -1,5 +1,5 @@
 -- The nodes of the reader, as a node is added.
-use Rattle.std.proofs.Common.{◌≡◌, ℕ, zero, suc, ◌+◌, ◌<◌, List, [], ◌∷◌, ◌++◌, length, All, refl, sym, ◌∙◌, ap, subst, arith, append_assoc}
+use Rattle.std.proofs.Common.{◌≡◌, ℕ, zero, suc, ◌+◌, ◌<◌, List, [], ◌∷◌, ◌++◌, length, All, IsPermutation, refl, sym, ◌∙◌, ap, subst, arith, append_assoc}
 use Rattle.std.proofs.lemmas.List.{append-nil, length-append}
 use Rattle.fx_term.specs.declared.node.Node.{Node}
 use Rattle.fx_term.specs.Tree.{children, ChildrenComeFirst}
@@ -19,9 +19,10 @@ grows_none xs = record { added = []; is = sym (append-nil xs); trees = empty }
 
 trees_append : (from middle : ℕ) (ns ms : List Node) (rs qs : List ℕ) → Trees from ns rs → middle ≡ from + length ns → Trees middle ms qs → Trees from (ns ++ ms) (rs ++ qs)
 trees_append from middle ns _ rs _ d at empty = subst (λ (l : List Node). Trees from l (rs ++ [])) (sym (append-nil ns)) (subst (λ (l : List ℕ). Trees from ns l) (sym (append-nil rs)) d)
-trees_append from middle ns ms rs qs d at (more before below others n d1 d2 whole roots) = more (ns ++ before) below (rs ++ others) n
+trees_append from middle ns ms rs qs d at (more before below others parts n d1 d2 order whole roots) = more (ns ++ before) below (rs ++ others) parts n
     (trees_append from middle ns before rs others d at d1)
-    (subst (λ (i : ℕ). Trees i below (children n)) (omega (arith, length-append ns before)) d2)
+    (subst (λ (i : ℕ). Trees i below parts) (omega (arith, length-append ns before)) d2)
+    order
     (ap (λ (l : List Node). ns ++ l) whole ∙ sym (append_assoc ns before (below ++ n ∷ [])))
     (ap (λ (l : List ℕ). rs ++ l) roots ∙ sym (append_assoc rs others _) ∙ ap (λ (i : ℕ). (rs ++ others) ++ i ∷ []) (omega (arith, length-append ns before)))
 
@@ -50,14 +51,14 @@ same_front (x ∷ rs) (y ∷ qs) r q e = let h : rs ++ r ∷ [] ≡ qs ++ q ∷ 
 
 last_tree : (from : ℕ) (all : List Node) (some rs : List ℕ) (r : ℕ) → Trees from all some → some ≡ rs ++ r ∷ [] → LastTree from all rs r
 last_tree from _ _ rs r empty e = absurd (let h = ap length e in omega (arith, length-append rs (r ∷ [])))
-last_tree from all some rs r (more before below others n d1 d2 whole roots) e =
+last_tree from all some rs r (more before below others parts n d1 d2 order whole roots) e =
     let h = same_front rs others r (from + length before + length below) (sym e ∙ roots) in
     record {
       before = before;
       tree = below ++ n ∷ [];
       is = whole;
       firsts = subst (λ (l : List ℕ). Trees from before l) (sym h.0) d1;
-      last = more [] below [] n empty (subst (λ (i : ℕ). Trees i below (children n)) (omega arith) d2) refl (ap (λ (i : ℕ). i ∷ []) (omega (arith, h.1)));
+      last = more [] below [] parts n empty (subst (λ (i : ℕ). Trees i below parts) (omega arith) d2) order refl (ap (λ (i : ℕ). i ∷ []) (omega (arith, h.1)));
       root = omega (arith, h.1, ap length whole, length-append before (below ++ n ∷ []), length-append below (n ∷ []));
     }
 
@@ -82,29 +83,36 @@ grew_before_two a c rs q r g =
     let two = grew_before_last a one.middle rs q one.firsts in
     record { middle = two.middle; firsts = two.firsts; lasts = grows_append two.middle one.middle c (q ∷ []) (r ∷ []) two.lasts one.lasts }
 
+pub grew_before_three : (a c : List Node) (rs : List ℕ) (q r s : ℕ) → GrowsBy a c (rs ++ q ∷ r ∷ s ∷ []) → GrewBefore a c rs (q ∷ r ∷ s ∷ [])
+grew_before_three a c rs q r s g =
+    let one = grew_before_two a c (rs ++ q ∷ []) r s (subst (λ (l : List ℕ). GrowsBy a c l) (sym (append_assoc rs (q ∷ []) (r ∷ s ∷ []))) g) in
+    let two = grew_before_last a one.middle rs q one.firsts in
+    record { middle = two.middle; firsts = two.firsts; lasts = grows_append two.middle one.middle c (q ∷ []) (r ∷ s ∷ []) two.lasts one.lasts }
+
 -- the last root is the last node
 pub last_root : (a c : List Node) (rs : List ℕ) (r : ℕ) → GrowsBy a c (rs ++ r ∷ []) → r + 1 ≡ length c
 last_root a c rs r g = let l = last_tree (length a) g.added (rs ++ r ∷ []) rs r g.trees refl in omega (arith, l.root, ap length g.is, length-append a g.added)
 
 -- the trees of a node's children, and then the node
-grows_node : (a b : List Node) (n : Node) (root : ℕ) → root ≡ length b → GrowsBy a b (children n) → GrowsBy a (b ++ n ∷ []) (root ∷ [])
-grows_node a b n root at g = record {
+grows_node : (a b : List Node) (n : Node) (root : ℕ) (parts : List ℕ) → root ≡ length b → IsPermutation parts (children n) → GrowsBy a b parts → GrowsBy a (b ++ n ∷ []) (root ∷ [])
+grows_node a b n root parts at order g = record {
   added = g.added ++ n ∷ [];
   is = ap (λ (l : List Node). l ++ n ∷ []) g.is ∙ append_assoc a g.added (n ∷ []);
-  trees = more [] g.added [] n empty (subst (λ (i : ℕ). Trees i g.added (children n)) (omega arith) g.trees) refl (ap (λ (i : ℕ). i ∷ []) (omega (arith, at, ap length g.is, length-append a g.added)));
+  trees = more [] g.added [] parts n empty (subst (λ (i : ℕ). Trees i g.added parts) (omega arith) g.trees) order refl (ap (λ (i : ℕ). i ∷ []) (omega (arith, at, ap length g.is, length-append a g.added)));
 }
 
-pub adds : (old new : Reader) (n : Node) (root : ℕ) → new.nodes.items ≡ old.nodes.items ++ n ∷ [] → new.names.items ≡ old.names.items → root ≡ length old.nodes.items
+pub adds : (old new : Reader) (n : Node) (root : ℕ) → new.nodes.items ≡ old.nodes.items ++ n ∷ [] → new.names.items ≡ old.names.items → new.turns ≡ old.turns → root ≡ length old.nodes.items
     → ChildrenComeFirst old.nodes.items → AllBelow (length old.nodes.items) (children n) → Adds old new n root
-adds old new n root e names at tree below =
+adds old new n root e names turns at tree below =
     let first = all_below (length old.nodes.items) (children n) below in
     let long = length_push old.nodes.items n in
     record {
       names = names;
+      turns = turns;
       tree = rw e (children_first_push old.nodes.items n tree first);
       keeps = record { longer = rw e (omega arith); same = λ id h. rw e (term_before old.nodes.items n tree id h) };
       last = rw e (omega arith);
       one = rw e long;
       term = rw (e, at) (term_push old.nodes.items n tree first);
-      grows = λ start g. rw e (grows_node start old.nodes.items n root at g);
+      grows = λ start parts order g. rw e (grows_node start old.nodes.items n root parts at order g);
     }

@@ -1,34 +1,60 @@
--- What the grammar has is in scope: each row of the table keeps scope, and so do all terms.
-use Rattle.std.proofs.Common.{◌≡◌, ℕ, zero, suc, ◌<◌, Bool, true, false, ◌&&◌, ◌==◌, Option, Some, None, List, [], ◌∷◌, ◌++◌, length, map, slice_get, get_or, bytes_eq, refl, sym, ◌∙◌, ap, subst, arith}
-use Rattle.std.specs.List.{AllByRecursion}
+-- What the grammar has fits its place: each name is in scope, and no loop has too many turns. Each row of the table keeps that, and so do all terms.
+use Rattle.std.proofs.Common.{◌≡◌, ℕ, zero, suc, ◌<◌, ◌≤◌, nat_le, Bool, true, false, cond, ◌&&◌, ◌==◌, Option, Some, None, List, [], ◌∷◌, ◌++◌, length, map, slice_get, get_or, bytes_eq, refl, sym, ◌∙◌, ap, subst, arith}
+use Rattle.std.proofs.lemmas.Bool.{leb-true}
 use Rattle.std.proofs.lemmas.Bool.Decides.{nat_tests}
 use Rattle.std.proofs.lemmas.List.{length-append, length-map, map-append}
 use Rattle.std.proofs.lemmas.List.Quantifiers.{position-Some}
 use Rattle.std.proofs.lemmas.Option.{slice_get_past}
 use Rattle.fx_term.specs.declared.node.Arg.{Arg}
-use Rattle.fx_term.specs.Term.{Term, Pure, Let, Handle, Mask}
+use Rattle.fx_term.specs.Term.{Term, Pure, Let, Handle, For, Mask, Bracket}
+use Rattle.fx_term.specs.Turns.{most_turns, turns_of_loop, HasFewTurns}
 use Rattle.fx_term.specs.Scope.{Kind, OfValue, OfPoll, OfFiber, OfOtherPoll, with_name, IsScoped, IsNew, HasLevels, IsInScope}
 use Rattle.fx_text.specs.declared.form.Form.{Form}
 use Rattle.fx_text.specs.declared.form.Form.TheVariants as form
 use Rattle.fx_text.specs.Token.{Token, Open, Close, Number, Name, Stray, Misnumber, End}
-use Rattle.fx_text.specs.Place.{Place, Bound, under, slot, same_kind, slot_of}
-use Rattle.fx_text.specs.Shape.{Shape, ends, value, name, binder, term, terms, seq, shape}
-use Rattle.fx_text.specs.Part.{slot_arg, value_of, name_of}
+use Rattle.fx_text.specs.Place.{Place, Bound, top, under, repeated, slot, same_kind, slot_of}
+use Rattle.fx_text.specs.Group.{Group, OfTerm, OfResource, OfResources, Resource, Content, under_all, place_after}
+use Rattle.fx_text.specs.Shape.{Shape, ends, word, value, count, name, binder, group, groups, seq, using, shape, content}
+use Rattle.fx_text.specs.Part.{slot_arg, value_of, count_of, name_of}
 use Rattle.fx_text.specs.Reading.{Meaning}
-use Rattle.fx_text.specs.Grammar.{Spells, ends_so, value_so, name_so, binder_so, term_so, terms_end, terms_more, IsScript}
+use Rattle.fx_text.specs.Grammar.{Spells, ends_so, word_so, value_so, count_so, name_so, binder_so, group_so, groups_end, groups_more, IsScript}
 
 -- the kinds of the names in scope
 abbrev pub kinds_at : Place → List Kind
 kinds_at p = map (λ b. b.kind) p.names
 
--- where the parts are in scope in their places, the form is in scope
-abbrev pub KeepsScope : List Kind → Shape → Type 0
-KeepsScope kinds (ends t) = IsInScope kinds t
-KeepsScope kinds (value p go) = (v : Arg) → IsInScope (kinds_at p) (Pure v) → KeepsScope kinds (go v)
-KeepsScope kinds (name c p go) = (x : ℕ) → x < length (kinds_at p) → slice_get (kinds_at p) x ≡ Some c → KeepsScope kinds (go x)
-KeepsScope kinds (binder p go) = (x : List ℕ) → KeepsScope kinds (go x)
-KeepsScope kinds (term p go) = (t : Term) → IsInScope (kinds_at p) t → KeepsScope kinds (go t)
-KeepsScope kinds (terms p go) = (ts : List Term) → AllByRecursion (IsInScope (kinds_at p)) ts → KeepsScope kinds (go ts)
+-- the term is in scope at this place, and no loop in it has too many turns there
+pub record StandsAt (p : Place) (t : Term) : Type 0 where
+  pub scope : IsInScope (kinds_at p) t
+  pub turns : HasFewTurns p.turns t
+
+-- the same of a resource's terms, and it has the next slot
+pub record ResourceFits (p : Place) (r : Resource) : Type 0 where
+  pub slot_is : r.slot ≡ slot p
+  pub acquire : StandsAt p r.acquire
+  pub release : StandsAt (under OfValue r.name p) r.release
+
+-- each of these fits where it stands, after those before it
+abbrev pub EachFits : {X : Type 0} → (Place → X → Type 0) → (X → Place → Place) → Place → List X → Type 0
+EachFits Fit after p [] = Unit {0}
+EachFits Fit after p (x ∷ xs) = Fit p x × EachFits Fit after (after x p) xs
+
+-- what a group is fits its place
+abbrev pub Fits : (g : Group) → Place → Content g → Type 0
+Fits OfTerm = StandsAt
+Fits OfResource = ResourceFits
+Fits OfResources = EachFits ResourceFits (λ r p. under OfValue r.name p)
+
+-- where the parts fit their places, what the shape comes to has the property
+abbrev pub KeepsFit : {g : Group} → (Content g → Type 0) → Shape g → Type 0
+KeepsFit P (ends x) = P x
+KeepsFit P (word go) = (f : Form) → KeepsFit P (go f)
+KeepsFit P (value p go) = (v : Arg) → IsInScope (kinds_at p) (Pure v) → KeepsFit P (go v)
+KeepsFit P (count p go) = (n : ℕ) → turns_of_loop p.turns n ≤ most_turns → KeepsFit P (go n)
+KeepsFit P (name k p go) = (i : ℕ) → i < length (kinds_at p) → slice_get (kinds_at p) i ≡ Some k → KeepsFit P (go i)
+KeepsFit P (binder p go) = (x : List ℕ) → KeepsFit P (go x)
+KeepsFit P (group h p go) = (x : Content h) → Fits h p x → KeepsFit P (go x)
+KeepsFit P (groups h p go) = (xs : List (Content h)) → EachFits (Fits h) (place_after h) p xs → KeepsFit P (go xs)
 
 -- ---- one name more
 
@@ -86,7 +112,7 @@ kind_there (b ∷ bounds) zero d h = refl
 kind_there (b ∷ bounds) (suc i) d h = kind_there bounds i d (omega arith)
 
 -- the slot of a name is that of a name of its kind
-slot_found : (k : Kind) (x : List ℕ) (p : Place) (i : ℕ) → slot_of k x p ≡ Some i → (i < length (kinds_at p)) × (slice_get (kinds_at p) i ≡ Some k)
+slot_found : (k : Kind) (x : List ℕ) (p : Place) (i : ℕ) → slot_of k x p.names ≡ Some i → (i < length (kinds_at p)) × (slice_get (kinds_at p) i ≡ Some k)
 slot_found k x p i e =
     let d : Bound = record { name = []; kind = k } in
     let h = position-Some (λ (b : Bound). bytes_eq b.name x && same_kind b.kind k) p.names i d e in
@@ -100,9 +126,9 @@ ValueInScope p (Some v) = IsInScope (kinds_at p) (Pure v)
 
 value_found : (p : Place) (k : Token) (v : Arg) → value_of p k ≡ Some v → IsInScope (kinds_at p) (Pure v)
 value_found p (Number n) v e = subst (λ (a : Option Arg). ValueInScope p a) e (record { levels = tt; scoped = tt })
-value_found p (Name x) v e = by_slot (slot_of OfValue x p) refl e
+value_found p (Name x) v e = by_slot (slot_of OfValue x p.names) refl e
   where
-    by_slot : (o : Option ℕ) → slot_of OfValue x p ≡ o → slot_arg o ≡ Some v → IsInScope (kinds_at p) (Pure v)
+    by_slot : (o : Option ℕ) → slot_of OfValue x p.names ≡ o → slot_arg o ≡ Some v → IsInScope (kinds_at p) (Pure v)
     by_slot None at e = absurd cc
     by_slot (Some i) at e = let h = slot_found OfValue x p i at in subst (λ (a : Option Arg). ValueInScope p a) e (record { levels = h.0; scoped = h.1 })
 value_found p Open v e = absurd cc
@@ -120,7 +146,20 @@ name_found c p Stray i e = absurd cc
 name_found c p Misnumber i e = absurd cc
 name_found c p End i e = absurd cc
 
--- ---- the rows of the table
+count_found : (p : Place) (k : Token) (n : ℕ) → count_of p k ≡ Some n → turns_of_loop p.turns n ≤ most_turns
+count_found p (Number m) n e = by_test (nat_le (turns_of_loop p.turns m) most_turns) refl e
+  where
+    by_test : (b : Bool) → nat_le (turns_of_loop p.turns m) most_turns ≡ b → cond b (Some m) None ≡ Some n → turns_of_loop p.turns n ≤ most_turns
+    by_test true few e = let same : m ≡ n = cc in subst (λ (c : ℕ). turns_of_loop p.turns c ≤ most_turns) same (leb-true _ _ few)
+    by_test false few e = absurd cc
+count_found p Open n e = absurd cc
+count_found p Close n e = absurd cc
+count_found p (Name x) n e = absurd cc
+count_found p Stray n e = absurd cc
+count_found p Misnumber n e = absurd cc
+count_found p End n e = absurd cc
+
+-- ---- forms in scope
 
 module _ (kinds : List Kind) (k : Kind) (x : ℕ) (b : Term) (at : x ≡ length kinds) (inner : IsInScope (kinds ++ k ∷ []) b) where
   levels_under : HasLevels (suc (length kinds)) b
@@ -132,51 +171,125 @@ module _ (kinds : List Kind) (k : Kind) (x : ℕ) (b : Term) (at : x ≡ length 
   scoped_under : IsScoped (with_name x k (λ y. slice_get kinds y)) b
   scoped_under = rw at (subst (λ (s : ℕ → Option Kind). IsScoped s b) (λ i y. get_push kinds k y i) inner.scoped)
 
-module _ (kinds : List Kind) (x : ℕ) (a b : Term) (at : x ≡ length kinds) (first : IsInScope kinds a) (second : IsInScope (kinds ++ OfValue ∷ []) b) where
-  let_in_scope : IsInScope kinds (Let (Some x) a b)
-  let_in_scope = record {
-    levels = (first.levels, at, levels_under kinds OfValue x b at second);
-    scoped = (first.scoped, new_under kinds OfValue x b at second, scoped_under kinds OfValue x b at second);
-  }
+inner_scope : (k : Kind) (x : List ℕ) (p : Place) (b : Term) → IsInScope (kinds_at (under k x p)) b → IsInScope (kinds_at p ++ k ∷ []) b
+inner_scope k x p b h = rw (kinds_under_is k x p) at h
 
-  handle_in_scope : IsInScope kinds (Handle a (Some x) b)
-  handle_in_scope = record { levels = let_in_scope.levels; scoped = let_in_scope.scoped }
+module _ (p : Place) (x : List ℕ) (a : Term) (first : StandsAt p a) where
+  module _ (b : Term) (second : StandsAt (under OfValue x p) b) where
+    let_stands : StandsAt p (Let (Some (slot p)) a b)
+    let_stands =
+        let at = slot_is p in
+        let inner = inner_scope OfValue x p b second.scope in
+        record {
+          scope = record {
+            levels = (first.scope.levels, at, levels_under (kinds_at p) OfValue (slot p) b at inner);
+            scoped = (first.scope.scoped, new_under (kinds_at p) OfValue (slot p) b at inner, scoped_under (kinds_at p) OfValue (slot p) b at inner);
+          };
+          turns = (first.turns, second.turns);
+        }
 
-mask_in_scope : (kinds : List Kind) (x : ℕ) (a : Term) → x ≡ length kinds → IsInScope (kinds ++ OfPoll ∷ []) a → IsInScope kinds (Mask x a)
-mask_in_scope kinds x a at inner = record {
-  levels = (at, levels_under kinds OfPoll x a at inner);
-  scoped = (new_under kinds OfPoll x a at inner, scoped_under kinds OfPoll x a at inner);
+    handle_stands : StandsAt p (Handle a (Some (slot p)) b)
+    handle_stands = let h = let_stands in record { scope = record { levels = h.scope.levels; scoped = h.scope.scoped }; turns = h.turns }
+
+  bracket_stands : (s : ℕ) (u r : Term) → s ≡ slot p → StandsAt (under OfValue x p) u → StandsAt (under OfValue x p) r → StandsAt p (Bracket (Some s) a u r)
+  bracket_stands s u r is used released =
+      let at = is ∙ slot_is p in
+      let inner = inner_scope OfValue x p u used.scope in
+      let outer = inner_scope OfValue x p r released.scope in
+      record {
+        scope = record {
+          levels = (first.scope.levels, at, levels_under (kinds_at p) OfValue s u at inner, levels_under (kinds_at p) OfValue s r at outer);
+          scoped = (first.scope.scoped, new_under (kinds_at p) OfValue s u at inner, scoped_under (kinds_at p) OfValue s u at inner, scoped_under (kinds_at p) OfValue s r at outer);
+        };
+        turns = (first.turns, used.turns, released.turns);
+      }
+
+for_stands : (p : Place) (x : List ℕ) (n : ℕ) (a : Term) → turns_of_loop p.turns n ≤ most_turns → StandsAt (repeated n (under OfValue x p)) a → StandsAt p (For (slot p) n a)
+for_stands p x n a few inside =
+    let at = slot_is p in
+    let inner = inner_scope OfValue x p a inside.scope in
+    record {
+      scope = record { levels = (at, levels_under (kinds_at p) OfValue (slot p) a at inner); scoped = (new_under (kinds_at p) OfValue (slot p) a at inner, scoped_under (kinds_at p) OfValue (slot p) a at inner) };
+      turns = (few, inside.turns);
+    }
+
+mask_stands : (p : Place) (x : List ℕ) (a : Term) → StandsAt (under OfPoll x p) a → StandsAt p (Mask (slot p) a)
+mask_stands p x a inside =
+    let at = slot_is p in
+    let inner = inner_scope OfPoll x p a inside.scope in
+    record {
+      scope = record { levels = (at, levels_under (kinds_at p) OfPoll (slot p) a at inner); scoped = (new_under (kinds_at p) OfPoll (slot p) a at inner, scoped_under (kinds_at p) OfPoll (slot p) a at inner) };
+      turns = inside.turns;
+    }
+
+-- two terms in order, the first one's value dropped
+then_stands : (p : Place) (a b : Term) → StandsAt p a → StandsAt p b → StandsAt p (Let None a b)
+then_stands p a b first second = record {
+  scope = record { levels = (first.scope.levels, tt, second.scope.levels); scoped = (first.scope.scoped, tt, second.scope.scoped) };
+  turns = (first.turns, second.turns);
 }
 
-seq_in_scope : (kinds : List Kind) (a : Term) (bs : List Term) → IsInScope kinds a → AllByRecursion (IsInScope kinds) bs → IsInScope kinds (seq a bs)
-seq_in_scope kinds a [] first others = first
-seq_in_scope kinds a (b ∷ bs) first others =
-    let rest = seq_in_scope kinds b bs others.0 others.1 in
-    record { levels = (first.levels, tt, rest.levels); scoped = (first.scoped, tt, rest.scoped) }
+seq_stands : (p : Place) (a : Term) (bs : List Term) → StandsAt p a → EachFits StandsAt (λ t q. q) p bs → StandsAt p (seq a bs)
+seq_stands p a [] first others = first
+seq_stands p a (b ∷ bs) first others = then_stands p a (seq b bs) first (seq_stands p b bs others.0 others.1)
 
-table_keeps_scope : (f : Form) (p : Place) → KeepsScope (kinds_at p) (shape f p)
-table_keeps_scope form.Pure p = λ v h. h
-table_keeps_scope form.Raise p = λ v h. record { levels = h.levels; scoped = h.scoped }
-table_keeps_scope form.Canceled p = record { levels = tt; scoped = tt }
-table_keeps_scope form.Seq p = λ a first bs others. seq_in_scope (kinds_at p) a bs first others
-table_keeps_scope form.Let p = λ x a first b second. let_in_scope (kinds_at p) (slot p) a b (slot_is p) first (rw (kinds_under_is OfValue x p) at second)
-table_keeps_scope form.Handle p = λ a first x b second. handle_in_scope (kinds_at p) (slot p) a b (slot_is p) first (rw (kinds_under_is OfValue x p) at second)
-table_keeps_scope form.Mask p = λ x a inner. mask_in_scope (kinds_at p) (slot p) a (slot_is p) (rw (kinds_under_is OfPoll x p) at inner)
-table_keeps_scope form.Poll p = λ x lt of_poll a inner. record { levels = (lt, inner.levels); scoped = (of_poll, inner.scoped) }
-table_keeps_scope form.OnCancel p = λ a first f second. record { levels = (first.levels, second.levels); scoped = (first.scoped, second.scoped) }
+using_stands : (p : Place) (rs : List Resource) (t : Term) → Fits OfResources p rs → StandsAt (under_all rs p) t → StandsAt p (using rs t)
+using_stands p [] t all used = used
+using_stands p (r ∷ rs) t all used = bracket_stands p r.name r.acquire all.0.acquire r.slot (using rs t) r.release all.0.slot_is (using_stands (under OfValue r.name p) rs t all.1 used) all.0.release
 
--- ---- all terms
+-- ---- the rows of the table
 
-spelled_in_scope : (kinds : List Kind) (room : ℕ) (s : Shape) (ks : List Token) (t : Term) → Spells room s ks t → KeepsScope kinds s → IsInScope kinds t
-spelled_in_scope kinds room (ends t) _ _ ends_so h = h
-spelled_in_scope kinds room (value p go) _ t (value_so {k = k} {ks = ks} v e d) h = spelled_in_scope kinds room (go v) ks t d (h v (value_found p k v e))
-spelled_in_scope kinds room (name c p go) _ t (name_so {k = k} {ks = ks} x e d) h = let found = name_found c p k x e in spelled_in_scope kinds room (go x) ks t d (h x found.0 found.1)
-spelled_in_scope kinds room (binder p go) _ t (binder_so {ks = ks} x e d) h = spelled_in_scope kinds room (go x) ks t d (h x)
-spelled_in_scope kinds room (term p go) _ t (term_so left f a inner ks has_room named d1 d2 whole) h =
-    spelled_in_scope kinds room (go a) ks t d2 (h a (spelled_in_scope (kinds_at p) left (shape f p) inner a d1 (table_keeps_scope f p)))
-spelled_in_scope kinds room (terms p go) _ t (terms_end {ks = ks} d) h = spelled_in_scope kinds room (go []) (Close ∷ ks) t d (h [] tt)
-spelled_in_scope kinds room (terms p go) ks t (terms_more d) h = spelled_in_scope kinds room (term p λ a. terms p λ others. go (a ∷ others)) ks t d (λ a first others each. h (a ∷ others) (first, each))
+shape_fits : (f : Form) (p : Place) → KeepsFit (StandsAt p) (shape f p)
+shape_fits form.Pure p = λ v h. record { scope = h; turns = tt }
+shape_fits form.Raise p = λ v h. record { scope = record { levels = h.levels; scoped = h.scoped }; turns = tt }
+shape_fits form.Canceled p = record { scope = record { levels = tt; scoped = tt }; turns = tt }
+shape_fits form.Never p = record { scope = record { levels = tt; scoped = tt }; turns = tt }
+shape_fits form.Cede p = record { scope = record { levels = tt; scoped = tt }; turns = tt }
+shape_fits form.Seq p = λ a first bs others. seq_stands p a bs first others
+shape_fits form.Let p = λ x a first b second. let_stands p x a first b second
+shape_fits form.Handle p = λ a first x b second. handle_stands p x a first b second
+shape_fits form.If p = λ v h a first b second. record {
+  scope = record { levels = (h.levels, first.scope.levels, second.scope.levels); scoped = (h.scoped, first.scope.scoped, second.scope.scoped) };
+  turns = (first.turns, second.turns);
+}
+shape_fits form.For p = λ x n few a inside. for_stands p x n a few inside
+shape_fits form.Mask p = λ x a inside. mask_stands p x a inside
+shape_fits form.Poll p = λ i lt of_poll a h. record { scope = record { levels = (lt, h.scope.levels); scoped = (of_poll, h.scope.scoped) }; turns = h.turns }
+shape_fits form.OnCancel p = λ a first f second. record {
+  scope = record { levels = (first.scope.levels, second.scope.levels); scoped = (first.scope.scoped, second.scope.scoped) };
+  turns = (first.turns, second.turns);
+}
+shape_fits form.Bracket p = λ x a first u used r released. bracket_stands p x a first (slot p) u r refl used released
+shape_fits form.Guarantee p = λ a first f second. record {
+  scope = record { levels = (tt, tt, first.scope.levels, second.scope.levels); scoped = (tt, tt, first.scope.scoped, second.scope.scoped) };
+  turns = (tt, first.turns, second.turns);
+}
+shape_fits form.Forcer p = λ a first b second. record {
+  scope = record { levels = ((first.scope.levels, tt, tt), tt, second.scope.levels); scoped = ((first.scope.scoped, tt, tt), tt, second.scope.scoped) };
+  turns = ((first.turns, tt), second.turns);
+}
+shape_fits form.Using p = λ rs all t used. using_stands p rs t all used
 
--- the term of a script is in no binder's scope
-pub script_in_scope : (text : List ℕ) (m : Meaning) → IsScript text m → IsInScope [] m.term
-script_in_scope text m s = spelled_in_scope [] 99 _ s.tokens m.term s.main (λ t h. h)
+content_fits : (g : Group) (p : Place) → KeepsFit (Fits g p) (content g p)
+content_fits OfTerm p = λ f. shape_fits f p
+content_fits OfResource p = λ x a first r second. record { slot_is = refl; acquire = first; release = second }
+content_fits OfResources p = λ r one rs others. (one, others)
+
+-- ---- all groups
+
+spelled_fits : (g : Group) (P : Content g → Type 0) (room : ℕ) (s : Shape g) (ks : List Token) (x : Content g) → Spells g room s ks x → KeepsFit P s → P x
+spelled_fits g P room (ends x) _ _ ends_so h = h
+spelled_fits g P room (word go) _ x (word_so {ks = ks} f e d) h = spelled_fits g P room (go f) ks x d (h f)
+spelled_fits g P room (value p go) _ x (value_so {k = k} {ks = ks} v e d) h = spelled_fits g P room (go v) ks x d (h v (value_found p k v e))
+spelled_fits g P room (count p go) _ x (count_so {k = k} {ks = ks} n e d) h = spelled_fits g P room (go n) ks x d (h n (count_found p k n e))
+spelled_fits g P room (name c p go) _ x (name_so {k = k} {ks = ks} i e d) h = let found = name_found c p k i e in spelled_fits g P room (go i) ks x d (h i found.0 found.1)
+spelled_fits g P room (binder p go) _ x (binder_so {ks = ks} b e d) h = spelled_fits g P room (go b) ks x d (h b)
+spelled_fits g P room (group k p go) _ x (group_so left a inner ks has_room d1 d2 whole) h =
+    spelled_fits g P room (go a) ks x d2 (h a (spelled_fits k (Fits k p) left (content k p) inner a d1 (content_fits k p)))
+spelled_fits g P room (groups k p go) _ x (groups_end {ks = ks} d) h = spelled_fits g P room (go []) (Close ∷ ks) x d (h [] tt)
+spelled_fits g P room (groups k p go) ks x (groups_more d) h =
+    spelled_fits g P room (group k p λ a. groups k (place_after k a p) λ others. go (a ∷ others)) ks x d (λ a first others each. h (a ∷ others) (first, each))
+
+-- the term of a script stands in no binder's scope and in no loop
+pub script_fits : (text : List ℕ) (m : Meaning) → IsScript text m → StandsAt top m.term
+script_fits text m s = spelled_fits OfTerm (StandsAt top) 99 _ s.tokens m.term s.main (λ t h. h)

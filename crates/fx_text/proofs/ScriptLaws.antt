@@ -12,14 +12,15 @@ use Rattle.fx_text.specs.declared.fault.TextFault.{TextFault}
 use Rattle.fx_text.specs.declared.fault.TextKind.TheVariants as kind
 use Rattle.fx_text.specs.declared.script.Script.{Script}
 use Rattle.fx_text.specs.Token.{Token, Open, Close, Number, Name, Stray, Misnumber, End, Lexeme, next}
+use Rattle.fx_text.specs.Group.{OfTerm}
 use Rattle.fx_text.specs.Shape.{main_shape}
 use Rattle.fx_text.specs.Part.{main_word}
-use Rattle.fx_text.specs.Reading.{◌>>=◌, Meaning, top_opening, top_opening_at, main_word_at, last, parts_at, term_at, script_at, at_offset, reading}
+use Rattle.fx_text.specs.Reading.{◌>>=◌, Meaning, top_opening, top_opening_at, main_word_at, last, parts_at, group_at, script_at, at_offset, reading}
 use Rattle.fx_text.specs.Grammar.{IsText, Spells, IsScript}
 use Rattle.fx_text.specs.View.{Answers, meaning}
 use Rattle.fx_text.proofs.PartLaws.{bind_ok, ok_pair, part_ok, part_again, main_word_is}
-use Rattle.fx_text.proofs.GrammarLaws.{parts_sound, term_sound, parts_complete}
-use Rattle.fx_text.proofs.ScopeKept.{script_in_scope}
+use Rattle.fx_text.proofs.GrammarLaws.{parts_sound, group_sound, parts_complete}
+use Rattle.fx_text.proofs.ScopeKept.{script_fits}
 
 top_ok : (l : Lexeme) (k : Token) (u : Unit {0}) (rest : List ℕ) → top_opening l k ≡ Ok (u, rest) → (k ≡ Open) × (l.rest ≡ rest)
 top_ok l Open u rest e = (refl, (ok_pair tt u l.rest rest e).1)
@@ -48,24 +49,24 @@ of_term t = record { queues = []; term = t }
 
 -- what comes after the word main
 abbrev rest_of_main : List ℕ → Result Meaning Fault
-rest_of_main bytes = parts_at (term_at 99) main_shape bytes >>= λ x. last (of_term x.0) (next x.1) (next x.1).token
+rest_of_main bytes = parts_at (group_at 99) main_shape bytes >>= λ x. last (of_term x.0) (next x.1) (next x.1).token
 
 record HasMain (text : List ℕ) (m : Meaning) : Type 0 where
   queues : m.queues ≡ []
   tokens : List Token
   text_is : IsText text tokens
-  main : Spells 99 main_shape tokens m.term
+  main : Spells OfTerm 99 main_shape tokens m.term
 
 main_sound : (text : List ℕ) (m : Meaning) → rest_of_main text ≡ Ok m → HasMain text m
 main_sound text m e =
-    let b = bind_ok (parts_at (term_at 99) main_shape text) (λ x. last (of_term x.0) (next x.1) (next x.1).token) m e in
+    let b = bind_ok (parts_at (group_at 99) main_shape text) (λ x. last (of_term x.0) (next x.1) (next x.1).token) m e in
     let l = last_ok (of_term b.0.0) m (next b.0.1) (next b.0.1).token b.2 in
-    let r = parts_sound 99 (term_at 99) (term_sound 99) main_shape text b.0.0 b.0.1 [] b.1 l.0 in
+    let r = parts_sound 99 (group_at 99) (group_sound 99) main_shape text b.0.0 b.0.1 [] b.1 l.0 in
     record {
       queues = sym (ap (λ (n : Meaning). n.queues) l.1);
       tokens = r.tokens;
       text_is = subst (λ (x : List Token). IsText text x) (append-nil r.tokens) r.text_is;
-      main = subst (λ (n : Meaning). Spells 99 main_shape r.tokens n.term) l.1 r.spells;
+      main = subst (λ (n : Meaning). Spells OfTerm 99 main_shape r.tokens n.term) l.1 r.spells;
     }
 
 module _ (text : List ℕ) (m : Meaning) where
@@ -97,7 +98,7 @@ module _ (text : List ℕ) (m : Meaning) where
   script_complete s =
       let short : nat_lt 65536 (length text) ≡ false = le-ltb _ _ s.short in
       let after = (next (next text).rest).rest in
-      let r = parts_complete 99 main_shape s.tokens m.term s.main after [] (subst (λ (x : List Token). IsText after x) (sym (append-nil s.tokens)) s.text_is.1.1) in
+      let r = parts_complete OfTerm 99 main_shape s.tokens m.term s.main after [] (subst (λ (x : List Token). IsText after x) (sym (append-nil s.tokens)) s.text_is.1.1) in
       let word = part_again main_word (λ _. kind.Form) (next text).rest (Name (codes "main")) tt s.text_is.1.0 refl in
       let same : of_term m.term ≡ m = ap (λ (x : List (List ℕ × ℕ)). record { queues = x; term = m.term }) (sym s.queues) in
       rw (short, s.text_is.0, word, r.read, r.rest_is) (ap Ok same)
@@ -117,4 +118,6 @@ answer_only text r a m s = subst (λ (x : Result Meaning TextFault). Answers r x
 
 -- the nodes of a script are a code
 pub script_code : (text : List ℕ) (nodes : List Node) → length text ≤ 65536 → script_at text ≡ Ok (of_term (root_term nodes)) → IsOneTree nodes → length nodes ≤ 65536 → IsCode nodes
-script_code text nodes short read tree fits = record { fits = omega arith; tree = tree; scope = script_in_scope text (of_term (root_term nodes)) (text_sound text (of_term (root_term nodes)) short read) }
+script_code text nodes short read tree fits =
+    let stands = script_fits text (of_term (root_term nodes)) (text_sound text (of_term (root_term nodes)) short read) in
+    record { fits = omega arith; tree = tree; scope = stands.scope; turns = stands.turns }

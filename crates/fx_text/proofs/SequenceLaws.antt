@@ -1,6 +1,7 @@
 -- Terms made one, from the last to the first.
 use Rattle.std.proofs.Common.{◌≡◌, ℕ, ◌+◌, ◌<◌, None, List, [], ◌∷◌, ◌++◌, length, map, refl, sym, ◌∙◌, ap, subst, arith, append_assoc}
 use Rattle.std.proofs.lemmas.List.{length-append, map-append}
+use Rattle.std.proofs.lemmas.List.Sorted.{IsPermutation-refl}
 use Rattle.fx_term.specs.declared.node.NodeId.{NodeId}
 use Rattle.fx_term.specs.declared.node.Node.{Node}
 use Rattle.fx_term.specs.declared.node.Node.TheVariants as node
@@ -33,6 +34,7 @@ terms_of nodes roots = map (λ part. term_of nodes part.0) roots
 -- the terms before the last ones are left, and the last ones are one, with this root
 pub record JoinsLast (old new : Reader) (first : NodeId) (others left : List NodeId) (root : NodeId) : Type 0 where
   pub names : new.names.items ≡ old.names.items
+  pub turns : new.turns ≡ old.turns
   pub tree : ChildrenComeFirst new.nodes.items
   pub keeps : Keeps old.nodes.items new.nodes.items
   pub more : length new.nodes.items + length left ≡ length old.nodes.items + length others
@@ -58,6 +60,7 @@ joins_none old first others front last e tree below =
     let split = below_front (length old.nodes.items) (ids front) (last.0 ∷ []) (subst (λ (l : List ℕ). AllBelow (length old.nodes.items) l) (ap ids e ∙ ids_push front last) below.1) in
     record {
       names = refl;
+      turns = refl;
       tree = tree;
       keeps = record { longer = omega arith; same = λ id h. refl };
       more = omega (arith, ap length e, length-append front (last ∷ []));
@@ -84,6 +87,7 @@ joins_more old middle new first others left front part root whole e h added =
     let whole_is : term_of new.nodes.items whole.0 ≡ Let None (term_of old.nodes.items part.0) (term_of middle.nodes.items root.0) = added.term ∙ cc in
     record {
       names = added.names ∙ h.names;
+      turns = added.turns ∙ h.turns;
       tree = added.tree;
       keeps = record { longer = let l = added.keeps.longer in omega arith; same = λ id lt. added.keeps.same id (omega arith) ∙ h.keeps.same id lt };
       more = omega (arith, added.one, h.more, ap length e, length-append front (part ∷ []));
@@ -95,5 +99,5 @@ joins_more old middle new first others left front part root whole e h added =
       grows = λ start g.
           let regroup : ids left ++ root.0 ∷ [] ≡ ids front ++ part.0 ∷ root.0 ∷ [] = ap (λ (l : List ℕ). l ++ root.0 ∷ []) (ap ids e ∙ ids_push front part) ∙ append_assoc (ids front) (part.0 ∷ []) (root.0 ∷ []) in
           let two = grew_before_two start middle.nodes.items (ids front) part.0 root.0 (subst (λ (l : List ℕ). GrowsBy start middle.nodes.items l) regroup (h.grows start g)) in
-          grows_append start two.middle new.nodes.items (ids front) (whole.0 ∷ []) two.firsts (added.grows two.middle two.lasts);
+          grows_append start two.middle new.nodes.items (ids front) (whole.0 ∷ []) two.firsts (added.grows two.middle _ (IsPermutation-refl _) two.lasts);
     }

@@ -1,6 +1,6 @@
 -- The reader as it goes through terms, any number.
-use Rattle.std.proofs.Common.{◌≡◌, ℕ, ◌<◌, ◌≤◌, true, false, Ok, Err, List, [], ◌∷◌, ◌++◌, length, refl, sym, ◌∙◌, ap, subst, arith, append_assoc}
-use Rattle.std.proofs.lemmas.List.{append-nil, length-append}
+use Rattle.std.proofs.Common.{◌≡◌, ℕ, ◌<◌, ◌≤◌, true, false, Ok, Err, List, [], ◌∷◌, ◌++◌, length, refl, sym, ◌∙◌, ap, subst, arith}
+use Rattle.std.proofs.lemmas.List.{length-append}
 use Rattle.fx_term.specs.declared.node.NodeId.{NodeId}
 use Rattle.fx_term.specs.declared.node.Node.{Node}
 use Rattle.fx_term.specs.Term.{Term}
@@ -11,24 +11,21 @@ use Rattle.fx_text.specs.declared.fault.ReadError.TheVariants as errors
 use Rattle.fx_text.specs.declared.reader.Reader.{Reader}
 use Rattle.fx_text.specs.Token.{next}
 use Rattle.fx_text.specs.Part.{is_closing}
-use Rattle.fx_text.specs.Reading.{◌>>=◌, Read, terms_at, term_at}
+use Rattle.fx_text.specs.Reading.{groups_at, group_at, term_at}
 use Rattle.fx_text.specs.Given.{Fails}
-use Rattle.fx_text.specs.ScopeView.{place}
+use Rattle.fx_text.specs.Place.{Place}
+use Rattle.fx_text.specs.Group.{OfTerm}
 use Rattle.fx_text.specs.Trees.{GrowsBy, Keeps, AllBelow}
-use Rattle.fx_text.specs.ReaderState.{ids, Went, WentThrough, Joins}
-use Rattle.fx_text.proofs.TermsLaws.{before, terms_ended, terms_go_on}
+use Rattle.fx_text.specs.ReaderState.{place_of, ids, Went, WentThrough, Joins}
+use Rattle.fx_text.proofs.GroupsLaws.{IsReadSoFar, none_so_far, more_so_far, fault_so_far, all_so_far}
 use Rattle.fx_text.proofs.ReaderLaws.{grows_none, grows_append, last_root}
 use Rattle.fx_text.proofs.SequenceLaws.{terms_of, terms_push, ids_push}
-
--- the terms read so far before those to come
-abbrev all_before : List Term → List Term × List ℕ → Read (List Term)
-all_before ts others = Ok (ts ++ others.0, others.1)
 
 -- the terms read so far and what is read of the rest are what is read of all
 pub record WentSoFar (room : ℕ) (old new : Reader) (roots : List NodeId) (bytes rest : List ℕ) : Type 0 where
   pub went : WentThrough old new roots bytes rest
   pub grows : GrowsBy old.nodes.items new.nodes.items (ids roots)
-  pub read : terms_at (term_at room) (place old.names.items) bytes ≡ (terms_at (term_at room) (place old.names.items) rest >>= all_before (terms_of new.nodes.items roots))
+  pub read : IsReadSoFar room OfTerm (place_of old) (place_of old) (terms_of new.nodes.items roots) bytes rest
 
 below_push : (bound more c : ℕ) (cs : List ℕ) → bound ≤ more → c < more → AllBelow bound cs → AllBelow more (cs ++ c ∷ [])
 below_push bound more c [] le lt h = (lt, tt)
@@ -39,31 +36,29 @@ terms_kept : (old new : List Node) (roots : List NodeId) → Keeps old new → A
 terms_kept old new [] keeps below = refl
 terms_kept old new (root ∷ roots) keeps below = let h = keeps.same root.0 below.0 in let g = terms_kept old new roots keeps below.1 in cc
 
-none_before : (r : Read (List Term)) → r ≡ (r >>= all_before [])
-none_before (Ok x) = refl
-none_before (Err f) = refl
-
-one_before : (ts : List Term) (t : Term) (r : Read (List Term)) → ((r >>= before t) >>= all_before ts) ≡ (r >>= all_before (ts ++ t ∷ []))
-one_before ts t (Err f) = refl
-one_before ts t (Ok x) = ap (λ (l : List Term). Ok (l, x.1)) (sym (append_assoc ts (t ∷ []) x.0))
-
 pub went_none : (room : ℕ) (old : Reader) (roots : List NodeId) (bytes : List ℕ) → roots ≡ [] → ChildrenComeFirst old.nodes.items → WentSoFar room old old roots bytes bytes
 went_none room old roots bytes none tree = subst (λ (l : List NodeId). WentSoFar room old old l bytes bytes) (sym none) (record {
-  went = record { names = refl; tree = tree; keeps = record { longer = omega arith; same = λ id h. refl }; below = tt; paid = omega arith; shorter = omega arith };
+  went = record { names = refl; turns = refl; tree = tree; keeps = record { longer = omega arith; same = λ id h. refl }; below = tt; paid = omega arith; shorter = omega arith };
   grows = grows_none old.nodes.items;
-  read = none_before _;
+  read = none_so_far room OfTerm (place_of old) bytes;
 })
 
+same_place : (old new : Reader) → new.names.items ≡ old.names.items → new.turns ≡ old.turns → place_of new ≡ place_of old
+same_place old new names turns = cc
+
 module _ (room : ℕ) (old middle : Reader) (roots : List NodeId) (bytes rest : List ℕ) (h : WentSoFar room old middle roots bytes rest) where
-  pub went_more : (new : Reader) (root : NodeId) (all : List NodeId) (after : List ℕ) → all ≡ roots ++ root ∷ [] → is_closing (next rest).token ≡ false → term_at room (place middle.names.items) rest ≡ Ok (term_of new.nodes.items root.0, after)
+  here : place_of middle ≡ place_of old
+  here = same_place old middle h.went.names h.went.turns
+
+  pub went_more : (new : Reader) (root : NodeId) (all : List NodeId) (after : List ℕ) → all ≡ roots ++ root ∷ [] → is_closing (next rest).token ≡ false → term_at room (place_of middle) rest ≡ Ok (term_of new.nodes.items root.0, after)
       → Went 2 middle new root.0 rest after → GrowsBy middle.nodes.items new.nodes.items (root.0 ∷ []) → WentSoFar room old new all bytes after
   went_more new root all after pushed at one w g =
-      let names = h.went.names in
-      let one' : term_at room (place old.names.items) rest ≡ Ok (term_of new.nodes.items root.0, after) = rw names at one in
+      let one' = subst (λ (p : Place). term_at room p rest ≡ Ok (term_of new.nodes.items root.0, after)) here one in
       let kept = terms_kept middle.nodes.items new.nodes.items roots w.keeps h.went.below in
       subst (λ (l : List NodeId). WentSoFar room old new l bytes after) (sym pushed) (record {
         went = record {
           names = w.names ∙ h.went.names;
+          turns = w.turns ∙ h.went.turns;
           tree = w.tree;
           keeps = record { longer = let l = w.keeps.longer in let k = h.went.keeps.longer in omega arith; same = λ id lt. w.keeps.same id (let k = h.went.keeps.longer in omega arith) ∙ h.went.keeps.same id lt };
           below = subst (λ (l : List ℕ). AllBelow (length new.nodes.items) l) (sym (ids_push roots root)) (below_push (length middle.nodes.items) (length new.nodes.items) root.0 (ids roots) w.keeps.longer (omega (arith, w.last)) h.went.below);
@@ -71,28 +66,25 @@ module _ (room : ℕ) (old middle : Reader) (roots : List NodeId) (bytes rest : 
           shorter = omega (arith, w.shorter, h.went.shorter);
         };
         grows = subst (λ (l : List ℕ). GrowsBy old.nodes.items new.nodes.items l) (sym (ids_push roots root)) (grows_append old.nodes.items middle.nodes.items new.nodes.items (ids roots) (root.0 ∷ []) h.grows g);
-        read = h.read
-            ∙ ap (λ (r : Read (List Term)). r >>= all_before (terms_of middle.nodes.items roots)) (terms_go_on room (place old.names.items) rest at ∙ ap (λ (r : Read Term). r >>= λ x. terms_at (term_at room) (place old.names.items) x.1 >>= before x.0) one')
-            ∙ one_before (terms_of middle.nodes.items roots) (term_of new.nodes.items root.0) (terms_at (term_at room) (place old.names.items) after)
-            ∙ ap (λ (l : List Term). terms_at (term_at room) (place old.names.items) after >>= all_before l) (ap (λ (l : List Term). l ++ term_of new.nodes.items root.0 ∷ []) (sym kept) ∙ sym (terms_push new.nodes.items roots root));
+        read = subst (λ (l : List Term). IsReadSoFar room OfTerm (place_of old) (place_of old) l bytes after)
+            (ap (λ (l : List Term). l ++ term_of new.nodes.items root.0 ∷ []) (sym kept) ∙ sym (terms_push new.nodes.items roots root))
+            (more_so_far room OfTerm (place_of old) (place_of old) (terms_of middle.nodes.items roots) bytes rest h.read (term_of new.nodes.items root.0) after at one');
       })
 
   -- the fault of a term is that of all
-  pub went_fails : (e : ReadError) → is_closing (next rest).token ≡ false → Fails e (term_at room (place middle.names.items) rest) → Fails e (terms_at (term_at room) (place old.names.items) bytes)
+  pub went_fails : (e : ReadError) → is_closing (next rest).token ≡ false → Fails e (term_at room (place_of middle) rest) → Fails e (groups_at (group_at room) OfTerm (place_of old) bytes)
   went_fails errors.Memory at f = tt
-  went_fails (errors.Fault x) at f =
-      let names = h.went.names in
-      let f' : term_at room (place old.names.items) rest ≡ Err x = rw names at f in
-      h.read ∙ ap (λ (r : Read (List Term)). r >>= all_before (terms_of middle.nodes.items roots)) (terms_go_on room (place old.names.items) rest at ∙ ap (λ (r : Read Term). r >>= λ x. terms_at (term_at room) (place old.names.items) x.1 >>= before x.0) f')
+  went_fails (errors.Fault x) at f = fault_so_far room OfTerm (place_of old) (place_of old) (terms_of middle.nodes.items roots) bytes rest h.read x at (subst (λ (p : Place). term_at room p rest ≡ Err x) here f)
 
-  pub went_all : is_closing (next rest).token ≡ true → terms_at (term_at room) (place old.names.items) bytes ≡ Ok (terms_of middle.nodes.items roots, rest)
-  went_all at = h.read ∙ ap (λ (r : Read (List Term)). r >>= all_before (terms_of middle.nodes.items roots)) (terms_ended room (place old.names.items) rest at) ∙ ap (λ (l : List Term). Ok (l, rest)) (append-nil (terms_of middle.nodes.items roots))
+  pub went_all : is_closing (next rest).token ≡ true → groups_at (group_at room) OfTerm (place_of old) bytes ≡ Ok (terms_of middle.nodes.items roots, rest)
+  went_all at = all_so_far room OfTerm (place_of old) (place_of old) (terms_of middle.nodes.items roots) bytes rest h.read at
 
 -- a term, the terms after it and the `)`, made one
 pub went_seq : (old one two new : Reader) (first : NodeId) (others : List NodeId) (root : ℕ) (bytes after before_end rest : List ℕ) → Went 2 old one first.0 bytes after → WentThrough one two others after before_end → length rest < length before_end
     → Joins two new first others root → GrowsBy old.nodes.items new.nodes.items (root ∷ []) → Went 0 old new root bytes rest
 went_seq old one two new first others root bytes after before_end rest w v lt j g = record {
   names = j.names ∙ v.names ∙ w.names;
+  turns = j.turns ∙ v.turns ∙ w.turns;
   tree = j.tree;
   keeps = record { longer = let l = w.keeps.longer in let k = v.keeps.longer in omega (arith, j.more); same = λ id h. j.keeps.same id (let l = w.keeps.longer in let k = v.keeps.longer in omega arith) ∙ v.keeps.same id (let l = w.keeps.longer in omega arith) ∙ w.keeps.same id h };
   last = last_root old.nodes.items new.nodes.items [] root g;

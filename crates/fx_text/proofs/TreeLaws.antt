@@ -69,13 +69,14 @@ numbers_over from before below n =
 -- the children and the roots of whole trees are their nodes, each once
 pub numbered : (from : ℕ) (ns : List Node) (rs : List ℕ) → Trees from ns rs → IsPermutation (all_children ns ++ rs) (range_with_len from (length ns))
 numbered from _ _ empty = IsPermutation-refl []
-numbered from ns rs (more before below others n d1 d2 whole roots) =
+numbered from ns rs (more before below others parts n d1 d2 order whole roots) =
     let root = (from + length before + length below) ∷ [] in
+    let children_of_n = IsPermutation-trans _ _ _ (IsPermutation-append_right (all_children below) (children n) parts (IsPermutation-sym _ _ order)) (numbered (from + length before) below parts d2) in
     let one = exchange (all_children before) (all_children below ++ children n) others root in
     let two = IsPermutation-append (all_children before ++ others) (range_with_len from (length before))
     ((all_children below ++ children n) ++ root) (range_with_len (from + length before) (length below) ++ root)
     (numbered from before others d1)
-    (IsPermutation-append_left root (all_children below ++ children n) (range_with_len (from + length before) (length below)) (numbered (from + length before) below (children n) d2)) in
+    (IsPermutation-append_left root (all_children below ++ children n) (range_with_len (from + length before) (length below)) children_of_n) in
     let both = IsPermutation-trans _ _ _ one two in
     let left : all_children ns ++ rs ≡ (all_children before ++ (all_children below ++ children n)) ++ (others ++ root) =
     ap (λ (l : List Node). all_children l ++ rs) whole ∙ ap (λ (l : List ℕ). all_children (before ++ (below ++ n ∷ [])) ++ l) roots ∙ ap (λ (l : List ℕ). l ++ (others ++ root)) (children_over before below n) in

@@ -1,6 +1,7 @@
 pub mod Fault
 pub mod Token
 pub mod Place
+pub mod Group
 pub mod Shape
 pub mod Part
 pub mod Meaning
@@ -12,3 +13,4 @@ pub mod ScopeView
 pub mod Given
 pub mod Trees
 pub mod ReaderState
+pub mod ResourceState

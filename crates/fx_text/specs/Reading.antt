@@ -8,10 +8,11 @@ use Rattle.fx_text.specs.declared.fault.TextKind.TheVariants as kind
 use Rattle.fx_text.specs.declared.fault.TextFault.{TextFault}
 use Rattle.fx_text.specs.declared.fault.Fault.{Fault}
 use Rattle.fx_text.specs.declared.form.Form.{Form}
-use Rattle.fx_text.specs.Token.{Token, Open, Name, Stray, Misnumber, End, Lexeme, next}
+use Rattle.fx_text.specs.Token.{Token, Open, Number, Name, Stray, Misnumber, End, Lexeme, next}
 use Rattle.fx_text.specs.Place.{Place}
-use Rattle.fx_text.specs.Shape.{Shape, ends, value, name, binder, term, terms, shape, main_shape}
-use Rattle.fx_text.specs.Part.{opens, closes, is_closing, value_of, name_of, new_name, form_of, main_word}
+use Rattle.fx_text.specs.Group.{Group, OfTerm, Content, place_after}
+use Rattle.fx_text.specs.Shape.{Shape, ends, word, value, count, name, binder, group, groups, content, main_shape}
+use Rattle.fx_text.specs.Part.{opens, closes, is_closing, value_of, count_of, name_of, new_name, form_of, main_word}
 pub use Rattle.fx_text.specs.Meaning.{Meaning}
 
 -- the next step, unless there was a fault
@@ -51,6 +52,11 @@ abbrev pub at_name : TextKind → Token → TextKind
 at_name k (Name x) = k
 at_name k _ = kind.Unwanted
 
+-- and so is a number
+abbrev pub at_number : TextKind → Token → TextKind
+at_number k (Number n) = k
+at_number k _ = kind.Unwanted
+
 unfoldable pub opening_at : List ℕ → Read (Unit {0})
 opening_at = part_at opens (λ _. kind.Unwanted)
 
@@ -59,6 +65,9 @@ closing_at = part_at closes (λ _. kind.Unwanted)
 
 unfoldable pub value_at : Place → List ℕ → Read Arg
 value_at p = part_at (value_of p) (at_name kind.Unknown)
+
+unfoldable pub count_at : Place → List ℕ → Read ℕ
+count_at p = part_at (count_of p) (at_number kind.Size)
 
 unfoldable pub name_at : Kind → Place → List ℕ → Read ℕ
 name_at k p = part_at (name_of k p) (at_name kind.Unknown)
@@ -72,52 +81,64 @@ form_at = part_at form_of (λ _. kind.Form)
 unfoldable pub main_word_at : List ℕ → Read (Unit {0})
 main_word_at = part_at main_word (λ _. kind.Form)
 
--- ---- forms
+-- ---- groups
 
--- Terms up to a `)`, which is left; they are read by the function given. Each has a byte or more, so there are no more terms than bytes
-unfoldable pub terms_within : ℕ → (Place → List ℕ → Read Term) → Place → List ℕ → Read (List Term)
-terms_within zero term_at p bytes = refused kind.Unwanted (next bytes)
-terms_within (suc most) term_at p bytes = if is_closing (next bytes).token then Ok ([], bytes) else do
-  (t, after) ← term_at p bytes
-  (ts, rest) ← terms_within most term_at p after
-  Ok (t ∷ ts, rest)
+-- how groups of each kind are read
+abbrev pub GroupReading : Type 0
+GroupReading = (g : Group) → Place → List ℕ → Read (Content g)
 
-abbrev pub terms_at : (Place → List ℕ → Read Term) → Place → List ℕ → Read (List Term)
-terms_at term_at p bytes = terms_within (length bytes) term_at p bytes
+-- Groups up to a `)`, which is left; they are read by the function given. Each has a byte or more, so there are no more groups than bytes
+unfoldable pub groups_within : ℕ → GroupReading → (g : Group) → Place → List ℕ → Read (List (Content g))
+groups_within zero each g p bytes = refused kind.Unwanted (next bytes)
+groups_within (suc most) each g p bytes = if is_closing (next bytes).token then Ok ([], bytes) else do
+  (x, after) ← each g p bytes
+  (xs, rest) ← groups_within most each g (place_after g x p) after
+  Ok (x ∷ xs, rest)
 
--- the parts of a form; terms are read by the function given
-abbrev pub parts_at : (Place → List ℕ → Read Term) → Shape → List ℕ → Read Term
-parts_at term_at (ends t) bytes = do
+abbrev pub groups_at : GroupReading → (g : Group) → Place → List ℕ → Read (List (Content g))
+groups_at each g p bytes = groups_within (length bytes) each g p bytes
+
+-- the parts of a group; the groups among them are read by the function given
+abbrev pub parts_at : {g : Group} → GroupReading → Shape g → List ℕ → Read (Content g)
+parts_at each (ends x) bytes = do
   (_, rest) ← closing_at bytes
-  Ok (t, rest)
-parts_at term_at (value p go) bytes = do
+  Ok (x, rest)
+parts_at each (word go) bytes = do
+  (f, rest) ← form_at bytes
+  parts_at each (go f) rest
+parts_at each (value p go) bytes = do
   (v, rest) ← value_at p bytes
-  parts_at term_at (go v) rest
-parts_at term_at (name k p go) bytes = do
+  parts_at each (go v) rest
+parts_at each (count p go) bytes = do
+  (n, rest) ← count_at p bytes
+  parts_at each (go n) rest
+parts_at each (name k p go) bytes = do
   (x, rest) ← name_at k p bytes
-  parts_at term_at (go x) rest
-parts_at term_at (binder p go) bytes = do
+  parts_at each (go x) rest
+parts_at each (binder p go) bytes = do
   (x, rest) ← binder_at p bytes
-  parts_at term_at (go x) rest
-parts_at term_at (term p go) bytes = do
-  (t, rest) ← term_at p bytes
-  parts_at term_at (go t) rest
-parts_at term_at (terms p go) bytes = do
-  (ts, rest) ← terms_at term_at p bytes
-  parts_at term_at (go ts) rest
+  parts_at each (go x) rest
+parts_at each (group h p go) bytes = do
+  (x, rest) ← each h p bytes
+  parts_at each (go x) rest
+parts_at each (groups h p go) bytes = do
+  (xs, rest) ← groups_at each h p bytes
+  parts_at each (go xs) rest
 
 -- where no more `(` may be open, it is one too many, and each other token is not wanted
 abbrev pub too_deep : Token → TextKind
 too_deep Open = kind.Depth
 too_deep _ = kind.Unwanted
 
--- a term, where so many more `(` may be open
-unfoldable pub term_at : ℕ → Place → List ℕ → Read Term
-term_at zero p bytes = refused (too_deep (next bytes).token) (next bytes)
-term_at (suc room) p bytes = do
+-- a group, where so many more `(` may be open
+unfoldable pub group_at : ℕ → GroupReading
+group_at zero g p bytes = refused (too_deep (next bytes).token) (next bytes)
+group_at (suc room) g p bytes = do
   (_, inside) ← opening_at bytes
-  (f, after) ← form_at inside
-  parts_at (term_at room) (shape f p) after
+  parts_at (group_at room) (content g p) inside
+
+abbrev pub term_at : ℕ → Place → List ℕ → Read Term
+term_at room p bytes = group_at room OfTerm p bytes
 
 -- ---- scripts
 
@@ -140,7 +161,7 @@ unfoldable pub script_at : List ℕ → Result Meaning Fault
 script_at text = do
   (_, inside) ← top_opening_at text
   (_, after) ← main_word_at inside
-  (t, rest) ← parts_at (term_at 99) main_shape after
+  (t, rest) ← parts_at (group_at 99) main_shape after
   last (record { queues = []; term = t }) (next rest) (next rest).token
 
 -- a fault keeps how many bytes stand from it to the end of the text

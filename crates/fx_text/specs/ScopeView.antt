@@ -1,5 +1,5 @@
 -- What the names in scope stand for.
-use Rattle.std.specs.Prelude.{List, map}
+use Rattle.std.specs.Prelude.{ℕ, List, map}
 use Rattle.fx_term.specs.Scope.{Kind, OfValue, OfPoll}
 use Rattle.fx_text.specs.declared.scope.NameKind.{NameKind}
 use Rattle.fx_text.specs.declared.scope.NameKind.TheVariants as code
@@ -13,6 +13,9 @@ view_kind code.Poll = OfPoll
 abbrev pub view_bound : CodeBound → Bound
 view_bound b = record { name = b.name.now; kind = view_kind b.kind }
 
--- the place where these names are in scope
-abbrev pub place : List CodeBound → Place
-place names = record { names = map view_bound names }
+abbrev pub view_names : List CodeBound → List Bound
+view_names = map view_bound
+
+-- the place where these names are in scope, and which loops run so many times
+abbrev pub place : List CodeBound → ℕ → Place
+place names turns = record { names = view_names names; turns = turns }

@@ -2,53 +2,95 @@
 use Rattle.std.specs.Prelude.{ℕ, Some, None, List, [], ◌∷◌, codes}
 use Rattle.fx_term.specs.declared.node.Arg.{Arg}
 use Rattle.fx_term.specs.declared.node.Arg.TheVariants as arg
-use Rattle.fx_term.specs.Term.{Term, Pure, Raise, Canceled, Let, Handle, Mask, Poll, OnCancel}
+use Rattle.fx_term.specs.Term.{Term, Pure, Raise, Canceled, Never, Cede, Let, Handle, If, For, Mask, Poll, OnCancel, Bracket}
 use Rattle.fx_term.specs.Scope.{Kind, OfValue, OfPoll}
 use Rattle.fx_text.specs.declared.form.Form.{Form}
 use Rattle.fx_text.specs.declared.form.Form.TheVariants as form
-use Rattle.fx_text.specs.Place.{Place, top, slot, under}
+use Rattle.fx_text.specs.Place.{Place, top, slot, under, repeated}
+use Rattle.fx_text.specs.Group.{Group, OfTerm, OfResource, OfResources, Resource, Content, under_all}
 
--- What is still to come of a form, in the order of the text. What is read of a part is handed to the parts after it
-pub data Shape : Type 0 where
-  ends : Term → Shape  -- `)`, and the form is this term
-  value : Place → (Arg → Shape) → Shape  -- a number, or the name of a value
-  name : Kind → Place → (ℕ → Shape) → Shape  -- the name of one of that kind
-  binder : Place → (List ℕ → Shape) → Shape  -- a name that is not in scope
-  term : Place → (Term → Shape) → Shape  -- a term
-  terms : Place → (List Term → Shape) → Shape  -- any number of terms, up to a `)`
+-- What is still to come of a group, in the order of the text. What is read of a part is handed to the parts after it
+pub data Shape (g : Group) : Type 0 where
+  ends : Content g → Shape g  -- `)`, and the group is this
+  word : (Form → Shape g) → Shape g  -- the word of a form
+  value : Place → (Arg → Shape g) → Shape g  -- a number, or the name of a value
+  count : Place → (ℕ → Shape g) → Shape g  -- a number, as the count of a loop
+  name : Kind → Place → (ℕ → Shape g) → Shape g  -- the name of one of that kind
+  binder : Place → (List ℕ → Shape g) → Shape g  -- a name that is not in scope
+  group : (h : Group) → Place → (Content h → Shape g) → Shape g  -- a group
+  groups : (h : Group) → Place → (List (Content h) → Shape g) → Shape g  -- any number of groups, up to a `)`, each in the scope of the names that those before bind for it
+
+-- a term
+abbrev pub term : {g : Group} → Place → (Term → Shape g) → Shape g
+term p go = group OfTerm p go
+
+-- any number of terms, up to a `)`
+abbrev pub terms : {g : Group} → Place → (List Term → Shape g) → Shape g
+terms p go = groups OfTerm p go
 
 -- all forms
 abbrev pub forms : List Form
-forms = form.Pure ∷ form.Raise ∷ form.Canceled ∷ form.Seq ∷ form.Let ∷ form.Handle ∷ form.Mask ∷ form.Poll ∷ form.OnCancel ∷ []
+forms = form.Pure ∷ form.Raise ∷ form.Canceled ∷ form.Never ∷ form.Cede ∷ form.Seq ∷ form.Let ∷ form.Handle ∷ form.If ∷ form.For ∷ form.Mask ∷ form.Poll ∷ form.OnCancel ∷ form.Bracket ∷ form.Guarantee ∷ form.Forcer ∷ form.Using ∷ []
 
 abbrev pub word_of : Form → List ℕ
 word_of form.Pure = codes "pure"
 word_of form.Raise = codes "raise"
 word_of form.Canceled = codes "canceled"
+word_of form.Never = codes "never"
+word_of form.Cede = codes "cede"
 word_of form.Seq = codes "seq"
 word_of form.Let = codes "let"
 word_of form.Handle = codes "handle"
+word_of form.If = codes "if"
+word_of form.For = codes "for"
 word_of form.Mask = codes "mask"
 word_of form.Poll = codes "poll"
 word_of form.OnCancel = codes "oncancel"
+word_of form.Bracket = codes "bracket"
+word_of form.Guarantee = codes "guarantee"
+word_of form.Forcer = codes "forcer"
+word_of form.Using = codes "using"
 
 -- one after another, for the last one's value
 abbrev pub seq : Term → List Term → Term
 seq a [] = a
 seq a (b ∷ bs) = Let None a (seq b bs)
 
+-- the value 0
+abbrev pub pure_zero : Term
+pure_zero = Pure (arg.Number 0)
+
+-- the term with these resources acquired before it, and released after it in the inverse order
+abbrev pub using : List Resource → Term → Term
+using [] t = t
+using (r ∷ rs) t = Bracket (Some r.slot) r.acquire (using rs t) r.release
+
 -- the table of forms
-abbrev pub shape : Form → Place → Shape
+abbrev pub shape : Form → Place → Shape OfTerm
 shape form.Pure p = value p λ v. ends (Pure v)
 shape form.Raise p = value p λ v. ends (Raise v)
 shape form.Canceled p = ends Canceled
+shape form.Never p = ends Never
+shape form.Cede p = ends Cede
 shape form.Seq p = term p λ a. terms p λ bs. ends (seq a bs)
 shape form.Let p = binder p λ x. term p λ a. term (under OfValue x p) λ b. ends (Let (Some (slot p)) a b)
 shape form.Handle p = term p λ a. binder p λ x. term (under OfValue x p) λ b. ends (Handle a (Some (slot p)) b)
+shape form.If p = value p λ v. term p λ a. term p λ b. ends (If v a b)
+shape form.For p = binder p λ x. count p λ n. term (repeated n (under OfValue x p)) λ a. ends (For (slot p) n a)
 shape form.Mask p = binder p λ x. term (under OfPoll x p) λ a. ends (Mask (slot p) a)
 shape form.Poll p = name OfPoll p λ x. term p λ a. ends (Poll (arg.Slot x) a)
 shape form.OnCancel p = term p λ a. term p λ f. ends (OnCancel a f)
+shape form.Bracket p = binder p λ x. term p λ a. term (under OfValue x p) λ u. term (under OfValue x p) λ r. ends (Bracket (Some (slot p)) a u r)
+shape form.Guarantee p = term p λ a. term p λ f. ends (Bracket None pure_zero a f)
+shape form.Forcer p = term p λ a. term p λ b. ends (Let None (Handle a None pure_zero) b)
+shape form.Using p = group OfResources p λ rs. term (under_all rs p) λ t. ends (using rs t)
+
+-- what stands in the parentheses of a group
+abbrev pub content : (g : Group) → Place → Shape g
+content OfTerm p = word λ f. shape f p
+content OfResource p = binder p λ x. term p λ a. term (under OfValue x p) λ r. ends (record { name = x; slot = slot p; acquire = a; release = r })
+content OfResources p = group OfResource p λ r. groups OfResource (under OfValue r.name p) λ rs. ends (r ∷ rs)
 
 -- main, which is its term
-abbrev pub main_shape : Shape
-main_shape = term top ends
+abbrev pub main_shape : Shape OfTerm
+main_shape = term top λ t. ends t

@@ -33,6 +33,9 @@ pub enum TextKind {
     /// A binder whose name is in scope.
     #[error("this name is in scope already")]
     Taken,
+    /// A count that takes the turns of its loop above 1,000,000.
+    #[error("a count that takes the turns of its loop above 1000000")]
+    Size,
     /// A `(` where 100 are open.
     #[error("100 parentheses are open already")]
     Depth,
@@ -58,6 +61,7 @@ impl TextKind {
             TextKind::Unwanted => 6,
             TextKind::Unknown => 7,
             TextKind::Taken => 8,
+            TextKind::Size => 9,
             TextKind::Depth => 11,
             TextKind::Main => 13,
             TextKind::Memory => 14,

@@ -6,28 +6,44 @@ pub(crate) enum Form {
     Pure,
     Raise,
     Canceled,
+    Never,
+    Cede,
     Seq,
     Let,
     Handle,
+    If,
+    For,
     Mask,
     Poll,
     OnCancel,
+    Bracket,
+    Guarantee,
+    Forcer,
+    Using,
 }
 
 impl Form {
     ghost use Rattle.std.specs.Prelude.{◌≡◌, bytes_eq, find};
     ghost use Rattle.fx_text.specs.Shape.{forms, word_of};
 
-    const ALL: [Form; 9] = [
+    const ALL: [Form; 17] = [
         Form::Pure,
         Form::Raise,
         Form::Canceled,
+        Form::Never,
+        Form::Cede,
         Form::Seq,
         Form::Let,
         Form::Handle,
+        Form::If,
+        Form::For,
         Form::Mask,
         Form::Poll,
         Form::OnCancel,
+        Form::Bracket,
+        Form::Guarantee,
+        Form::Forcer,
+        Form::Using,
     ];
 
     fn word(self) -> &'static [u8]
@@ -37,12 +53,20 @@ impl Form {
             Form::Pure => b"pure",
             Form::Raise => b"raise",
             Form::Canceled => b"canceled",
+            Form::Never => b"never",
+            Form::Cede => b"cede",
             Form::Seq => b"seq",
             Form::Let => b"let",
             Form::Handle => b"handle",
+            Form::If => b"if",
+            Form::For => b"for",
             Form::Mask => b"mask",
             Form::Poll => b"poll",
             Form::OnCancel => b"oncancel",
+            Form::Bracket => b"bracket",
+            Form::Guarantee => b"guarantee",
+            Form::Forcer => b"forcer",
+            Form::Using => b"using",
         }
     }
 

@@ -3,16 +3,20 @@
 //! A text is read once, from left to right, up to its first fault.
 //!
 //! 1. Each form has a row in one table: its parts in the order of the text, the place where each
-//!    stands, and the term that the form is.
+//!    stands, and the term that the form is. A resource of `using` and the list of these have a row
+//!    each too.
 //! 2. The grammar says by this table which tokens are a script, and of which meaning. It knows no
 //!    faults and no order of reading.
 //! 3. Reading goes through the same table token by token, and stops at the first token that its
 //!    place refuses. What it reads is exactly what the grammar has.
-//! 4. A node is made at the `)` of its form, so children stand before their parents, the last node
+//! 4. A place has the names in scope there, and how often the loops round it run it. A count is
+//!    refused where it takes these turns above 1,000,000.
+//! 5. A node is made after those of its parts, so children stand before their parents, the last node
 //!    is the root, and there are never more nodes than bytes.
-//! 5. A recursion is as deep as the parentheses that are open, of which there are at most 100. The
-//!    parts of a `seq` are read in a loop, and made one term in another, from the last to the first.
-//! 6. Want of memory is answered only where a growth was refused.
+//! 6. A recursion is as deep as the parentheses that are open, of which there are at most 100. The
+//!    parts of a `seq` and the resources of a `using` are read in a loop, and made one term in
+//!    another, from the last to the first.
+//! 7. Want of memory is answered only where a growth was refused.
 #![tactic(auto)]
 
 mod fault;

@@ -1,6 +1,7 @@
 //! The parts of a form that are one token.
-ghost use Rattle.std.specs.Prelude.{◌≡◌, ◌<◌, ◌^◌, length, IfOk};
-ghost use Rattle.fx_text.specs.Reading.{kind_of, opening_at, closing_at, value_at, name_at, binder_at, form_at, main_word_at, too_deep};
+ghost use Rattle.std.specs.Prelude.{ℕ, ◌≡◌, ◌<◌, ◌≤◌, ◌^◌, List, length, nat_le, IfOk};
+ghost use Rattle.fx_term.specs.Turns.{most_turns, turns_of_loop};
+ghost use Rattle.fx_text.specs.Reading.{kind_of, opening_at, closing_at, value_at, count_at, name_at, binder_at, form_at, main_word_at, too_deep};
 ghost use Rattle.fx_text.specs.Part.{is_closing};
 ghost use Rattle.fx_text.specs.Token.{next};
 ghost use Rattle.fx_text.specs.TokenView.{view_token};
@@ -71,7 +72,7 @@ pub(crate) fn is_closing(bytes: &[u8]) -> bool
 #[tactic(auto, unfolding(crate::specs::Reading::value_at))]
 pub(crate) fn value<'a>(names: &[Bound<'a>], bytes: &'a [u8]) -> Result<(Arg, &'a [u8]), ReadError>
     requires { length names.now < 2 ^ 32 }
-    ensures read { Gives (λ x. (x.0, x.1.now)) result (value_at (place names.now) bytes.now) }
+    ensures read { (turns : ℕ) → Gives (λ x. (x.0, x.1.now)) result (value_at (place names.now turns) bytes.now) }
     ensures shorter { IfOk result (λ x. length x.1.now < length bytes.now) }
 {
     let lexeme = next(bytes);
@@ -85,6 +86,37 @@ pub(crate) fn value<'a>(names: &[Bound<'a>], bytes: &'a [u8]) -> Result<(Arg, &'
     }
 }
 
+/// Whether a loop of that count takes its turns to no more than 1,000,000, where the loop itself is
+/// run so many times. A count of 0 is taken as 1.
+fn has_few_turns(turns: u32, count: u64) -> bool
+    ensures { result ≡ nat_le (turns_of_loop turns count) most_turns }
+{
+    match u64::from(turns).checked_mul(count.max(1)) {
+        None => false,
+        Some(inside) => inside <= 1_000_000,
+    }
+}
+
+/// The count of a loop that is run so many times.
+#[tactic(auto, unfolding(crate::specs::Reading::count_at))]
+pub(crate) fn count(turns: u32, bytes: &[u8]) -> Result<(u32, &[u8]), ReadError>
+    requires { 0 < turns }
+    ensures read { (names : List Bound) → Gives (λ x. (x.0, x.1.now)) result (count_at (place names turns) bytes.now) }
+    ensures few { IfOk result (λ x. turns_of_loop turns x.0 ≤ most_turns) }
+    ensures shorter { IfOk result (λ x. length x.1.now < length bytes.now) }
+{
+    let lexeme = next(bytes);
+    match lexeme.token {
+        Token::Number(count) => {
+            if !has_few_turns(turns, count) {
+                return Err(refused(TextKind::Size, lexeme));
+            }
+            Ok((count as u32, lexeme.rest))
+        }
+        _ => Err(refused(TextKind::Unwanted, lexeme)),
+    }
+}
+
 /// The name of one of that kind, by its slot.
 #[tactic(auto, unfolding(crate::specs::Reading::name_at))]
 pub(crate) fn name<'a>(
@@ -93,7 +125,7 @@ pub(crate) fn name<'a>(
     bytes: &'a [u8],
 ) -> Result<(u32, &'a [u8]), ReadError>
     requires { length names.now < 2 ^ 32 }
-    ensures read { Gives (λ x. (x.0, x.1.now)) result (name_at (view_kind kind) (place names.now) bytes.now) }
+    ensures read { (turns : ℕ) → Gives (λ x. (x.0, x.1.now)) result (name_at (view_kind kind) (place names.now turns) bytes.now) }
     ensures shorter { IfOk result (λ x. length x.1.now < length bytes.now) }
 {
     let lexeme = next(bytes);
@@ -112,7 +144,7 @@ pub(crate) fn binder<'a>(
     names: &[Bound<'a>],
     bytes: &'a [u8],
 ) -> Result<(&'a [u8], &'a [u8]), ReadError>
-    ensures read { Gives (λ x. (x.0.now, x.1.now)) result (binder_at (place names.now) bytes.now) }
+    ensures read { (turns : ℕ) → Gives (λ x. (x.0.now, x.1.now)) result (binder_at (place names.now turns) bytes.now) }
     ensures shorter { IfOk result (λ x. length x.1.now < length bytes.now) }
 {
     let lexeme = next(bytes);
@@ -161,7 +193,7 @@ pub(crate) fn main_word(bytes: &[u8]) -> Result<&[u8], ReadError>
     }
 }
 
-/// The fault where a term has to begin and no more `(` may be open.
+/// The fault where a group has to begin and no more `(` may be open.
 pub(crate) fn too_deep(bytes: &[u8]) -> ReadError
     ensures { ReadError.Fault (record { kind = kind_of (too_deep (next bytes.now).token) (next bytes.now).token; left = (next bytes.now).from }) ≡ result }
 {

@@ -1,28 +1,34 @@
 //! Reads terms.
-ghost use Rattle.std.specs.Prelude.{◌≡◌, ◌<◌, ◌+◌, [], ◌∷◌, List, ℕ, length, map, IfOk};
+ghost use Rattle.std.specs.Prelude.{◌≡◌, ◌<◌, ◌+◌, [], ◌∷◌, length, map, IfOk};
 ghost use Rattle.fx_term.specs.Meaning.{term_of};
-ghost use Rattle.fx_term.specs.Term.{Term};
 ghost use Rattle.fx_term.specs.Tree.{children, ChildrenComeFirst};
-ghost use Rattle.fx_text.specs.Place.{Place, under};
+ghost use Rattle.fx_text.specs.Place.{under};
+ghost use Rattle.fx_text.specs.Group.{OfTerm};
 ghost use Rattle.fx_text.specs.Shape.{shape};
-ghost use Rattle.fx_text.specs.Reading.{Read, term_at, terms_at, parts_at};
+ghost use Rattle.fx_text.specs.Reading.{term_at, groups_at, group_at, parts_at};
 ghost use Rattle.fx_text.specs.Given.{Gives};
-ghost use Rattle.fx_text.specs.ScopeView.{view_kind, place};
+ghost use Rattle.fx_text.specs.ScopeView.{view_kind};
 ghost use Rattle.fx_text.specs.Trees.{AllBelow, GrowsBy};
-ghost use Rattle.fx_text.specs.ReaderState.{ids, IsReady, Went, WentThrough, Adds};
+ghost use Rattle.fx_text.specs.ReaderState.{place_of, ids, IsReady, Went, WentThrough, Adds};
+
+mod leaves;
+mod loops;
+mod resources;
 
 use crate::fault::ReadError;
 use crate::form::Form;
 use crate::part::{binder, closing, form, is_closing, name, opening, too_deep, value};
 use crate::scope::{Bound, NameKind};
-use fx_term::{Node, NodeId};
+use fx_term::{Arg, Node, NodeId};
 use std::alloc::{AllocError, Global};
 
-/// The names in scope and the nodes so far, and where memory comes from.
+/// The names in scope, how often the loops round this place run it, the nodes so far, and where
+/// memory comes from.
 #[derive(Drop)]
 pub(crate) struct Reader<'a> {
     pub(crate) alloc: Global,
     pub(crate) names: Vec<Bound<'a>>,
+    pub(crate) turns: u32,
     pub(crate) nodes: Vec<Node>,
 }
 
@@ -40,14 +46,14 @@ impl<'a> Reader<'a> {
 
     /// A term, where so many more `(` may be open.
     #[cycle(terms)]
-    #[tactic(auto, using(crate::proofs::TermLaws::term_is))]
+    #[tactic(auto, using(crate::proofs::GroupLaws::term_is))]
     pub(crate) fn term(
         &mut self,
         room: usize,
         bytes: &'a [u8],
     ) -> Result<(NodeId, &'a [u8]), ReadError>
         requires { IsReady self.old bytes.now }
-        ensures read { Gives (λ x. (term_of self.new.nodes.items x.0.0, x.1.now)) result (term_at room (place self.old.names.items) bytes.now) }
+        ensures read { Gives (λ x. (term_of self.new.nodes.items x.0.0, x.1.now)) result (term_at room (place_of self.old) bytes.now) }
         ensures went { IfOk result (λ x. Went 2 self.old self.new x.0.0 bytes.now x.1.now) }
         ensures grows { IfOk result (λ x. GrowsBy self.old.nodes.items self.new.nodes.items (x.0.0 ∷ [])) }
     {
@@ -70,7 +76,7 @@ impl<'a> Reader<'a> {
     ) -> Result<(NodeId, &'a [u8]), ReadError>
         requires ready { IsReady self.old bytes.now }
         requires small { length self.old.names.items + length bytes.now < 65536 }
-        ensures read { Gives (λ x. (term_of self.new.nodes.items x.0.0, x.1.now)) result (term_at room (under (view_kind kind) name.now (place self.old.names.items)) bytes.now) }
+        ensures read { Gives (λ x. (term_of self.new.nodes.items x.0.0, x.1.now)) result (term_at room (under (view_kind kind) name.now (place_of self.old)) bytes.now) }
         ensures went { IfOk result (λ x. Went 2 self.old self.new x.0.0 bytes.now x.1.now) }
         ensures grows { IfOk result (λ x. GrowsBy self.old.nodes.items self.new.nodes.items (x.0.0 ∷ [])) }
     {
@@ -84,7 +90,7 @@ impl<'a> Reader<'a> {
     #[cycle(terms)]
     fn terms(&mut self, room: usize, bytes: &'a [u8]) -> Result<(Vec<NodeId>, &'a [u8]), ReadError>
         requires { IsReady self.old bytes.now }
-        ensures read { Gives (λ x. (map (λ root. term_of self.new.nodes.items root.0) x.0.items, x.1.now)) result (terms_at (term_at room) (place self.old.names.items) bytes.now) }
+        ensures read { Gives (λ x. (map (λ root. term_of self.new.nodes.items root.0) x.0.items, x.1.now)) result (groups_at (group_at room) OfTerm (place_of self.old) bytes.now) }
         ensures went { IfOk result (λ x. WentThrough self.old self.new x.0.items bytes.now x.1.now) }
         ensures grows { IfOk result (λ x. GrowsBy self.old.nodes.items self.new.nodes.items (ids x.0.items)) }
     {
@@ -108,7 +114,7 @@ impl<'a> Reader<'a> {
     ) -> Result<(NodeId, &'a [u8]), ReadError>
         requires ready { IsReady self.old bytes.now }
         requires small { length self.old.nodes.items + length bytes.now < 65536 }
-        ensures read { Gives (λ x. (term_of self.new.nodes.items x.0.0, x.1.now)) result (parts_at (term_at room) (shape form (place self.old.names.items)) bytes.now) }
+        ensures read { Gives (λ x. (term_of self.new.nodes.items x.0.0, x.1.now)) result (parts_at (group_at room) (shape form (place_of self.old)) bytes.now) }
         ensures went { IfOk result (λ x. Went 0 self.old self.new x.0.0 bytes.now x.1.now) }
         ensures grows { IfOk result (λ x. GrowsBy self.old.nodes.items self.new.nodes.items (x.0.0 ∷ [])) }
     {
@@ -116,55 +122,28 @@ impl<'a> Reader<'a> {
             Form::Pure => self.pure_form(bytes),
             Form::Raise => self.raise_form(bytes),
             Form::Canceled => self.canceled_form(bytes),
+            Form::Never => self.never_form(bytes),
+            Form::Cede => self.cede_form(bytes),
             Form::Seq => self.seq_form(room, bytes),
             Form::Let => self.let_form(room, bytes),
             Form::Handle => self.handle_form(room, bytes),
+            Form::If => self.if_form(room, bytes),
+            Form::For => self.for_form(room, bytes),
             Form::Mask => self.mask_form(room, bytes),
             Form::Poll => self.poll_form(room, bytes),
             Form::OnCancel => self.on_cancel_form(room, bytes),
+            Form::Bracket => self.bracket_form(room, bytes),
+            Form::Guarantee => self.guarantee_form(room, bytes),
+            Form::Forcer => self.forcer_form(room, bytes),
+            Form::Using => self.using_form(room, bytes),
         }
-    }
-
-    fn pure_form(&mut self, bytes: &'a [u8]) -> Result<(NodeId, &'a [u8]), ReadError>
-        requires ready { IsReady self.old bytes.now }
-        requires small { length self.old.nodes.items + length bytes.now < 65536 }
-        ensures read { (each : Place → List ℕ → Read Term) → Gives (λ x. (term_of self.new.nodes.items x.0.0, x.1.now)) result (parts_at each (shape Form.Pure (place self.old.names.items)) bytes.now) }
-        ensures went { IfOk result (λ x. Went 0 self.old self.new x.0.0 bytes.now x.1.now) }
-        ensures grows { IfOk result (λ x. GrowsBy self.old.nodes.items self.new.nodes.items (x.0.0 ∷ [])) }
-    {
-        let (v, rest) = value(&self.names, bytes)?;
-        let rest = closing(rest)?;
-        Ok((self.add(Node::Pure(v))?, rest))
-    }
-
-    fn raise_form(&mut self, bytes: &'a [u8]) -> Result<(NodeId, &'a [u8]), ReadError>
-        requires ready { IsReady self.old bytes.now }
-        requires small { length self.old.nodes.items + length bytes.now < 65536 }
-        ensures read { (each : Place → List ℕ → Read Term) → Gives (λ x. (term_of self.new.nodes.items x.0.0, x.1.now)) result (parts_at each (shape Form.Raise (place self.old.names.items)) bytes.now) }
-        ensures went { IfOk result (λ x. Went 0 self.old self.new x.0.0 bytes.now x.1.now) }
-        ensures grows { IfOk result (λ x. GrowsBy self.old.nodes.items self.new.nodes.items (x.0.0 ∷ [])) }
-    {
-        let (v, rest) = value(&self.names, bytes)?;
-        let rest = closing(rest)?;
-        Ok((self.add(Node::Raise(v))?, rest))
-    }
-
-    fn canceled_form(&mut self, bytes: &'a [u8]) -> Result<(NodeId, &'a [u8]), ReadError>
-        requires ready { IsReady self.old bytes.now }
-        requires small { length self.old.nodes.items + length bytes.now < 65536 }
-        ensures read { (each : Place → List ℕ → Read Term) → Gives (λ x. (term_of self.new.nodes.items x.0.0, x.1.now)) result (parts_at each (shape Form.Canceled (place self.old.names.items)) bytes.now) }
-        ensures went { IfOk result (λ x. Went 0 self.old self.new x.0.0 bytes.now x.1.now) }
-        ensures grows { IfOk result (λ x. GrowsBy self.old.nodes.items self.new.nodes.items (x.0.0 ∷ [])) }
-    {
-        let rest = closing(bytes)?;
-        Ok((self.add(Node::Canceled)?, rest))
     }
 
     #[cycle(terms)]
     fn seq_form(&mut self, room: usize, bytes: &'a [u8]) -> Result<(NodeId, &'a [u8]), ReadError>
         requires ready { IsReady self.old bytes.now }
         requires small { length self.old.nodes.items + length bytes.now < 65536 }
-        ensures read { Gives (λ x. (term_of self.new.nodes.items x.0.0, x.1.now)) result (parts_at (term_at room) (shape Form.Seq (place self.old.names.items)) bytes.now) }
+        ensures read { Gives (λ x. (term_of self.new.nodes.items x.0.0, x.1.now)) result (parts_at (group_at room) (shape Form.Seq (place_of self.old)) bytes.now) }
         ensures went { IfOk result (λ x. Went 0 self.old self.new x.0.0 bytes.now x.1.now) }
         ensures grows { IfOk result (λ x. GrowsBy self.old.nodes.items self.new.nodes.items (x.0.0 ∷ [])) }
     {
@@ -178,7 +157,7 @@ impl<'a> Reader<'a> {
     fn let_form(&mut self, room: usize, bytes: &'a [u8]) -> Result<(NodeId, &'a [u8]), ReadError>
         requires ready { IsReady self.old bytes.now }
         requires small { length self.old.nodes.items + length bytes.now < 65536 }
-        ensures read { Gives (λ x. (term_of self.new.nodes.items x.0.0, x.1.now)) result (parts_at (term_at room) (shape Form.Let (place self.old.names.items)) bytes.now) }
+        ensures read { Gives (λ x. (term_of self.new.nodes.items x.0.0, x.1.now)) result (parts_at (group_at room) (shape Form.Let (place_of self.old)) bytes.now) }
         ensures went { IfOk result (λ x. Went 0 self.old self.new x.0.0 bytes.now x.1.now) }
         ensures grows { IfOk result (λ x. GrowsBy self.old.nodes.items self.new.nodes.items (x.0.0 ∷ [])) }
     {
@@ -194,7 +173,7 @@ impl<'a> Reader<'a> {
     fn handle_form(&mut self, room: usize, bytes: &'a [u8]) -> Result<(NodeId, &'a [u8]), ReadError>
         requires ready { IsReady self.old bytes.now }
         requires small { length self.old.nodes.items + length bytes.now < 65536 }
-        ensures read { Gives (λ x. (term_of self.new.nodes.items x.0.0, x.1.now)) result (parts_at (term_at room) (shape Form.Handle (place self.old.names.items)) bytes.now) }
+        ensures read { Gives (λ x. (term_of self.new.nodes.items x.0.0, x.1.now)) result (parts_at (group_at room) (shape Form.Handle (place_of self.old)) bytes.now) }
         ensures went { IfOk result (λ x. Went 0 self.old self.new x.0.0 bytes.now x.1.now) }
         ensures grows { IfOk result (λ x. GrowsBy self.old.nodes.items self.new.nodes.items (x.0.0 ∷ [])) }
     {
@@ -207,10 +186,41 @@ impl<'a> Reader<'a> {
     }
 
     #[cycle(terms)]
+    fn if_form(&mut self, room: usize, bytes: &'a [u8]) -> Result<(NodeId, &'a [u8]), ReadError>
+        requires ready { IsReady self.old bytes.now }
+        requires small { length self.old.nodes.items + length bytes.now < 65536 }
+        ensures read { Gives (λ x. (term_of self.new.nodes.items x.0.0, x.1.now)) result (parts_at (group_at room) (shape Form.If (place_of self.old)) bytes.now) }
+        ensures went { IfOk result (λ x. Went 0 self.old self.new x.0.0 bytes.now x.1.now) }
+        ensures grows { IfOk result (λ x. GrowsBy self.old.nodes.items self.new.nodes.items (x.0.0 ∷ [])) }
+    {
+        let (v, rest) = value(&self.names, bytes)?;
+        let (then, rest) = self.term(room, rest)?;
+        let (other, rest) = self.term(room, rest)?;
+        let rest = closing(rest)?;
+        Ok((self.add(Node::If(v, then, other))?, rest))
+    }
+
+    #[cycle(terms)]
+    fn forcer_form(&mut self, room: usize, bytes: &'a [u8]) -> Result<(NodeId, &'a [u8]), ReadError>
+        requires ready { IsReady self.old bytes.now }
+        requires small { length self.old.nodes.items + length bytes.now < 65536 }
+        ensures read { Gives (λ x. (term_of self.new.nodes.items x.0.0, x.1.now)) result (parts_at (group_at room) (shape Form.Forcer (place_of self.old)) bytes.now) }
+        ensures went { IfOk result (λ x. Went 0 self.old self.new x.0.0 bytes.now x.1.now) }
+        ensures grows { IfOk result (λ x. GrowsBy self.old.nodes.items self.new.nodes.items (x.0.0 ∷ [])) }
+    {
+        let (forced, rest) = self.term(room, bytes)?;
+        let zero = self.add(Node::Pure(Arg::Number(0)))?;
+        let handled = self.add(Node::Handle(forced, None, zero))?;
+        let (then, rest) = self.term(room, rest)?;
+        let rest = closing(rest)?;
+        Ok((self.add(Node::Let(None, handled, then))?, rest))
+    }
+
+    #[cycle(terms)]
     fn mask_form(&mut self, room: usize, bytes: &'a [u8]) -> Result<(NodeId, &'a [u8]), ReadError>
         requires ready { IsReady self.old bytes.now }
         requires small { length self.old.nodes.items + length bytes.now < 65536 }
-        ensures read { Gives (λ x. (term_of self.new.nodes.items x.0.0, x.1.now)) result (parts_at (term_at room) (shape Form.Mask (place self.old.names.items)) bytes.now) }
+        ensures read { Gives (λ x. (term_of self.new.nodes.items x.0.0, x.1.now)) result (parts_at (group_at room) (shape Form.Mask (place_of self.old)) bytes.now) }
         ensures went { IfOk result (λ x. Went 0 self.old self.new x.0.0 bytes.now x.1.now) }
         ensures grows { IfOk result (λ x. GrowsBy self.old.nodes.items self.new.nodes.items (x.0.0 ∷ [])) }
     {
@@ -225,7 +235,7 @@ impl<'a> Reader<'a> {
     fn poll_form(&mut self, room: usize, bytes: &'a [u8]) -> Result<(NodeId, &'a [u8]), ReadError>
         requires ready { IsReady self.old bytes.now }
         requires small { length self.old.nodes.items + length bytes.now < 65536 }
-        ensures read { Gives (λ x. (term_of self.new.nodes.items x.0.0, x.1.now)) result (parts_at (term_at room) (shape Form.Poll (place self.old.names.items)) bytes.now) }
+        ensures read { Gives (λ x. (term_of self.new.nodes.items x.0.0, x.1.now)) result (parts_at (group_at room) (shape Form.Poll (place_of self.old)) bytes.now) }
         ensures went { IfOk result (λ x. Went 0 self.old self.new x.0.0 bytes.now x.1.now) }
         ensures grows { IfOk result (λ x. GrowsBy self.old.nodes.items self.new.nodes.items (x.0.0 ∷ [])) }
     {
@@ -243,7 +253,7 @@ impl<'a> Reader<'a> {
     ) -> Result<(NodeId, &'a [u8]), ReadError>
         requires ready { IsReady self.old bytes.now }
         requires small { length self.old.nodes.items + length bytes.now < 65536 }
-        ensures read { Gives (λ x. (term_of self.new.nodes.items x.0.0, x.1.now)) result (parts_at (term_at room) (shape Form.OnCancel (place self.old.names.items)) bytes.now) }
+        ensures read { Gives (λ x. (term_of self.new.nodes.items x.0.0, x.1.now)) result (parts_at (group_at room) (shape Form.OnCancel (place_of self.old)) bytes.now) }
         ensures went { IfOk result (λ x. Went 0 self.old self.new x.0.0 bytes.now x.1.now) }
         ensures grows { IfOk result (λ x. GrowsBy self.old.nodes.items self.new.nodes.items (x.0.0 ∷ [])) }
     {

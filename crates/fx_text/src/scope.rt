@@ -2,7 +2,7 @@
 ghost use Rattle.std.specs.Prelude.{◌≡◌, ◌<◌, ◌&&◌, length, IfSome, bytes_eq};
 ghost use Rattle.std.specs.List.{list_any, position};
 ghost use Rattle.fx_text.specs.Place.{is_taken, same_kind, slot_of};
-ghost use Rattle.fx_text.specs.ScopeView.{view_kind, place};
+ghost use Rattle.fx_text.specs.ScopeView.{view_kind, view_names};
 
 /// What a name stands for.
 #[derive(Clone, Copy)]
@@ -45,7 +45,7 @@ fn index_of(names: &[Bound<'_>], kind: NameKind, name: &[u8]) -> Option<usize>
 /// Whether the name is in scope.
 #[tactic(auto, using(crate::proofs::ScopeLaws::is_taken_among))]
 pub(crate) fn is_bound(names: &[Bound<'_>], name: &[u8]) -> bool
-    ensures { result ≡ is_taken name.now (place names.now) }
+    ensures { result ≡ is_taken name.now (view_names names.now) }
 {
     is_among(names, name)
 }
@@ -53,7 +53,7 @@ pub(crate) fn is_bound(names: &[Bound<'_>], name: &[u8]) -> bool
 /// The slot of the name, where it is of that kind.
 #[tactic(auto, using(crate::proofs::ScopeLaws::slot_of_index))]
 pub(crate) fn slot_of(names: &[Bound<'_>], kind: NameKind, name: &[u8]) -> Option<usize>
-    ensures slot { result ≡ slot_of (view_kind kind) name.now (place names.now) }
+    ensures slot { result ≡ slot_of (view_kind kind) name.now (view_names names.now) }
     ensures within { IfSome result (λ i. i < length names.now) }
 {
     index_of(names, kind, name)

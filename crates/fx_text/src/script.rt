@@ -30,8 +30,8 @@ pub struct Script {
     pub queues: Vec<QueueDecl>,
 }
 
-/// The script that the text says, or the text's first fault. It takes time and memory in proportion
-/// to the length of the text.
+/// The script that the text says, or the text's first fault. It takes memory in proportion to the
+/// length of the text, and time in proportion to that times the number of names in scope.
 pub fn parse(alloc: Global, text: &[u8]) -> Result<Script, TextFault>
     // What is read is in the grammar.
     ensures found { IfOk result (λ s. IsScript text.now (meaning s)) }
@@ -90,6 +90,7 @@ fn main_nodes(alloc: Global, text: &[u8]) -> Result<Vec<Node>, ReadError>
     let mut reader = Reader {
         alloc,
         names: Vec::new(alloc),
+        turns: 1,
         nodes: Vec::new(alloc),
     };
     // Of 100 parentheses that may be open, main has one.
@@ -136,6 +137,7 @@ fn checked(alloc: Global, nodes: Vec<Node>) -> Result<Code, ReadError>
     match Code::build(alloc, nodes, 0) {
         Ok(code) => Ok(code),
         Err(CodeFault::Memory) => Err(ReadError::Memory),
-        Err(CodeFault::Child(_) | CodeFault::Slot(_) | CodeFault::Kind(_)) => unreachable!(),
+        Err(CodeFault::Child(_) | CodeFault::Slot(_) | CodeFault::Kind(_) | CodeFault::Limit(_)) =>
+            unreachable!(),
     }
 }

@@ -130,6 +130,234 @@ fn finalizer_changes_no_outcome(rt: HostRuntime) -> Result<(), Fail> {
     Ok(())
 }
 
+#[test]
+fn waiting_fiber_is_blocked(rt: HostRuntime) -> Result<(), Fail> {
+    for (script, line) in [
+        ("(main (never))", "fiber 0 blocked\n"),
+        ("(main (mask p (never)))", "fiber 0 blocked\n"),
+        ("(main (seq (pure 1) (never)))", "fiber 0 blocked\n"),
+        (
+            "(main (mask p (seq (canceled) (never))))",
+            "fiber 0 blocked\n",
+        ),
+        ("(main (oncancel (canceled) (never)))", "fiber 0 blocked\n"),
+        ("(main (oncancel (never) (pure 1)))", "fiber 0 blocked\n"),
+        (
+            "(main (bracket x (never) (pure 1) (pure 2)))",
+            "fiber 0 blocked\n",
+        ),
+        (
+            "(main (bracket x (pure 1) (never) (pure 2)))",
+            "fiber 0 blocked\n",
+        ),
+        (
+            "(main (bracket x (pure 1) (pure 2) (never)))",
+            "fiber 0 blocked\n",
+        ),
+        (
+            "(main (bracket x (pure 1) (canceled) (never)))",
+            "fiber 0 blocked\n",
+        ),
+        (
+            "(main (for i 3 (if i (never) (cede))))",
+            "fiber 0 blocked\n",
+        ),
+    ] {
+        let (status, printed) = replayed(rt.alloc(), script.as_bytes())?;
+        assert_eq!(rt; printed.as_slice(), line.as_bytes(), "{script}");
+        assert_eq!(rt; status, BLOCKED, "{script}");
+    }
+    Ok(())
+}
+
+#[test]
+fn never_is_left_where_the_fiber_is_canceled(rt: HostRuntime) -> Result<(), Fail> {
+    for (script, line) in [
+        ("(main (seq (canceled) (never)))", "fiber 0 canceled\n"),
+        (
+            "(main (seq (mask p (canceled)) (never)))",
+            "fiber 0 canceled\n",
+        ),
+        (
+            "(main (mask p (seq (canceled) (poll p (never)))))",
+            "fiber 0 canceled\n",
+        ),
+        ("(main (seq (raise 1) (never)))", "fiber 0 errored 1\n"),
+    ] {
+        let (status, printed) = replayed(rt.alloc(), script.as_bytes())?;
+        assert_eq!(rt; printed.as_slice(), line.as_bytes(), "{script}");
+        assert_eq!(rt; status, ENDED, "{script}");
+    }
+    Ok(())
+}
+
+#[test]
+fn if_takes_its_first_part_where_the_value_is_not_0(rt: HostRuntime) -> Result<(), Fail> {
+    for (script, line) in [
+        ("(main (if 0 (pure 1) (pure 2)))", "fiber 0 succeeded 2\n"),
+        ("(main (if 7 (pure 1) (pure 2)))", "fiber 0 succeeded 1\n"),
+        (
+            "(main (if 18446744073709551615 (pure 1) (never)))",
+            "fiber 0 succeeded 1\n",
+        ),
+        ("(main (if 0 (never) (raise 2)))", "fiber 0 errored 2\n"),
+        (
+            "(main (let x (pure 0) (if x (pure 1) (pure 2))))",
+            "fiber 0 succeeded 2\n",
+        ),
+    ] {
+        let (status, printed) = replayed(rt.alloc(), script.as_bytes())?;
+        assert_eq!(rt; printed.as_slice(), line.as_bytes(), "{script}");
+        assert_eq!(rt; status, ENDED, "{script}");
+    }
+    Ok(())
+}
+
+#[test]
+fn loop_counts_from_0_and_gives_0(rt: HostRuntime) -> Result<(), Fail> {
+    for (script, line) in [
+        ("(main (cede))", "fiber 0 succeeded 0\n"),
+        ("(main (for i 3 (pure i)))", "fiber 0 succeeded 0\n"),
+        ("(main (for i 3 (raise i)))", "fiber 0 errored 0\n"),
+        (
+            "(main (for i 3 (if i (raise i) (cede))))",
+            "fiber 0 errored 1\n",
+        ),
+        ("(main (for i 0 (raise 1)))", "fiber 0 succeeded 0\n"),
+        ("(main (for i 3 (canceled)))", "fiber 0 canceled\n"),
+        (
+            "(main (for i 3 (mask p (poll p (pure i)))))",
+            "fiber 0 succeeded 0\n",
+        ),
+        (
+            "(main (for i 2 (for j 3 (if i (if j (raise j) (cede)) (cede)))))",
+            "fiber 0 errored 1\n",
+        ),
+        (
+            "(main (for i 0 (for j 1000000 (cede))))",
+            "fiber 0 succeeded 0\n",
+        ),
+    ] {
+        let (status, printed) = replayed(rt.alloc(), script.as_bytes())?;
+        assert_eq!(rt; printed.as_slice(), line.as_bytes(), "{script}");
+        assert_eq!(rt; status, ENDED, "{script}");
+    }
+    Ok(())
+}
+
+#[test]
+fn bracket_releases_what_it_acquired(rt: HostRuntime) -> Result<(), Fail> {
+    for (script, line) in [
+        (
+            "(main (bracket x (pure 7) (pure x) (pure 1)))",
+            "fiber 0 succeeded 7\n",
+        ),
+        (
+            "(main (bracket x (pure 7) (raise 3) (pure x)))",
+            "fiber 0 errored 3\n",
+        ),
+        (
+            "(main (bracket x (pure 7) (pure 1) (raise 4)))",
+            "fiber 0 errored 4\n",
+        ),
+        (
+            "(main (bracket x (pure 7) (pure 1) (raise x)))",
+            "fiber 0 errored 7\n",
+        ),
+        (
+            "(main (bracket x (pure 7) (raise 3) (raise 4)))",
+            "fiber 0 errored 3\n",
+        ),
+        (
+            "(main (bracket x (raise 7) (pure 1) (raise 4)))",
+            "fiber 0 errored 7\n",
+        ),
+        (
+            "(main (bracket x (canceled) (pure 1) (pure 2)))",
+            "fiber 0 canceled\n",
+        ),
+        (
+            "(main (bracket x (pure 7) (canceled) (raise 4)))",
+            "fiber 0 canceled\n",
+        ),
+        (
+            "(main (bracket x (pure 7) (pure x) (canceled)))",
+            "fiber 0 canceled\n",
+        ),
+        (
+            "(main (handle (bracket x (pure 7) (pure 1) (raise 4)) e (pure e)))",
+            "fiber 0 succeeded 4\n",
+        ),
+    ] {
+        let (status, printed) = replayed(rt.alloc(), script.as_bytes())?;
+        assert_eq!(rt; printed.as_slice(), line.as_bytes(), "{script}");
+        assert_eq!(rt; status, ENDED, "{script}");
+    }
+    Ok(())
+}
+
+#[test]
+fn short_forms_go_out_as_what_they_are_short_for(rt: HostRuntime) -> Result<(), Fail> {
+    for (script, line) in [
+        (
+            "(main (forcer (raise 3) (pure 4)))",
+            "fiber 0 succeeded 4\n",
+        ),
+        ("(main (forcer (pure 3) (raise 4)))", "fiber 0 errored 4\n"),
+        ("(main (forcer (canceled) (pure 1)))", "fiber 0 canceled\n"),
+        (
+            "(main (guarantee (pure 5) (pure 6)))",
+            "fiber 0 succeeded 5\n",
+        ),
+        (
+            "(main (guarantee (pure 5) (raise 6)))",
+            "fiber 0 errored 6\n",
+        ),
+        (
+            "(main (guarantee (raise 5) (raise 6)))",
+            "fiber 0 errored 5\n",
+        ),
+        (
+            "(main (guarantee (canceled) (pure 1)))",
+            "fiber 0 canceled\n",
+        ),
+        (
+            "(main (using ((x (pure 1) (pure x)) (y (pure x) (pure 0))) (if y (pure 8) (pure 9))))",
+            "fiber 0 succeeded 8\n",
+        ),
+        (
+            "(main (using ((x (pure 1) (raise 2)) (y (pure x) (raise 3))) (pure 4)))",
+            "fiber 0 errored 3\n",
+        ),
+        (
+            "(main (using ((x (pure 1) (raise 2)) (y (raise x) (never))) (pure 4)))",
+            "fiber 0 errored 1\n",
+        ),
+    ] {
+        let (status, printed) = replayed(rt.alloc(), script.as_bytes())?;
+        assert_eq!(rt; printed.as_slice(), line.as_bytes(), "{script}");
+        assert_eq!(rt; status, ENDED, "{script}");
+    }
+    Ok(())
+}
+
+#[test]
+fn loop_of_a_million_turns_ends(rt: HostRuntime) -> Result<(), Fail> {
+    for script in [
+        "(main (for i 1000000 (cede)))",
+        "(main (for i 1000 (for j 1000 (cede))))",
+    ] {
+        let (status, printed) = replayed(rt.alloc(), script.as_bytes())?;
+        assert_eq!(rt;
+            printed.as_slice(),
+            b"fiber 0 succeeded 0\n".as_slice(),
+            "{script}"
+        );
+        assert_eq!(rt; status, ENDED, "{script}");
+    }
+    Ok(())
+}
+
 /// As much stack as a worker's thread has.
 const SMALL_STACK: usize = 2 * 1024 * 1024;
 
@@ -154,6 +382,35 @@ fn seq_of_as_many_parts_as_a_text_holds_on_a_small_stack(rt: HostRuntime) -> Res
     Ok(())
 }
 
+/// The text of a `using` of so many resources, each with a name of three letters.
+fn using_of(alloc: Global, resources: usize) -> Result<Vec<u8>, Fail> {
+    let letters = b"abcdefghijklmnopqrstuvwxyz";
+    let mut text = Vec::new(alloc);
+    text.extend_from_slice(b"(main (using (")?;
+    for n in 0..resources {
+        text.push(b'(')?;
+        text.push(letters[n / 676 % 26])?;
+        text.push(letters[n / 26 % 26])?;
+        text.push(letters[n % 26])?;
+        text.extend_from_slice(b"(pure 1)(cede))")?;
+    }
+    text.extend_from_slice(b") (pure abc)))")?;
+    Ok(text)
+}
+
+#[test]
+fn using_of_3000_resources_on_a_small_stack(rt: HostRuntime) -> Result<(), Fail> {
+    let alloc = rt.alloc();
+    let text = using_of(alloc, 3_000)?;
+    assert!(rt; text.len() <= 65_536);
+    let replay = Builder::new().stack_size(SMALL_STACK).spawn(
+        &rt,
+        move || prints(alloc, &text, b"fiber 0 succeeded 1\n"),
+    )?;
+    assert!(rt; replay.join(&rt));
+    Ok(())
+}
+
 #[test]
 fn text_that_is_no_script_is_refused(rt: HostRuntime) -> Result<(), Fail> {
     for (script, line) in [
@@ -170,6 +427,12 @@ fn text_that_is_no_script_is_refused(rt: HostRuntime) -> Result<(), Fail> {
         ("(main (pure 5))\0", "refused 2 at 15\n"),
         ("", "refused 13 at 0\n"),
         ("(main (pure 5)", "refused 4 at 14\n"),
+        (
+            "(main (for i 1000 (for j 1001 (cede))))",
+            "refused 9 at 25\n",
+        ),
+        ("(main (for i 1000001 (cede)))", "refused 9 at 13\n"),
+        ("(main (using () (pure 1)))", "refused 6 at 14\n"),
     ] {
         let (status, printed) = replayed(rt.alloc(), script.as_bytes())?;
         assert_eq!(rt; printed.as_slice(), line.as_bytes(), "{script}");

@@ -36,6 +36,28 @@ impl Standing {
         self.place = Place::Gave(Done::Err(e));
     }
 
+    /// `cede` becomes 0.
+    pub fn cede(&mut self, code: &Code, id: NodeId)
+        requires at { StandsAt code.now self.old id node.Cede }
+        requires free { is_due code.now self.old ≡ false }
+        ensures sound { IsSoundStanding code.now self.new }
+        ensures step { Steps code.now self.old Silent self.new }
+    {
+        self.place = Place::Gave(Done::Val(0));
+    }
+
+    /// An `if` goes on with its first part where the value is not 0 (the rule `if_not_zero`), and
+    /// else with its second (the rule `if_zero`).
+    pub fn chosen(&mut self, code: &Code, id: NodeId, value: Arg, part: NodeId, other: NodeId)
+        requires at { StandsAt code.now self.old id (node.If value part other) }
+        requires free { is_due code.now self.old ≡ false }
+        ensures sound { IsSoundStanding code.now self.new }
+        ensures step { Steps code.now self.old Silent self.new }
+    {
+        let n = self.registers.number_of(value);
+        self.place = Place::At(if n != 0 { part } else { other });
+    }
+
     /// `canceled` where the place is closed: the fiber is known to be canceled from now on.
     pub fn self_request(&mut self, code: &Code, id: NodeId)
         requires at { StandsAt code.now self.old id node.Canceled }

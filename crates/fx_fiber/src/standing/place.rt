@@ -9,6 +9,8 @@ pub enum Place {
     At(NodeId),
     /// The result of the term that stood there.
     Gave(Done),
+    /// The loop of the `for` of this node, before its turn of this number.
+    Turn(NodeId, u32),
     /// The fiber was canceled, and is between two clean-ups.
     Unwinding,
     /// The fiber has ended so.

@@ -1,25 +1,18 @@
 //! Cancellation, and the rules of unwinding.
-ghost use Rattle.std.specs.Prelude.{◌≡◌, true, false, Option, Some, List, [], OnOk, OnErr};
-ghost use Rattle.fx_frames.specs.declared.cleanup.Cleanup.{Cleanup};
+ghost use Rattle.std.specs.Prelude.{◌≡◌, true, false, Some, [], OnOk, OnErr};
 ghost use Rattle.fx_term.specs.declared.event.Event.TheVariants as event;
 ghost use Rattle.fx_fiber.specs.Row.{Silent, Shows};
+ghost use Rattle.fx_fiber.specs.declared.standing.cleaning.Cleaning.{Cleaning};
 ghost use Rattle.fx_fiber.specs.Standing.{IsSoundStanding};
-ghost use Rattle.fx_fiber.specs.Rule.{Steps, IsSame, HasGiven, IsEntered, IsGoing, is_due, is_open_standing, label_of, IsRowEvent};
+ghost use Rattle.fx_fiber.specs.Rule.{Steps, Makes, IsSame, HasGiven, IsEntered, IsGoing, is_due, is_open_standing, IsRowMade};
 
 use crate::standing::Standing;
+use crate::standing::cleaning::Cleaning;
+use crate::standing::made::Made;
 use crate::standing::place::Place;
 use fx_frames::{Cleanup, Frames};
-use fx_term::{Code, Done, Event, Memory, NodeId, Outcome};
+use fx_term::{Code, Done, Event, Memory, Outcome};
 use std::mem;
-
-/// The node that a clean-up runs.
-fn node_of(cleanup: Cleanup) -> NodeId
-    ensures { cleanup ≡ Cleanup.Finalizer result }
-{
-    match cleanup {
-        Cleanup::Finalizer(node) => node,
-    }
-}
 
 impl Standing {
     /// Gives the term up for its clean-ups, under a seal.
@@ -34,7 +27,10 @@ impl Standing {
     {
         self.masks.seal()?;
         let frames = mem::replace(&mut self.frames, Frames::new(self.alloc));
-        self.cleanups = Some(frames.unwind());
+        self.cleanups = Some(Cleaning {
+            resource: None,
+            left: frames.unwind(),
+        });
         self.place = Place::Unwinding;
         Ok(())
     }
@@ -52,38 +48,51 @@ impl Standing {
         self.known = true;
     }
 
-    /// Begins the next clean-up (the rule `finalizer`), or ends the fiber after the last one (the
-    /// rule `unwound`).
-    pub fn unwinds(&mut self, code: &Code) -> Option<Event>
+    /// Begins the next clean-up (the rules `finalizer` and `release`), or ends the fiber after the
+    /// last one (the rule `unwound`).
+    pub fn unwinds(&mut self, code: &Code) -> Made
         requires sound { IsSoundStanding code.now self.old }
         requires place { self.old.place ≡ Place.Unwinding }
         ensures sound { IsSoundStanding code.now self.new }
-        ensures step { Steps code.now self.old (label_of result) self.new }
-        ensures row { IsRowEvent result }
+        ensures made { Makes code.now self.old result self.new }
+        ensures row { IsRowMade result }
     {
-        let Some(cleanups) = &mut self.cleanups else {
+        let Some(cleaning) = &mut self.cleanups else {
             unreachable!();
         };
-        match cleanups.next() {
-            Some(cleanup) => {
-                self.place = Place::At(node_of(cleanup));
-                None
+        match cleaning.next() {
+            Some(Cleanup::Finalizer(finalizer)) => {
+                self.place = Place::At(finalizer);
+                Made::Silent
+            }
+            Some(Cleanup::Release(number, release)) => {
+                self.place = Place::At(release);
+                Made::Shows(Event::Begin(number))
             }
             None => {
                 self.place = Place::Ended(Outcome::Canceled);
-                Some(Event::Ended(Outcome::Canceled))
+                Made::Shows(Event::Ended(Outcome::Canceled))
             }
         }
     }
 
-    /// The result of a finalizer is dropped, an error too.
-    pub fn finalizer_ends(&mut self, code: &Code, done: Done)
+    /// The result of a clean-up is dropped, an error too (the rules `finalizer_ends` and
+    /// `release_ends`).
+    pub fn clean_up_ends(&mut self, code: &Code, done: Done) -> Made
         requires given { HasGiven code.now self.old done }
         requires frames { self.old.frames ≡ [] }
-        requires cleans { (left : List Cleanup) × (self.old.cleanups ≡ Some left) }
+        requires cleans { (cleaning : Cleaning) × (self.old.cleanups ≡ Some cleaning) }
         ensures sound { IsSoundStanding code.now self.new }
-        ensures step { Steps code.now self.old Silent self.new }
+        ensures made { Makes code.now self.old result self.new }
+        ensures row { IsRowMade result }
     {
         self.place = Place::Unwinding;
+        let Some(cleaning) = &self.cleanups else {
+            unreachable!();
+        };
+        match cleaning.resource {
+            Some(number) => Made::Shows(Event::End(number)),
+            None => Made::Silent,
+        }
     }
 }

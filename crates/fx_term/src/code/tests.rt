@@ -9,6 +9,8 @@ const ONE: Node = Node::Pure(Arg::Number(1));
 
 const CANCELED: Node = Node::Canceled;
 
+const CEDE: Node = Node::Cede;
+
 fn name(slot: u32) -> Node {
     Node::Pure(Arg::Slot(slot))
 }
@@ -37,6 +39,18 @@ fn on_cancel(part: u32, finalizer: u32) -> Node {
     Node::OnCancel(NodeId(part), NodeId(finalizer))
 }
 
+fn choose(arg: Arg, then: u32, other: u32) -> Node {
+    Node::If(arg, NodeId(then), NodeId(other))
+}
+
+fn repeat(slot: u32, count: u32, part: u32) -> Node {
+    Node::For(slot, count, NodeId(part))
+}
+
+fn bracket(slot: u32, acquire: u32, used: u32, release: u32) -> Node {
+    Node::Bracket(Some(slot), NodeId(acquire), NodeId(used), NodeId(release))
+}
+
 fn child(id: u32) -> CodeFault {
     CodeFault::Child(NodeId(id))
 }
@@ -49,6 +63,10 @@ fn kind(id: u32) -> CodeFault {
     CodeFault::Kind(NodeId(id))
 }
 
+fn limit(id: u32) -> CodeFault {
+    CodeFault::Limit(NodeId(id))
+}
+
 fn built(alloc: Global, nodes: &[Node]) -> Result<Code, CodeFault>
     ensures { IfOk result (λ code. length code ≡ length nodes.now) }
 {
@@ -57,7 +75,7 @@ fn built(alloc: Global, nodes: &[Node]) -> Result<Code, CodeFault>
 
 #[test]
 fn refuses_what_is_no_tree(rt: HostRuntime) {
-    let cases: [(&str, &[Node], CodeFault); 12] = [
+    let cases: [(&str, &[Node], CodeFault); 16] = [
         ("no node", &[], child(0)),
         ("a mask of itself", &[mask(0, 0)], child(0)),
         ("a poll of a later node", &[poll(0, 1), CANCELED], child(0)),
@@ -90,6 +108,22 @@ fn refuses_what_is_no_tree(rt: HostRuntime) {
             &[ONE, CANCELED, seq(1, 1)],
             child(2),
         ),
+        (
+            "one part for both of an if",
+            &[ONE, choose(Arg::Number(1), 0, 0)],
+            child(1),
+        ),
+        ("a loop of itself", &[repeat(0, 1, 0)], child(0)),
+        (
+            "one part to use and to release",
+            &[ONE, CEDE, bracket(0, 0, 1, 1)],
+            child(2),
+        ),
+        (
+            "one part to acquire and to release",
+            &[ONE, CEDE, bracket(0, 0, 1, 0)],
+            child(2),
+        ),
     ];
     for (what, nodes, fault) in cases {
         assert_eq!(rt; built(rt.alloc(), nodes).err(), Some(fault), "{what}");
@@ -98,7 +132,7 @@ fn refuses_what_is_no_tree(rt: HostRuntime) {
 
 #[test]
 fn refuses_wrong_slots(rt: HostRuntime) {
-    let cases: [(&str, &[Node], CodeFault); 17] = [
+    let cases: [(&str, &[Node], CodeFault); 28] = [
         ("a name that nothing binds", &[name(0)], slot(0)),
         (
             "a poll that nothing binds",
@@ -172,6 +206,61 @@ fn refuses_wrong_slots(rt: HostRuntime) {
             slot(1),
         ),
         (
+            "an if on a name that nothing binds",
+            &[ONE, CEDE, choose(Arg::Slot(0), 0, 1)],
+            slot(2),
+        ),
+        (
+            "the second part of an if before the third",
+            &[name(9), name(8), choose(Arg::Number(1), 1, 0)],
+            slot(1),
+        ),
+        (
+            "a loop that skips a slot",
+            &[CEDE, repeat(1, 2, 0)],
+            slot(1),
+        ),
+        (
+            "an inner loop with the outer slot",
+            &[CEDE, repeat(0, 2, 0), repeat(0, 2, 1)],
+            slot(1),
+        ),
+        (
+            "a loop's name after its part",
+            &[CEDE, repeat(0, 2, 0), name(0), seq(1, 2)],
+            slot(2),
+        ),
+        (
+            "a bracket that skips a slot",
+            &[ONE, CEDE, CEDE, bracket(1, 0, 1, 2)],
+            slot(3),
+        ),
+        (
+            "a bracket's name in the part that acquires",
+            &[name(0), CEDE, CEDE, bracket(0, 0, 1, 2)],
+            slot(0),
+        ),
+        (
+            "another name in the part that uses",
+            &[ONE, name(1), CEDE, bracket(0, 0, 1, 2)],
+            slot(1),
+        ),
+        (
+            "another name in the part that releases",
+            &[ONE, CEDE, name(1), bracket(0, 0, 1, 2)],
+            slot(2),
+        ),
+        (
+            "the part that acquires before those that use and release",
+            &[name(9), name(8), name(7), bracket(0, 2, 1, 0)],
+            slot(2),
+        ),
+        (
+            "the part that uses before the one that releases",
+            &[name(9), name(8), ONE, bracket(0, 2, 1, 0)],
+            slot(1),
+        ),
+        (
             "the tree before the slots",
             &[name(0), ONE, CANCELED, seq(0, 2)],
             child(1),
@@ -184,7 +273,7 @@ fn refuses_wrong_slots(rt: HostRuntime) {
 
 #[test]
 fn refuses_wrong_kinds(rt: HostRuntime) {
-    let cases: [(&str, &[Node], CodeFault); 10] = [
+    let cases: [(&str, &[Node], CodeFault); 14] = [
         ("a poll as a value", &[name(0), mask(0, 0)], kind(0)),
         (
             "a poll as an error",
@@ -239,6 +328,26 @@ fn refuses_wrong_kinds(rt: HostRuntime) {
             &[name(0), ONE, on_cancel(1, 0), mask(0, 2)],
             kind(0),
         ),
+        (
+            "a poll as the value of an if",
+            &[ONE, CEDE, choose(Arg::Slot(0), 0, 1), mask(0, 2)],
+            kind(2),
+        ),
+        (
+            "a loop's number as a poll",
+            &[CEDE, poll(0, 0), repeat(0, 2, 1)],
+            kind(1),
+        ),
+        (
+            "what a bracket uses as a poll",
+            &[ONE, CEDE, poll(0, 1), CEDE, bracket(0, 0, 2, 3)],
+            kind(2),
+        ),
+        (
+            "what a bracket releases as a poll",
+            &[ONE, CEDE, CEDE, poll(0, 2), bracket(0, 0, 1, 3)],
+            kind(3),
+        ),
     ];
     for (what, nodes, fault) in cases {
         assert_eq!(rt; built(rt.alloc(), nodes).err(), Some(fault), "{what}");
@@ -246,9 +355,160 @@ fn refuses_wrong_kinds(rt: HostRuntime) {
 }
 
 #[test]
+fn refuses_too_many_turns(rt: HostRuntime) {
+    let cases: [(&str, &[Node], CodeFault); 13] = [
+        (
+            "a turn too many",
+            &[CEDE, repeat(0, 1_000_001, 0)],
+            limit(1),
+        ),
+        (
+            "1000 times 1001, at the inner loop",
+            &[CEDE, repeat(1, 1_001, 0), repeat(0, 1_000, 1)],
+            limit(1),
+        ),
+        (
+            "in a loop of no turn",
+            &[CEDE, repeat(1, 1_000_001, 0), repeat(0, 0, 1)],
+            limit(1),
+        ),
+        (
+            "a loop of no turn between two",
+            &[
+                CEDE,
+                repeat(2, 1_001, 0),
+                repeat(1, 0, 1),
+                repeat(0, 1_000, 2),
+            ],
+            limit(1),
+        ),
+        (
+            "more turns than 32 bits count",
+            &[CEDE, repeat(1, u32::MAX, 0), repeat(0, 1_000, 1)],
+            limit(1),
+        ),
+        (
+            "in a part that acquires",
+            &[
+                CEDE,
+                repeat(1, 1_000, 0),
+                CEDE,
+                CEDE,
+                Node::Bracket(None, NodeId(1), NodeId(2), NodeId(3)),
+                repeat(0, 1_001, 4),
+            ],
+            limit(1),
+        ),
+        (
+            "in a part that releases",
+            &[
+                CEDE,
+                CEDE,
+                CEDE,
+                repeat(2, 1_000, 2),
+                bracket(1, 0, 1, 3),
+                repeat(0, 1_001, 4),
+            ],
+            limit(3),
+        ),
+        (
+            "in a finalizer, inside of a mask",
+            &[
+                ONE,
+                CEDE,
+                repeat(2, 500_001, 1),
+                on_cancel(0, 2),
+                mask(1, 3),
+                repeat(0, 2, 4),
+            ],
+            limit(2),
+        ),
+        (
+            "a node's slot before its count",
+            &[CEDE, repeat(1, 1_000_001, 0)],
+            slot(1),
+        ),
+        (
+            "a parent's count before its child's slot",
+            &[name(9), repeat(0, 1_000_001, 0)],
+            limit(1),
+        ),
+        (
+            "a parent's kind before its child's count",
+            &[CEDE, repeat(1, 1_000_001, 0), poll(0, 1), repeat(0, 2, 2)],
+            kind(2),
+        ),
+        (
+            "a parent's count before its child's",
+            &[CEDE, repeat(1, 1_000_001, 0), repeat(0, 1_000_001, 1)],
+            limit(2),
+        ),
+        (
+            "the first part's count before the second's slot",
+            &[name(9), CEDE, repeat(0, 1_000_001, 1), seq(2, 0)],
+            limit(2),
+        ),
+    ];
+    for (what, nodes, fault) in cases {
+        assert_eq!(rt; built(rt.alloc(), nodes).err(), Some(fault), "{what}");
+    }
+}
+
+#[test]
+fn takes_as_many_turns_as_allowed(rt: HostRuntime) {
+    let cases: [(&str, &[Node]); 5] = [
+        ("one loop", &[CEDE, repeat(0, 1_000_000, 0)]),
+        (
+            "1000 times 1000",
+            &[CEDE, repeat(1, 1_000, 0), repeat(0, 1_000, 1)],
+        ),
+        (
+            "in a loop of no turn",
+            &[CEDE, repeat(1, 1_000_000, 0), repeat(0, 0, 1)],
+        ),
+        (
+            "loops beside one another",
+            &[
+                CEDE,
+                repeat(0, 1_000_000, 0),
+                CEDE,
+                repeat(0, 1_000_000, 2),
+                seq(1, 3),
+            ],
+        ),
+        (
+            "each part of a bracket",
+            &[
+                CEDE,
+                repeat(1, 1_000, 0),
+                CEDE,
+                repeat(2, 1_000, 2),
+                CEDE,
+                repeat(2, 1_000, 4),
+                bracket(1, 1, 3, 5),
+                repeat(0, 1_000, 6),
+            ],
+        ),
+    ];
+    for (what, nodes) in cases {
+        assert_eq!(rt; built(rt.alloc(), nodes).err(), None, "{what}");
+    }
+}
+
+#[test]
 fn keeps_the_nodes(rt: HostRuntime) -> Result<(), Fail> {
-    let cases: [&[Node]; 7] = [
+    let cases: [&[Node]; 12] = [
         &[ONE],
+        &[Node::Never],
+        &[CEDE, Node::Never, choose(Arg::Number(0), 0, 1)],
+        &[CEDE, name(0), choose(Arg::Slot(0), 0, 1), repeat(0, 2, 2)],
+        &[ONE, name(0), name(0), bracket(0, 0, 1, 2)],
+        &[
+            ONE,
+            CEDE,
+            CANCELED,
+            Node::Bracket(None, NodeId(2), NodeId(0), NodeId(1)),
+        ],
         &[CANCELED, ONE, seq(1, 0)],
         &[CANCELED, poll(0, 0), mask(0, 1)],
         &[CANCELED, poll(0, 0), mask(1, 1), mask(0, 2)],
@@ -325,6 +585,11 @@ fn says_what_is_wrong(rt: HostRuntime) -> Result<(), Fail> {
             "node 5: a slot that is that of a name of another kind",
         ),
         (CodeFault::Memory, 4, "out of memory"),
+        (
+            limit(6),
+            5,
+            "node 6: a count that takes the turns of a part above 1000000",
+        ),
     ];
     for (fault, number, text) in cases {
         assert_eq!(rt; fault.number(), number);

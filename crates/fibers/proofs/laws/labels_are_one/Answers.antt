@@ -1,5 +1,5 @@
-use Rattle.fibers.proofs.Outcomes.{labels_are_one}
+use Rattle.fibers.proofs.OneEnding.{labels_are_one}
 use Rattle.fibers.proofs.laws.labels_are_one.Goals as goal
 
 pub returns : goal.returns
-returns c t o o' a b s = labels_are_one t o o' s a b
+returns c t e e' a b s = labels_are_one t e e' s a b

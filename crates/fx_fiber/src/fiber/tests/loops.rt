@@ -1,0 +1,64 @@
+//! `for`.
+
+use super::*;
+
+const GIVES_0: &[Event] = &[Event::Ended(Outcome::Succeeded(0))];
+
+#[test]
+fn turns(rt: HostRuntime) -> Result<(), Fail> {
+    let rows: [Row; 6] = [
+        (
+            "for i 0 (raise 1)",
+            &[raise(1), Node::For(0, 0, NodeId(0))],
+            None,
+            GIVES_0,
+            3,
+        ),
+        (
+            "for i 1 (pure 7)",
+            &[pure(7), Node::For(0, 1, NodeId(0))],
+            None,
+            GIVES_0,
+            6,
+        ),
+        (
+            "for i 3 (pure 7)",
+            &[pure(7), Node::For(0, 3, NodeId(0))],
+            None,
+            GIVES_0,
+            12,
+        ),
+        (
+            "for i 3 (if i (raise i) (pure 7))",
+            &[
+                Node::Raise(Arg::Slot(0)),
+                pure(7),
+                Node::If(Arg::Slot(0), NodeId(0), NodeId(1)),
+                Node::For(0, 3, NodeId(2)),
+            ],
+            None,
+            &[Event::Ended(Outcome::Errored(1))],
+            10,
+        ),
+        (
+            "for i 3 (if i canceled (pure 7))",
+            &[
+                CANCELED,
+                pure(7),
+                Node::If(Arg::Slot(0), NodeId(0), NodeId(1)),
+                Node::For(0, 3, NodeId(2)),
+            ],
+            None,
+            CANCELED_HERE,
+            7,
+        ),
+        (
+            "for i 3 (pure 7), requested before its second turn",
+            &[pure(7), Node::For(0, 3, NodeId(0))],
+            Some(5),
+            SEEN,
+            5,
+        ),
+    ];
+    assert_runs(&rt, rt.alloc(), &rows)
+}
