@@ -11,7 +11,7 @@ use Rattle.fx_fiber.specs.Step.{Progress, Runs, Unwinds, CleansUp, HasEnded, Ste
 use Rattle.fx_fiber.specs.Run.{first_counts, IsRun, events}
 use Rattle.fx_fiber.specs.Begins.{beginning_of, begin_of_main}
 use Rattle.fx_fiber.specs.Fiber.{FiberView, progress, has_ended}
-use Rattle.fx_fiber.specs.MakesStep.{Calls, MakesStep, WaitsForGood, DoesStep}
+use Rattle.fx_fiber.specs.MakesStep.{Calls, MakesStep, OnlyWaits, DoesStep}
 use Rattle.fx_fiber.specs.declared.stepped.Stepped.{Stepped}
 use Rattle.fx_fiber.specs.declared.stepped.Stepped.TheVariants.{Went, Waits, Gave, Ended}
 use Rattle.fx_fiber.proofs.Beginnings.{main_begins}
@@ -117,5 +117,5 @@ module _ {P : Type 0} (nodes named : List Node) (same : nodes ≡ named) (f : Fi
 
   pub is_blocked : {S : Type 0} (finishes : P → S → Outcome → P → S → Type 0) (new : FiberView P) (s s' : S) (a : Stepped) → IsCode nodes → a ≡ Waits → DoesStep FindsNothing finishes named f s a new s' → RanAlone (main_beginning named) f.trace f.counts (progress named f) → IsEnding (root_term nodes) ending.Blocked
   is_blocked finishes new s s' a code e d r =
-      let waits : WaitsForGood FindsNothing named f s new s' = rw e at d in
+      let waits : OnlyWaits FindsNothing named f s new s' = rw e at d in
       out_alone nodes ending.Blocked f.trace f.counts (progress nodes f) code (by_name r) (rw same (waits.leaf_is, waits.free))

@@ -53,7 +53,7 @@ module _ {P S : Type 0} (looks : P → S → Bool → P → S → Type 0) where
     pub answer_is : answer ≡ answer_to (is_giving_way (leaf_at (progress nodes old))) label
 
   -- no rule, since the fiber stands at `never`: a look in vain, where one is due, and nothing has changed
-  pub record WaitsForGood (nodes : List Node) (old : FiberView P) (shared : S) (new : FiberView P) (shared' : S) : Type 0 where
+  pub record OnlyWaits (nodes : List Node) (old : FiberView P) (shared : S) (new : FiberView P) (shared' : S) : Type 0 where
     pub leaf_is : leaf_at (progress nodes old) ≡ Some Never
     pub free : must_cancel_at old.counts.known (progress nodes old) ≡ false
     pub looked : LooksInVain (looks_first old.counts.known (progress nodes old)) old.port shared
@@ -62,5 +62,5 @@ module _ {P S : Type 0} (looks : P → S → Bool → P → S → Type 0) where
 
   -- what a step does that answers so
   abbrev pub DoesStep : (P → S → Outcome → P → S → Type 0) → List Node → FiberView P → S → Stepped → FiberView P → S → Type 0
-  DoesStep finishes nodes old shared Waits new shared' = WaitsForGood nodes old shared new shared'
+  DoesStep finishes nodes old shared Waits new shared' = OnlyWaits nodes old shared new shared'
   DoesStep finishes nodes old shared answer new shared' = MakesStep finishes nodes old shared answer new shared'

@@ -31,6 +31,9 @@
 //! exactly where it made none. A fiber that waits at an open place looks in each step, so a request is
 //! found there; where something closes the place it waits for good.
 //!
+//! What follows from the rules alone, for every run, are the laws of [`resource_laws`],
+//! [`cancellation_laws`] and [`mask_laws`].
+//!
 //! What never happens: a row of the table at an open place before a look in that step; an event that
 //! is made and not in the trace; a change where memory runs out or the fiber waits; a call to the
 //! depth of a term.

@@ -15,6 +15,7 @@ use std::test::Fail;
 mod choices;
 mod loops;
 mod masking;
+mod nesting;
 mod resources;
 mod waiting;
 
