@@ -1,41 +1,82 @@
 -- What a reader gives and a writer takes, piece by piece.
-use Rattle.std.proofs.Common.{◌≡◌, ℕ, ◌+◌, ◌-◌, ◌≤◌, Option, Some, None, List, ◌++◌, length, take, drop, refl, sym, arith, append_assoc, length-append}
-use Rattle.std.specs.Prelude.{IfSome}
-use Rattle.std.specs.Io.KnownBytes.{Appends, Consumes, IsAtEnd}
+use Rattle.std.proofs.Common.{◌≡◌, ℕ, ◌+◌, ◌-◌, ◌<◌, ◌≤◌, ◌≢◌, Option, Some, None, List, [], ◌++◌, length, take, drop}
+use Rattle.std.proofs.Common.{refl, sym, arith, append_assoc, length-append}
+use Rattle.std.specs.Io.KnownBytes.{Appends, Consumes, Keeps, IsAtEnd}
 use Rattle.std.proofs.lemmas.List.{take_all, append-nil, take_at, take_rest}
 use Rattle.std.proofs.Math.Seq.{take-add}
-use Rattle.fibers.specs.Input.{TakesPiece}
+use Rattle.fibers.specs.declared.fault.PlainFault.{PlainFault}
+use Rattle.fibers.specs.declared.fault.PlainFault.TheVariants.{Read, Write, Memory}
+use Rattle.fibers.specs.Input.{TakesPiece, TakesPrefix, TakesAtMost, FailsToRead}
 
 -- two pieces of a text, one after another
 pub take-pieces : (at n : ℕ) (text : List ℕ) → take at text ++ take n (take (length text - at) (drop at text)) ≡ take (at + n) text
 take-pieces at n text = rw take_rest (sym (take-add at n text))
 
+-- what nobody touches is kept
+pub keeps_same : (known : Option (List ℕ)) → Keeps known known
+keeps_same None = tt
+keeps_same (Some xs) = refl
+
 -- one more piece is written
-pub appends_more : (old mid new : Option (List ℕ)) (one two both : List ℕ) → Appends old mid one → Appends mid new two → one ++ two ≡ both → Appends old new both
+pub appends_more : (old mid new : Option (List ℕ)) (one two both : List ℕ)
+    → Appends old mid one → Appends mid new two → one ++ two ≡ both → Appends old new both
 appends_more None mid new one two both p q e = tt
 appends_more (Some xs) None new one two both p q e = absurd p
 appends_more (Some xs) (Some ys) None one two both p q e = absurd q
 appends_more (Some xs) (Some ys) (Some zs) one two both p q e = rw (q, p, append_assoc, e) refl
 
+-- some more bytes are read
+consumes_both : (left mid rest : Option (List ℕ)) (one two both : List ℕ)
+    → Consumes left mid one → Consumes mid rest two → both ≡ one ++ two → Consumes left rest both
+consumes_both None mid rest one two both p q e = tt
+consumes_both (Some xs) None rest one two both p q e = absurd p
+consumes_both (Some xs) (Some ys) None one two both p q e = absurd q
+consumes_both (Some xs) (Some ys) (Some zs) one two both p q e = rw (p, q, e) (sym (append_assoc one two zs))
+
 -- one more piece is read
-pub consumes_more : (old mid new : Option (List ℕ)) (text longer : List ℕ) (n : ℕ) → Consumes old mid text → TakesPiece mid new text longer n → Consumes old new longer
-consumes_more None mid new text longer n p t = tt
-consumes_more (Some xs) None new text longer n p t = absurd p
-consumes_more (Some xs) (Some ys) None text longer n p t = absurd t.taken
-consumes_more (Some xs) (Some ys) (Some zs) text longer n p t = rw (p, t.taken, t.appended) (sym (append_assoc text t.piece zs))
+pub consumes_more : (left mid rest : Option (List ℕ)) (text longer : List ℕ) (n : ℕ)
+    → Consumes left mid text → TakesPiece mid rest text longer n → Consumes left rest longer
+consumes_more left mid rest text longer n p t = consumes_both left mid rest text t.piece longer p t.taken t.appended
 
 -- a piece within the room that is left keeps the text within its limit
-pub piece_within : {old new : Option (List ℕ)} {text longer : List ℕ} {n : ℕ} (most : ℕ) → TakesPiece old new text longer n → length text ≤ most → n ≤ most - length text → length longer ≤ most
+pub piece_within : {left rest : Option (List ℕ)} {text longer : List ℕ} {n : ℕ} (most : ℕ)
+    → TakesPiece left rest text longer n → length text ≤ most → n ≤ most - length text → length longer ≤ most
 piece_within {text = text} most t h k = let e = t.count in rw t.appended (simp length-append (omega arith))
 
--- all of a text was read
-pub read_to_end : (old new : Option (List ℕ)) (text : List ℕ) (most : ℕ) → Consumes old new text → IsAtEnd new → length text ≤ most → IfSome old (λ all. text ≡ take most all)
-read_to_end None new text most p e h = tt
-read_to_end (Some xs) None text most p e h = absurd p
-read_to_end (Some xs) (Some ys) text most p e h = let whole : xs ≡ text = rw (p, e) (append-nil text) in rw whole (sym (take_all most text h))
+-- all was read
+pub read_to_end : (left rest : Option (List ℕ)) (text : List ℕ) → Consumes left rest text → IsAtEnd rest → length text ≤ 65537 → TakesPrefix left rest text
+read_to_end None rest text p e h = record { first = tt; taken = tt }
+read_to_end (Some xs) None text p e h = absurd p
+read_to_end (Some xs) (Some ys) text p e h =
+    let whole : xs ≡ text = rw (p, e) (append-nil text) in
+    record { first = rw whole (sym (take_all 65537 text h)); taken = p }
 
 -- as many bytes were read as are wanted
-pub read_most : (old new : Option (List ℕ)) (text : List ℕ) (most : ℕ) → Consumes old new text → length text ≡ most → IfSome old (λ all. text ≡ take most all)
-read_most None new text most p h = tt
-read_most (Some xs) None text most p h = absurd p
-read_most (Some xs) (Some ys) text most p h = rw p (sym (take_at text ys most h))
+pub read_most : (left rest : Option (List ℕ)) (text : List ℕ) → Consumes left rest text → length text ≡ 65537 → TakesPrefix left rest text
+read_most None rest text p h = record { first = tt; taken = tt }
+read_most (Some xs) None text p h = absurd p
+read_most (Some xs) (Some ys) text p h = record { first = rw p (sym (take_at text ys 65537 h)); taken = p }
+
+-- a read that keeps what is left takes nothing
+keeps_all : (left rest : Option (List ℕ)) → Keeps left rest → TakesAtMost 0 left rest
+keeps_all None rest k = record { bytes = []; taken = tt; within = omega arith }
+keeps_all (Some xs) None k = absurd k
+keeps_all (Some xs) (Some ys) k = record { bytes = []; taken = sym k; within = omega arith }
+
+-- some bytes were taken after a text
+takes_more : (left mid rest : Option (List ℕ)) (text : List ℕ) (room most : ℕ)
+    → Consumes left mid text → TakesAtMost room mid rest → length text + room ≤ most → TakesAtMost most left rest
+takes_more left mid rest text room most p t h = record {
+  bytes = text ++ t.bytes;
+  taken = consumes_both left mid rest text t.bytes (text ++ t.bytes) p t.taken refl;
+  within = let few = t.within in simp length-append (omega arith);
+}
+
+-- the piece after a text was not read, or not kept
+pub fails_to_read : (fault : PlainFault) (left mid rest : Option (List ℕ)) (text : List ℕ) (room : ℕ)
+    → Consumes left mid text → length text < 65537 → length text + room ≤ 65537
+    → (fault ≡ Read → Keeps mid rest) → TakesAtMost room mid rest → fault ≢ Write → FailsToRead fault left rest
+fails_to_read Read left mid rest text room p h r kept most other =
+    takes_more left mid rest text 0 65536 p (keeps_all mid rest (kept refl)) (omega arith)
+fails_to_read Memory left mid rest text room p h r kept most other = takes_more left mid rest text room 65537 p most r
+fails_to_read Write left mid rest text room p h r kept most other = absurd (other refl)

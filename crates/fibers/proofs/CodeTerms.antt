@@ -9,7 +9,7 @@ use Rattle.fx_term.specs.Term.{Term}
 use Rattle.fx_term.specs.Meaning.{assemble, read, term_of, root_term}
 use Rattle.fx_term.specs.Tree.{children, ChildrenComeFirst}
 use Rattle.fx_term.specs.Code.{IsCode}
-use Rattle.fibers.specs.Simple.{IsSimple}
+use Rattle.fx_fiber.specs.Simple.{IsSimple}
 
 -- a node's term is simple where those of its children are; this names no form
 assemble_simple : (n : Node) (f : ℕ → Term) → AllByRecursion (λ c. IsSimple (f c)) (children n) → IsSimple (assemble (Some n) f)
@@ -26,7 +26,8 @@ module _ (nodes : List Node) (tree : ChildrenComeFirst nodes) where
   read_simple (suc depth) id p q =
       let n = get_or nodes id node.Canceled in
       let here = slice_get-get_or nodes id node.Canceled q in
-      let each : All (λ c. IsSimple (read depth nodes c)) (children n) = λ k d h. let below = tree id n here k d h in read_simple depth (get_or (children n) k d) (omega arith) (omega arith) in
+      let each : All (λ c. IsSimple (read depth nodes c)) (children n) = λ k d h.
+      let below = tree id n here k d h in read_simple depth (get_or (children n) k d) (omega arith) (omega arith) in
       rw here (assemble_simple n (read depth nodes) (recursion_from_All (λ c. IsSimple (read depth nodes c)) (children n) each))
 
   term_simple : (id : ℕ) → id < length nodes → IsSimple (term_of nodes id)

@@ -1,14 +1,14 @@
 -- A fiber that went out: a run from somewhere that found no request, and its ending.
-use Rattle.std.proofs.Common.{◌≢◌, List, [], ◌∷◌, All, refl}
+use Rattle.std.proofs.Common.{List, [], ◌∷◌, All, refl}
 use Rattle.std.proofs.lemmas.List.Elements.{All-nil, All-cons}
-use Rattle.fx_term.specs.declared.event.Event.TheVariants as event
 use Rattle.fx_term.specs.Term.{Term}
-use Rattle.fx_fiber.specs.Row.{Counts, Label, Shows}
+use Rattle.fx_fiber.specs.Row.{Counts, Label}
 use Rattle.fx_fiber.specs.Step.{Progress, Runs}
-use Rattle.fx_fiber.specs.Run.{first_counts, Leads, beginning_of_main}
+use Rattle.fx_fiber.specs.Origin.{main_origin}
+use Rattle.fx_fiber.specs.Run.{IsUnrequested, first_counts, Leads}
 use Rattle.fibers.specs.declared.ending.Ending.{Ending}
 use Rattle.fibers.specs.Ending.{IsAt, EndsAlone}
-use Rattle.fibers.proofs.Nexts.{Next, HasStep}
+use Rattle.fx_fiber.proofs.Nexts.{Next, HasStep}
 
 -- the labels up to an ending
 pub record Gone : Type 0 where
@@ -19,11 +19,7 @@ pub record Gone : Type 0 where
 abbrev pub gone_after : Label → Gone → Gone
 gone_after l g = record g { labels = l ∷ g.labels }
 
--- a label that is no request found
-abbrev pub IsUnrequested : Label → Type 0
-IsUnrequested l = l ≢ Shows event.Seen
-
--- from here a run that finds no request goes out so
+-- from here a run that sees no request ends so
 pub record GoesOut (c : Counts) (p : Progress) (g : Gone) : Type 0 where
   pub counts : Counts
   pub progress : Progress
@@ -36,8 +32,15 @@ pub is_out : (c : Counts) (p : Progress) (e : Ending) → IsAt e c p → GoesOut
 is_out c p e h = record { counts = c; progress = p; run = (refl, refl); at = h; unrequested = All-nil IsUnrequested }
 
 pub step_before : (c : Counts) (p : Progress) (m : Next) (g : Gone) → HasStep c p m → GoesOut m.counts m.progress g → GoesOut c p (gone_after m.label g)
-step_before c p m g s h = record { counts = h.counts; progress = h.progress; run = (m.counts, m.progress, s.step, h.run); at = h.at; unrequested = All-cons IsUnrequested m.label g.labels s.unrequested h.unrequested }
+step_before c p m g s h =
+    record {
+      counts = h.counts;
+      progress = h.progress;
+      run = (m.counts, m.progress, s.step, h.run);
+      at = h.at;
+      unrequested = All-cons IsUnrequested m.label g.labels s.unrequested h.unrequested;
+    }
 
 -- such a run of the main fiber
-abbrev pub main_ends : (t : Term) (g : Gone) → GoesOut (first_counts (beginning_of_main t)) (Runs t) g → EndsAlone t g.ending
+abbrev pub main_ends : (t : Term) (g : Gone) → GoesOut (first_counts (main_origin t)) (Runs t) g → EndsAlone t g.ending
 main_ends t g h = record { labels = g.labels; counts = h.counts; progress = h.progress; run = h.run; at = h.at; unrequested = h.unrequested }

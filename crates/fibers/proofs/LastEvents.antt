@@ -2,7 +2,8 @@
 use Rattle.std.proofs.Common.{◌≡◌, List, [], ◌∷◌, sym, refl}
 use Rattle.fx_term.specs.declared.outcome.Outcome.{Outcome}
 use Rattle.fx_term.specs.declared.event.Event.TheVariants as event
-use Rattle.fx_fiber.specs.Row.{Counts, Beginning, Label, Silent, Shows, Learns, Starts}
+use Rattle.fx_fiber.specs.Origin.{Origin}
+use Rattle.fx_fiber.specs.Row.{Counts, Label, Silent, Shows, Learns, Starts}
 use Rattle.fx_fiber.specs.Step.{Progress, HasEnded, Step}
 use Rattle.fx_fiber.specs.Step as step
 use Rattle.fx_fiber.specs.Run.{Leads, IsRun, events}
@@ -34,6 +35,6 @@ last_is_end c d p l [] o r = let shown = end_is_shown r.2 (sym r.3.1) in rw show
 last_is_end c d p l (k ∷ ls) o r = ended_after l (k ∷ ls) (last_is_end r.0 d r.1 k ls o r.3)
 
 -- the events of a run to an end end with it
-pub run_is_ended : (b : Beginning) (ls : List Label) (d : Counts) (o : Outcome) → IsRun b ls d (HasEnded o) → IsEndedBy (events ls) o
+pub run_is_ended : (b : Origin) (ls : List Label) (d : Counts) (o : Outcome) → IsRun b ls d (HasEnded o) → IsEndedBy (events ls) o
 run_is_ended b [] d o r = absurd (let same = r.1 in cc)
 run_is_ended b (l ∷ ls) d o r = last_is_end _ d _ l ls o r

@@ -1,19 +1,20 @@
--- A fiber at a simple term that nobody requests goes out in one way.
+-- A fiber at a simple term that nobody requests halts in one way.
 use Rattle.std.proofs.Common.{◌≡◌, ℕ, List, [], ◌∷◌, All, sym, ◌∙◌, ap, subst}
 use Rattle.std.proofs.lemmas.List.Elements.{All-head, All-tail}
 use Rattle.std.proofs.lemmas.Option.{same_Some}
 use Rattle.fx_term.specs.Term.{Term}
 use Rattle.fx_fiber.specs.Row.{Counts, Label}
 use Rattle.fx_fiber.specs.Step.{Progress, Runs, Step}
-use Rattle.fx_fiber.specs.Run.{first_counts, Leads, beginning_of_main}
+use Rattle.fx_fiber.specs.Origin.{main_origin}
+use Rattle.fx_fiber.specs.Run.{IsUnrequested, first_counts, Leads}
 use Rattle.fibers.specs.declared.ending.Ending.{Ending}
 use Rattle.fibers.specs.Ending.{IsAt, EndsAlone}
-use Rattle.fibers.specs.Simple.{IsSimple}
-use Rattle.fibers.proofs.Names.{simple_over_all}
-use Rattle.fibers.proofs.Simple.{IsProgressOver}
-use Rattle.fibers.proofs.Nexts.{Next, shown, step_is_next}
+use Rattle.fx_fiber.specs.Simple.{IsSimple}
+use Rattle.fx_fiber.proofs.Names.{simple_over_all}
+use Rattle.fx_fiber.proofs.Simple.{IsProgressOver}
+use Rattle.fx_fiber.proofs.Nexts.{Next, shown, step_is_next}
 use Rattle.fibers.proofs.Waits.{stays, one_way_out}
-use Rattle.fibers.proofs.Gone.{Gone, gone_after, IsUnrequested}
+use Rattle.fibers.proofs.Gone.{Gone, gone_after}
 
 abbrev gone : List Label → Ending → Gone
 gone ls e = record { labels = ls; ending = e }
@@ -23,7 +24,7 @@ module _ (names : ℕ → Type 0) where
   no_step : (c d : Counts) (p q : Progress) (l : Label) (e : Ending) → IsProgressOver names p → IsAt e c p → IsUnrequested l → Step c p l d q → ⊥
   no_step c d p q l e s at u step = let here = stays e c p at in let there = (step_is_next names step u s).next in cc
 
-  -- two runs from one place that go out are one
+  -- two runs from one place that halt are one
   one_run : (c : Counts) (p : Progress) (ls ls' : List Label) (d d' : Counts) (q q' : Progress) (e e' : Ending) → IsProgressOver names p
       → All IsUnrequested ls → All IsUnrequested ls' → Leads c p ls d q → Leads c p ls' d' q' → IsAt e d q → IsAt e' d' q' → gone ls e ≡ gone ls' e'
   one_run c p [] [] d d' q q' e e' s u u' r r' at at' = ap (gone []) (one_way_out e e' c p (rw (← r.0, ← r.1) at) (rw (← r'.0, ← r'.1) at'))
@@ -37,13 +38,15 @@ module _ (names : ℕ → Type 0) where
       let others = one_run r.0 r.1 ls ls' d d' q q' e e' m.simple (All-tail IsUnrequested l ls u) (All-tail IsUnrequested l' ls' u') r.3 rest at at' in
       ap (gone_after l) others ∙ ap (λ (n : Next). gone (n.label ∷ ls') e') (sym same)
 
--- two runs of a simple term that go out are one
+-- two runs of a simple term that halt are one
 module _ (t : Term) (e e' : Ending) (s : IsSimple t) (a : EndsAlone t e) (b : EndsAlone t e') where
   abbrev any : ℕ → Type 0
   any y = Unit {0}
 
   run_is_one : gone a.labels e ≡ gone b.labels e'
-  run_is_one = one_run any (first_counts (beginning_of_main t)) (Runs t) a.labels b.labels a.counts b.counts a.progress b.progress e e' (simple_over_all any t (λ y. tt) s) a.unrequested b.unrequested a.run b.run a.at b.at
+  run_is_one =
+      one_run any (first_counts (main_origin t)) (Runs t) a.labels b.labels a.counts b.counts a.progress b.progress e e' (simple_over_all any t (λ y. tt) s)
+      a.unrequested b.unrequested a.run b.run a.at b.at
 
   pub ending_is_one : e ≡ e'
   ending_is_one = ap (λ (g : Gone). g.ending) run_is_one

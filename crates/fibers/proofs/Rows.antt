@@ -1,4 +1,4 @@
--- Scripts and how they go out, by computation. A name in them is the number of names in whose scope it was bound.
+-- Scripts and how they halt, by computation. A name in them is the number of names in whose scope it was bound.
 use Rattle.std.proofs.Common.{◌≡◌, Some, None, option_map, List, [], ◌∷◌, refl, subst}
 use Rattle.std.proofs.lemmas.Option.{same_Some}
 use Rattle.fx_term.specs.declared.node.Arg.TheVariants.{Number, Slot}
@@ -11,11 +11,11 @@ use Rattle.fx_fiber.specs.Run.{events}
 use Rattle.fibers.specs.declared.ending.Ending.{Ending}
 use Rattle.fibers.specs.declared.ending.Ending.TheVariants.{Ended, Blocked}
 use Rattle.fibers.specs.Ending.{EndsAlone}
-use Rattle.fibers.proofs.Mapped.{mapped}
+use Rattle.fx_fiber.proofs.Mapped.{mapped}
 use Rattle.fibers.proofs.Gone.{Gone}
 use Rattle.fibers.proofs.Computed.{main_within, computed_ends}
 
--- a script that goes out so within twenty steps
+-- a script that halts so within twenty steps
 within_twenty_steps : (t : Term) (e : Ending) → option_map (λ g. g.ending) (main_within 20 t) ≡ Some e → EndsAlone t e
 within_twenty_steps t e h =
     let m = mapped (λ (g : Gone). g.ending) (main_within 20 t) h in
@@ -85,14 +85,17 @@ finalizer_is_left_after_an_error : EndsAlone (Handle (OnCancel (Raise (Number 3)
 finalizer_is_left_after_an_error = within_twenty_steps _ _ refl
 
 -- the request of the closed `canceled` is found where the mask ends
-request_waits_for_the_end_of_the_mask : Tells (Let None (Mask 0 (Let None Canceled (Pure (Number 1)))) (Pure (Number 5))) (event.SelfRequest ∷ event.Cancelled ∷ event.Ended outcome.Canceled ∷ [])
+request_waits_for_the_end_of_the_mask : Tells (Let None (Mask 0 (Let None Canceled (Pure (Number 1)))) (Pure (Number 5)))
+    (event.SelfRequest ∷ event.Cancelled ∷ event.Ended outcome.Canceled ∷ [])
 request_waits_for_the_end_of_the_mask = tells_within_twenty_steps _ _ refl
 
 -- the poll of the outer mask opens nothing inside the inner mask, so `canceled` is closed
-outer_poll_in_the_inner_poll : Tells (Mask 0 (Mask 1 (Poll (Slot 0) (Poll (Slot 1) Canceled)))) (event.SelfRequest ∷ event.Cancelled ∷ event.Ended outcome.Canceled ∷ [])
+outer_poll_in_the_inner_poll : Tells (Mask 0 (Mask 1 (Poll (Slot 0) (Poll (Slot 1) Canceled))))
+    (event.SelfRequest ∷ event.Cancelled ∷ event.Ended outcome.Canceled ∷ [])
 outer_poll_in_the_inner_poll = tells_within_twenty_steps _ _ refl
 
-outer_poll_in_the_inner_mask : Tells (Mask 0 (Poll (Slot 0) (Mask 1 (Poll (Slot 0) Canceled)))) (event.SelfRequest ∷ event.Cancelled ∷ event.Ended outcome.Canceled ∷ [])
+outer_poll_in_the_inner_mask : Tells (Mask 0 (Poll (Slot 0) (Mask 1 (Poll (Slot 0) Canceled))))
+    (event.SelfRequest ∷ event.Cancelled ∷ event.Ended outcome.Canceled ∷ [])
 outer_poll_in_the_inner_mask = tells_within_twenty_steps _ _ refl
 
 -- a poll of the innermost mask opens it
@@ -100,7 +103,8 @@ poll_opens_its_mask : Tells (Mask 0 (Poll (Slot 0) Canceled)) (event.Cancelled �
 poll_opens_its_mask = tells_within_twenty_steps _ _ refl
 
 -- the error of the first finalizer is dropped, and the `canceled` of the second is closed
-finalizers_run_from_the_inside_out : Tells (OnCancel (OnCancel Canceled (Raise (Number 9))) Canceled) (event.Cancelled ∷ event.SelfRequest ∷ event.Ended outcome.Canceled ∷ [])
+finalizers_run_from_the_inside_out : Tells (OnCancel (OnCancel Canceled (Raise (Number 9))) Canceled)
+    (event.Cancelled ∷ event.SelfRequest ∷ event.Ended outcome.Canceled ∷ [])
 finalizers_run_from_the_inside_out = tells_within_twenty_steps _ _ refl
 
 never_blocks : EndsAlone (Let None (Pure (Number 1)) (Mask 0 Never)) Blocked
@@ -125,10 +129,12 @@ loop_of_no_turn_runs_nothing : EndsAlone (For 0 0 (Raise (Number 1))) (Ended (Su
 loop_of_no_turn_runs_nothing = within_twenty_steps _ _ refl
 
 -- the value of the use is that of the bracket, and its resource is released after it
-bracket_releases_after_the_use : Tells (Bracket (Some 0) (Pure (Number 7)) (Pure (Slot 0)) Cede) (event.Acquired 0 ∷ event.Begin 0 ∷ event.End 0 ∷ event.Ended (Succeeded 7) ∷ [])
+bracket_releases_after_the_use : Tells (Bracket (Some 0) (Pure (Number 7)) (Pure (Slot 0)) Cede)
+    (event.Acquired 0 ∷ event.Begin 0 ∷ event.End 0 ∷ event.Ended (Succeeded 7) ∷ [])
 bracket_releases_after_the_use = tells_within_twenty_steps _ _ refl
 
-bracket_releases_after_an_error : Tells (Bracket None (Pure (Number 7)) (Raise (Number 3)) Cede) (event.Acquired 0 ∷ event.Begin 0 ∷ event.End 0 ∷ event.Ended (Errored 3) ∷ [])
+bracket_releases_after_an_error : Tells (Bracket None (Pure (Number 7)) (Raise (Number 3)) Cede)
+    (event.Acquired 0 ∷ event.Begin 0 ∷ event.End 0 ∷ event.Ended (Errored 3) ∷ [])
 bracket_releases_after_an_error = tells_within_twenty_steps _ _ refl
 
 error_of_a_release_is_raised_after_a_value : EndsAlone (Bracket None (Pure (Number 7)) (Pure (Number 1)) (Raise (Number 4))) (Ended (Errored 4))
@@ -142,13 +148,16 @@ bracket_that_acquires_nothing : Tells (Bracket None (Raise (Number 7)) Cede Neve
 bracket_that_acquires_nothing = tells_within_twenty_steps _ _ refl
 
 -- the acquire part is closed, so its `canceled` is found once the resource is there to be released
-canceled_in_the_acquire_part : Tells (Bracket (Some 0) Canceled (Pure (Number 1)) (Pure (Slot 0))) (event.SelfRequest ∷ event.Acquired 0 ∷ event.Cancelled ∷ event.Begin 0 ∷ event.End 0 ∷ event.Ended outcome.Canceled ∷ [])
+canceled_in_the_acquire_part : Tells (Bracket (Some 0) Canceled (Pure (Number 1)) (Pure (Slot 0)))
+    (event.SelfRequest ∷ event.Acquired 0 ∷ event.Cancelled ∷ event.Begin 0 ∷ event.End 0 ∷ event.Ended outcome.Canceled ∷ [])
 canceled_in_the_acquire_part = tells_within_twenty_steps _ _ refl
 
-canceled_in_the_use : Tells (Bracket None (Pure (Number 1)) (OnCancel Canceled Cede) (Raise (Number 2))) (event.Acquired 0 ∷ event.Cancelled ∷ event.Begin 0 ∷ event.End 0 ∷ event.Ended outcome.Canceled ∷ [])
+canceled_in_the_use : Tells (Bracket None (Pure (Number 1)) (OnCancel Canceled Cede) (Raise (Number 2)))
+    (event.Acquired 0 ∷ event.Cancelled ∷ event.Begin 0 ∷ event.End 0 ∷ event.Ended outcome.Canceled ∷ [])
 canceled_in_the_use = tells_within_twenty_steps _ _ refl
 
-inner_resource_is_released_first : Tells (Bracket None Cede (Bracket None Cede Canceled Cede) Cede) (event.Acquired 0 ∷ event.Acquired 1 ∷ event.Cancelled ∷ event.Begin 1 ∷ event.End 1 ∷ event.Begin 0 ∷ event.End 0 ∷ event.Ended outcome.Canceled ∷ [])
+inner_resource_is_released_first : Tells (Bracket None Cede (Bracket None Cede Canceled Cede) Cede)
+    (event.Acquired 0 ∷ event.Acquired 1 ∷ event.Cancelled ∷ event.Begin 1 ∷ event.End 1 ∷ event.Begin 0 ∷ event.End 0 ∷ event.Ended outcome.Canceled ∷ [])
 inner_resource_is_released_first = tells_within_twenty_steps _ _ refl
 
 -- a fiber that waits in a clean-up is not canceled out of it

@@ -4,10 +4,15 @@ use Rattle.fx_term.specs.declared.outcome.Outcome.{Outcome}
 use Rattle.fx_term.specs.declared.event.Event.{Event}
 use Rattle.fx_term.specs.declared.event.Event.TheVariants as event
 use Rattle.fx_fiber.specs.Deed.{Deed, Ended}
+use Rattle.fx_fiber.specs.Calls.{PortCalls}
 
 -- a look finds no request, and changes nothing
 abbrev pub FindsNothing : {P S : Type 0} → P → S → Bool → P → S → Type 0
 FindsNothing port shared found port' shared' = (found ≡ false) × (port' ≡ port) × (shared' ≡ shared)
+
+-- the calls of its port: each look is so, and an end is told so
+abbrev pub alone_calls : {P S : Type 0} → (P → S → Outcome → P → S → Type 0) → PortCalls P S
+alone_calls finishes = record { looks = FindsNothing; finishes = finishes }
 
 -- its port knows of one deed, the end, once that was told
 abbrev pub deeds_told : Option Outcome → List Deed

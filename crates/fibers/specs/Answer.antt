@@ -10,7 +10,7 @@ use Rattle.fibers.specs.declared.ending.Ending.TheVariants.{Ended, Blocked}
 use Rattle.fibers.specs.Ending.{IsEnding}
 use Rattle.fibers.specs.Text.{report_text, refusal_text}
 
--- the status after a script that goes out so
+-- the status after a script that halts so
 abbrev pub status_of : Ending → ℕ
 status_of (Ended o) = 0
 status_of Blocked = 1

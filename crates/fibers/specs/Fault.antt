@@ -1,4 +1,4 @@
--- The numbers of faults.
+-- The numbers of faults, and what the program answers after one.
 use Rattle.std.specs.Prelude.{ℕ}
 use Rattle.fibers.specs.declared.fault.PlainFault.{PlainFault}
 use Rattle.fibers.specs.declared.fault.PlainFault.TheVariants.{Read, Write, Memory}
@@ -7,3 +7,9 @@ abbrev pub plain_fault_number : PlainFault → ℕ
 plain_fault_number Read = 1
 plain_fault_number Write = 2
 plain_fault_number Memory = 3
+
+-- the program's status
+abbrev pub status_after_fault : PlainFault → ℕ
+status_after_fault Read = 4
+status_after_fault Write = 5
+status_after_fault Memory = 5

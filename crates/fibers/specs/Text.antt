@@ -17,11 +17,11 @@ abbrev pub ending_text : Ending → List ℕ
 ending_text (Ended o) = outcome_text o
 ending_text Blocked = codes "blocked"
 
--- the line of a fiber that went out so
+-- the line of a fiber that halted so
 abbrev pub fiber_line : ℕ → Ending → List ℕ
 fiber_line id e = codes "fiber " ++ decimal id ++ codes " " ++ ending_text e ++ line_end
 
--- the report of a script whose one fiber, the main one, went out so
+-- the report of a script whose one fiber, the main one, halted so
 abbrev pub report_text : Ending → List ℕ
 report_text e = fiber_line 0 e
 

@@ -25,7 +25,7 @@ impl Naming for Brand {
     ghost nodes = { [] };
 }
 
-/// The world of a fiber alone: nobody is in it.
+/// The outside of a fiber alone: nobody is in it.
 #[derive(Drop)]
 struct Nobody;
 
@@ -54,7 +54,7 @@ impl<J: Naming> AlonePort<J> {
 
 impl<J: Naming> Port for AlonePort<J> {
     ghost use Rattle.std.specs.Prelude.{◌≡◌, Some, is_some};
-    ghost use Rattle.fibers.specs.Alone.{FindsNothing, deeds_told};
+    ghost use Rattle.fibers.specs.Alone.{alone_calls, deeds_told};
 
     type Shared = Nobody;
 
@@ -68,9 +68,9 @@ impl<J: Naming> Port for AlonePort<J> {
 
     ghost agrees = { λ port deeds. deeds ≡ deeds_told port.ended };
 
-    ghost looks = { FindsNothing };
+    ghost rest = { λ port. record { next = port.begin.next; end = port.begin.end } };
 
-    ghost finishes = { λ port nobody outcome port' nobody'. (port'.begin ≡ port.begin) × (port'.ended ≡ Some outcome) × (nobody' ≡ nobody) };
+    ghost calls = { alone_calls (λ port nobody outcome port' nobody'. (port'.begin ≡ port.begin) × (port'.ended ≡ Some outcome) × (nobody' ≡ nobody)) };
 
     fn look(&mut self, _nobody: &mut Nobody) -> bool {
         false

@@ -1,8 +1,8 @@
-//! How a script goes out.
+//! How a script halts.
 
 use fx_term::Outcome;
 
-/// How a fiber goes out that nobody requests.
+/// How a fiber halts that nobody requests.
 #[derive(Clone, Copy, PartialEq, Eq, Debug)]
 pub enum Ending {
     /// It ended.

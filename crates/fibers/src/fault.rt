@@ -2,6 +2,7 @@
 ghost use Rattle.std.specs.Prelude.{◌≡◌};
 
 use fx_term::Memory;
+use std::alloc::AllocError;
 use thiserror::Error;
 
 /// Why a script was not replayed, or its text not written whole.
@@ -21,7 +22,7 @@ pub enum PlainFault {
 impl PlainFault {
     ghost use Rattle.fibers.specs.Fault.{plain_fault_number};
 
-    /// The number of the fault.
+    /// Its number, which never changes.
     pub fn number(&self) -> u8
         ensures { result ≡ plain_fault_number self.now }
     {
@@ -30,5 +31,25 @@ impl PlainFault {
             PlainFault::Write => 2,
             PlainFault::Memory => 3,
         }
+    }
+}
+
+impl From<Memory> for PlainFault {
+    ghost use Rattle.fibers.specs.declared.fault.PlainFault.TheVariants.{Memory};
+
+    ghost from_gives = { λ _ fault. fault ≡ Memory };
+
+    fn from(_refused: Memory) -> PlainFault {
+        PlainFault::Memory
+    }
+}
+
+impl From<AllocError> for PlainFault {
+    ghost use Rattle.fibers.specs.declared.fault.PlainFault.TheVariants.{Memory};
+
+    ghost from_gives = { λ _ fault. fault ≡ Memory };
+
+    fn from(_refused: AllocError) -> PlainFault {
+        PlainFault::Memory
     }
 }

@@ -1,8 +1,8 @@
 //! Reads the text of a script.
-ghost use Rattle.std.specs.Prelude.{◌≡◌, ◌≢◌, ◌+◌, ◌<◌, ◌≤◌, ◌++◌, List, ℕ, length, take, IfOk, IfErr, IfSome};
-ghost use Rattle.std.specs.Io.KnownBytes.{Consumes, IsAtEnd};
-ghost use Rattle.fibers.specs.declared.fault.PlainFault.TheVariants.{Write};
-ghost use Rattle.fibers.specs.Input.{TakesPiece};
+ghost use Rattle.std.specs.Prelude.{◌≡◌, ◌≢◌, ◌≤◌, ◌<◌, IfOk, IfErr};
+ghost use Rattle.std.specs.Io.KnownBytes.{Keeps};
+ghost use Rattle.fibers.specs.declared.fault.PlainFault.TheVariants.{Read, Write};
+ghost use Rattle.fibers.specs.Input.{TakesPiece, TakesPrefix, TakesAtMost, FailsToRead};
 
 use crate::fault::PlainFault;
 use std::alloc::Global;
@@ -16,24 +16,27 @@ const PIECE: usize = 4096;
 /// Reads one piece of the text, of at most `room` bytes, and appends it. An empty one is the end.
 fn read_piece<R: Read>(reader: &mut R, text: &mut Vec<u8>, room: usize) -> Result<usize, PlainFault>
     requires { 0 < room }
-    ensures piece { IfOk result (λ n. (n ≤ room) × TakesPiece (R.remaining reader.old) (R.remaining reader.new) text.old.items text.new.items n) }
+    ensures count { IfOk result (λ n. n ≤ room) }
+    ensures piece { IfOk result (λ n. TakesPiece (R.remaining reader.old) (R.remaining reader.new) text.old.items text.new.items n) }
+    ensures kept { IfErr result (λ fault. fault ≡ Read → Keeps (R.remaining reader.old) (R.remaining reader.new)) }
+    ensures most { IfErr result (λ fault. TakesAtMost room (R.remaining reader.old) (R.remaining reader.new)) }
     ensures fault { IfErr result (λ fault. fault ≢ Write) }
 {
     let mut piece = [0u8; PIECE];
     let wanted = room.min(PIECE);
     match reader.read(&mut piece[..wanted]) {
         Err(_) => Err(PlainFault::Read),
-        Ok(n) => match text.extend_from_slice(&piece[..n]) {
-            Err(_) => Err(PlainFault::Memory),
-            Ok(()) => Ok(n),
-        },
+        Ok(n) => {
+            text.extend_from_slice(&piece[..n])?;
+            Ok(n)
+        }
     }
 }
 
 /// The text that the reader has left: all of it, or its first 65,537 bytes where it has more.
 pub(crate) fn read_text<R: Read>(alloc: Global, reader: &mut R) -> Result<Vec<u8>, PlainFault>
-    ensures text { IfOk result (λ text. IfSome (R.remaining reader.old) (λ all. text.items ≡ take 65537 all)) }
-    ensures fault { IfErr result (λ fault. fault ≢ Write) }
+    ensures text { IfOk result (λ text. TakesPrefix (R.remaining reader.old) (R.remaining reader.new) text.items) }
+    ensures fault { IfErr result (λ fault. FailsToRead fault (R.remaining reader.old) (R.remaining reader.new)) }
 {
     let mut text = Vec::new(alloc);
     while text.len() < MOST {

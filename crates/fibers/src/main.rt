@@ -1,4 +1,4 @@
-//! `fibers`: runs a script of cancellable fibers and prints how each one went out.
+//! `fibers`: runs a script of cancellable fibers and prints how each one halted.
 //!
 //! A script goes through the modules in this order:
 //!
@@ -9,9 +9,12 @@
 //! 4. `report` makes the text of the report, or the line of a refusal.
 //! 5. `output` writes that text, which was whole before the first write.
 //!
-//! `replay` joins them, and its contract tells bytes to bytes what the program does. What is written
-//! is never more than a front of that text.
+//! `replay` joins them, and its contract says from bytes to bytes what the program does. What is
+//! written is always a prefix of that text.
 #![tactic(auto)]
+
+ghost use Rattle.std.specs.Prelude.{◌≡◌};
+ghost use Rattle.fibers.specs.Fault.{status_after_fault};
 
 mod alone;
 pub mod ending;
@@ -39,8 +42,10 @@ const UNREADABLE: u8 = 4;
 /// The status after any other fault.
 const FAULT: u8 = 5;
 
-/// Says why there is no report, or no whole one, and gives the status.
-fn told(rt: &impl Eprint, fault: PlainFault) -> u8 {
+/// Says on standard error why there is no report, or no whole one, and gives the status.
+fn told(rt: &impl Eprint, fault: PlainFault) -> u8
+    ensures { result ≡ status_after_fault fault }
+{
     let (words, status) = match fault {
         PlainFault::Read => ("cannot read -", UNREADABLE),
         PlainFault::Write => ("fault write", FAULT),

@@ -1,6 +1,6 @@
 //! From the text of a script to its printed report.
 ghost use Rattle.std.specs.Prelude.{◌≡◌, [], IfOk, string_bytes};
-ghost use Rattle.fibers.specs.Answer.{status_of as status_after, IsAnswer};
+ghost use Rattle.fibers.specs.Answer.{status_of, IsAnswer};
 ghost use Rattle.fibers.specs.Replay.{Replays};
 
 use crate::alone::run;
@@ -8,19 +8,19 @@ use crate::ending::Ending;
 use crate::fault::PlainFault;
 use crate::input::read_text;
 use crate::output::write_text;
-use crate::report::{fiber_line, refusal_text};
+use crate::report::{format_fiber, format_refusal};
 use fx_term::Memory;
 use fx_text::{Pick, TextKind, parse};
 use std::alloc::Global;
 use std::io::{Read, Write};
 
-/// The status of a replay after which all fibers have ended.
+/// The status after a script whose fibers have all ended.
 pub const ENDED: u8 = 0;
 
-/// The status of a replay after which a fiber waits for good.
+/// The status after a script of which a fiber waits for good.
 pub const BLOCKED: u8 = 1;
 
-/// The status of a text that is no script.
+/// The status after a text that is no script.
 pub const REFUSED: u8 = 3;
 
 /// What a text is answered with: the status, and what is printed.
@@ -30,8 +30,8 @@ struct Answer {
     text: String,
 }
 
-fn status_of(ending: Ending) -> u8
-    ensures { result ≡ status_after ending }
+fn status_after(ending: Ending) -> u8
+    ensures { result ≡ status_of ending }
 {
     match ending {
         Ending::Ended(_) => ENDED,
@@ -45,16 +45,16 @@ fn answer_to(alloc: Global, text: &[u8]) -> Result<Answer, Memory>
     match parse(alloc, text) {
         Ok(script) => {
             let ending = run(alloc, &script.code)?;
-            let text = fiber_line(alloc, 0, ending)?;
+            let text = format_fiber(alloc, 0, ending)?;
             Ok(Answer {
-                status: status_of(ending),
+                status: status_after(ending),
                 text,
             })
         }
         Err(fault) => match fault.kind {
             TextKind::Memory => Err(Memory),
             _ => {
-                let text = refusal_text(alloc, fault.number(), fault.at)?;
+                let text = format_refusal(alloc, fault.number(), fault.at)?;
                 Ok(Answer {
                     status: REFUSED,
                     text,
@@ -75,16 +75,12 @@ pub fn replay_text<R: Read, W: Write>(
     writer: &mut W,
 ) -> Result<u8, PlainFault>
     requires { picks.now ≡ [] }
-    ensures { Replays (R.remaining reader.old) result (W.contents writer.old) (W.contents writer.new) }
+    ensures { Replays (R.remaining reader.old) (R.remaining reader.new) result (W.contents writer.old) (W.contents writer.new) }
 {
     let text = read_text(alloc, reader)?;
-    match answer_to(alloc, &text) {
-        Err(Memory) => Err(PlainFault::Memory),
-        Ok(answer) => {
-            write_text(writer, answer.text.as_bytes())?;
-            Ok(answer.status)
-        }
-    }
+    let answer = answer_to(alloc, &text)?;
+    write_text(writer, answer.text.as_bytes())?;
+    Ok(answer.status)
 }
 
 #[cfg(test)]

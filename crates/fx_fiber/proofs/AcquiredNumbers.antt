@@ -5,7 +5,8 @@ use Rattle.std.proofs.lemmas.Bool.{ne_eqb}
 use Rattle.std.proofs.lemmas.List.Elements.{filter_map-append}
 use Rattle.std.proofs.lemmas.Map.Keys.{IsDistinct-cons}
 use Rattle.fx_term.specs.Term.{Term}
-use Rattle.fx_fiber.specs.Row.{Beginning, Counts, Label, Row}
+use Rattle.fx_fiber.specs.Origin.{Origin}
+use Rattle.fx_fiber.specs.Row.{Counts, Label, Row}
 use Rattle.fx_fiber.specs.Row as row
 use Rattle.fx_fiber.specs.Step.{Progress, Step}
 use Rattle.fx_fiber.specs.Step as step
@@ -23,61 +24,14 @@ none_acquired : {ls : List Label} {c d : Counts} → d.acquired ≡ c.acquired �
 none_acquired same none = record { count = 0; after = omega arith; numbers = none }
 
 row_numbers : {k : Bool} {c d : Counts} {l : Label} {t t' : Term} → Row k c t l d t' → IsNumbered (l ∷ []) c d
-row_numbers row.pure = none_acquired refl refl
-row_numbers row.raise = none_acquired refl refl
-row_numbers row.cede = none_acquired refl refl
-row_numbers (row.self_request h) = none_acquired refl refl
-row_numbers row.if_not_zero = none_acquired refl refl
-row_numbers row.if_zero = none_acquired refl refl
-row_numbers row.for_begins = none_acquired refl refl
-row_numbers (row.loop_turns h) = none_acquired refl refl
-row_numbers (row.loop_ends h) = none_acquired refl refl
-row_numbers row.let_value = none_acquired refl refl
-row_numbers row.let_error = none_acquired refl refl
-row_numbers row.handle_value = none_acquired refl refl
-row_numbers row.handle_error = none_acquired refl refl
-row_numbers row.mask = none_acquired refl refl
-row_numbers row.poll = none_acquired refl refl
-row_numbers row.masked_ends = none_acquired refl refl
-row_numbers row.opened_ends = none_acquired refl refl
-row_numbers row.oncancel_ends = none_acquired refl refl
 row_numbers row.acquired = record { count = 1; after = refl; numbers = refl }
-row_numbers row.acquire_fails = none_acquired refl refl
-row_numbers row.used = none_acquired refl refl
-row_numbers row.released = none_acquired refl refl
-row_numbers row.start = none_acquired refl refl
-row_numbers row.joined = none_acquired refl refl
-row_numbers row.request = none_acquired refl refl
-row_numbers row.awaited = none_acquired refl refl
-row_numbers row.first_left = none_acquired refl refl
-row_numbers row.first_right = none_acquired refl refl
-row_numbers row.offered = none_acquired refl refl
-row_numbers row.tried_offer = none_acquired refl refl
-row_numbers row.refused = none_acquired refl refl
-row_numbers row.taken = none_acquired refl refl
-row_numbers row.tried_take = none_acquired refl refl
-row_numbers row.found_empty = none_acquired refl refl
-row_numbers (row.in_let r) = row_numbers r
-row_numbers (row.in_handle r) = row_numbers r
-row_numbers (row.in_oncancel r) = row_numbers r
-row_numbers (row.in_acquire r) = row_numbers r
-row_numbers (row.in_masked r) = row_numbers r
-row_numbers (row.in_opened r) = row_numbers r
-row_numbers (row.in_using r) = row_numbers r
-row_numbers (row.in_releasing r) = row_numbers r
+row_numbers (row.inside f e g r) = row_numbers r
+row_numbers _ = none_acquired refl refl
 
 step_numbers : {c d : Counts} {p q : Progress} {l : Label} → Step c p l d q → IsNumbered (l ∷ []) c d
 step_numbers (step.row m r) = row_numbers r
 step_numbers (step.cleans r) = row_numbers r
-step_numbers (step.cancelled m) = none_acquired refl refl
-step_numbers (step.seen m o) = none_acquired refl refl
-step_numbers (step.succeeds m) = none_acquired refl refl
-step_numbers (step.errs m) = none_acquired refl refl
-step_numbers step.finalizer = none_acquired refl refl
-step_numbers step.release = none_acquired refl refl
-step_numbers step.finalizer_ends = none_acquired refl refl
-step_numbers step.release_ends = none_acquired refl refl
-step_numbers step.unwound = none_acquired refl refl
+step_numbers _ = none_acquired refl refl
 
 range_append : (a b n m : ℕ) → b ≡ a + n → range_with_len a n ++ range_with_len b m ≡ range_with_len a (n + m)
 range_append a b zero m e = let p : b ≡ a = omega arith in let q : 0 + m ≡ m = omega arith in rw (p, q) refl
@@ -93,7 +47,9 @@ numbered_append ls ms c e d first rest =
     record {
       count = first.count + rest.count;
       after = omega arith;
-      numbers = rw (events_append ls ms, filter_map-append acquired_number (events ls) (events ms), first.numbers, rest.numbers) (range_append c.acquired e.acquired first.count rest.count here);
+      numbers =
+          rw (events_append ls ms, filter_map-append acquired_number (events ls) (events ms), first.numbers, rest.numbers)
+          (range_append c.acquired e.acquired first.count rest.count here);
     }
 
 leads_numbers : (c d : Counts) (p q : Progress) (ls : List Label) → Leads c p ls d q → IsNumbered ls c d
@@ -101,7 +57,7 @@ leads_numbers c d p q [] r = rw r.0 (none_acquired refl refl)
 leads_numbers c d p q (l ∷ ls) r = numbered_append (l ∷ []) ls c r.0 d (step_numbers r.2) (leads_numbers r.0 d r.1 q ls r.3)
 
 -- a fiber's resources have the numbers 0, 1, 2 and so on, as many as it acquired
-pub acquired_in_order : (b : Beginning) (ls : List Label) (d : Counts) (q : Progress) → IsRun b ls d q → acquired_numbers (events ls) ≡ range_with_len 0 d.acquired
+pub acquired_in_order : (b : Origin) (ls : List Label) (d : Counts) (q : Progress) → IsRun b ls d q → acquired_numbers (events ls) ≡ range_with_len 0 d.acquired
 acquired_in_order b ls d q r =
     let n = leads_numbers (first_counts b) d _ q ls r in
     let e : d.acquired ≡ n.count = let p = n.after in omega arith in

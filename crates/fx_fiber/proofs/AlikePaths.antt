@@ -3,7 +3,7 @@ use Rattle.std.proofs.Common.{◌≡◌, ℕ, ◌==◌, ◌≤◌, if◌then◌e
 use Rattle.std.proofs.lemmas.Bool.Decides.{nat_tests}
 use Rattle.fx_term.specs.Term.{Term}
 use Rattle.fx_mask.specs.Closing.{Closing, Region, Seal, without_region, is_none_closed}
-use Rattle.fx_fiber.specs.Path.{CleanUp, Finalizer, Release, closed_regions, clean_ups, leaf, is_canceled_form}
+use Rattle.fx_fiber.specs.Path.{CleanupTerm, Finalizer, Release, closed_regions, cleanup_terms, leaf, is_canceled_form}
 use Rattle.fx_fiber.proofs.Alike.{IsSameRegion, Alike}
 use Rattle.fx_fiber.proofs.Alike as alike
 
@@ -23,17 +23,18 @@ module _ (low low' : ℕ) where
   leaf_alike _ = refl
 
   -- the same clean-ups but for the numbers of regions
-  pub data AreCleanUps : List CleanUp → List CleanUp → Type 0 where
-    none : AreCleanUps [] []
-    finalizer : {f f' : Term} {xs ys : List CleanUp} → Alike low low' f f' → AreCleanUps xs ys → AreCleanUps (Finalizer f ∷ xs) (Finalizer f' ∷ ys)
-    release : {k : ℕ} {r r' : Term} {xs ys : List CleanUp} → Alike low low' r r' → AreCleanUps xs ys → AreCleanUps (Release k r ∷ xs) (Release k r' ∷ ys)
+  pub data AreCleanupTerms : List CleanupTerm → List CleanupTerm → Type 0 where
+    none : AreCleanupTerms [] []
+    finalizer : {f f' : Term} {xs ys : List CleanupTerm} → Alike low low' f f' → AreCleanupTerms xs ys → AreCleanupTerms (Finalizer f ∷ xs) (Finalizer f' ∷ ys)
+    release : {k : ℕ} {r r' : Term} {xs ys : List CleanupTerm} → Alike low low' r r' → AreCleanupTerms xs ys
+        → AreCleanupTerms (Release k r ∷ xs) (Release k r' ∷ ys)
 
-  one_more : {xs ys us vs : List CleanUp} → AreCleanUps xs ys → AreCleanUps us vs → AreCleanUps (xs ++ us) (ys ++ vs)
+  one_more : {xs ys us vs : List CleanupTerm} → AreCleanupTerms xs ys → AreCleanupTerms us vs → AreCleanupTerms (xs ++ us) (ys ++ vs)
   one_more none q = q
   one_more (finalizer f p) q = finalizer f (one_more p q)
   one_more (release r p) q = release r (one_more p q)
 
-  pub clean_ups_alike : {t t' : Term} → Alike low low' t t' → AreCleanUps (clean_ups t) (clean_ups t')
+  pub clean_ups_alike : {t t' : Term} → Alike low low' t t' → AreCleanupTerms (cleanup_terms t) (cleanup_terms t')
   clean_ups_alike (alike.let_ p u q) = clean_ups_alike p
   clean_ups_alike (alike.handle p u q) = clean_ups_alike p
   clean_ups_alike (alike.oncancel p q) = one_more (clean_ups_alike p) (finalizer q none)
@@ -45,7 +46,8 @@ module _ (low low' : ℕ) where
   clean_ups_alike _ = none
 
   -- what closes the two places outside, of which the terms inside have no number
-  module _ (outer outer' : List Closing) (kept : (r : ℕ) → low ≤ r → without_region r outer ≡ outer) (kept' : (r : ℕ) → low' ≤ r → without_region r outer' ≡ outer') where
+  module _ (outer outer' : List Closing) (kept : (r : ℕ) → low ≤ r → without_region r outer ≡ outer)
+      (kept' : (r : ℕ) → low' ≤ r → without_region r outer' ≡ outer') where
     data AreClosings : List Closing → List Closing → Type 0 where
       outside : AreClosings outer outer'
       region : {r r' : ℕ} {cs cs' : List Closing} → IsSameRegion low low' r r' → AreClosings cs cs' → AreClosings (Region r ∷ cs) (Region r' ∷ cs')
@@ -62,7 +64,8 @@ module _ (low low' : ℕ) where
         by_test false true same = absurd cc
     taken_off e (seal p) = seal p
 
-    closings_alike : {t t' : Term} {cs cs' : List Closing} → Alike low low' t t' → AreClosings cs cs' → AreClosings (closed_regions cs t) (closed_regions cs' t')
+    closings_alike : {t t' : Term} {cs cs' : List Closing} → Alike low low' t t' → AreClosings cs cs'
+        → AreClosings (closed_regions cs t) (closed_regions cs' t')
     closings_alike (alike.let_ p u q) h = closings_alike p h
     closings_alike (alike.handle p u q) h = closings_alike p h
     closings_alike (alike.oncancel p q) h = closings_alike p h
@@ -80,5 +83,15 @@ module _ (low low' : ℕ) where
     none_alike same (seal p) = refl
 
     -- both places are closed or both are open, where those outside are so
-    pub closed_alike : {t t' : Term} → is_none_closed outer ≡ is_none_closed outer' → Alike low low' t t' → is_none_closed (closed_regions outer t) ≡ is_none_closed (closed_regions outer' t')
+    pub closed_alike : {t t' : Term} → is_none_closed outer ≡ is_none_closed outer' → Alike low low' t t'
+        → is_none_closed (closed_regions outer t) ≡ is_none_closed (closed_regions outer' t')
     closed_alike same p = none_alike same (closings_alike p outside)
+
+    -- a place inside is closed where the one outside is
+    pub stays_closed : {t t' : Term} → is_none_closed outer ≡ false → Alike low low' t t' → is_none_closed (closed_regions outer t) ≡ false
+    stays_closed closed p = still_closed (closings_alike p outside)
+      where
+        still_closed : {cs cs' : List Closing} → AreClosings cs cs' → is_none_closed cs ≡ false
+        still_closed outside = closed
+        still_closed (region s h) = refl
+        still_closed (seal h) = refl

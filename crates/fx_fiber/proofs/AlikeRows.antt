@@ -1,12 +1,14 @@
 -- Alike terms make alike steps of the table.
-use Rattle.std.proofs.Common.{ℕ, ◌+◌, Bool, arith}
+use Rattle.std.proofs.Common.{◌≡◌, refl, ℕ, ◌+◌, Bool, arith}
 use Rattle.fx_term.specs.declared.outcome.Outcome.{Outcome}
 use Rattle.fx_term.specs.declared.outcome.Outcome.TheVariants as outcome
 use Rattle.fx_term.specs.Term.{Term}
-use Rattle.fx_term.specs.Scope.{OfValue}
+use Rattle.fx_term.specs.declared.name_kind.NameKind.TheVariants as kind
+use Rattle.fx_fiber.specs.Path.{Context, LetIn, HandleIn, OnCancelIn, AcquireIn, MaskedIn, OpenedIn, InUseIn, InReleaseIn, plug}
 use Rattle.fx_fiber.specs.Row.{Counts, Label, Row, part_after}
 use Rattle.fx_fiber.specs.Row as row
-use Rattle.fx_fiber.proofs.NameUses.{IsUsedAs}
+use Rattle.fx_fiber.proofs.Paths.{row_plug}
+use Rattle.fx_term.proofs.NameUses.{IsUsedAs}
 use Rattle.fx_fiber.proofs.Alike.{IsSameRegion, Alike, AreNumbersOf, value, fiber, region, AreArgs, number, put_alike, put_named_alike}
 use Rattle.fx_fiber.proofs.Alike as alike
 
@@ -23,20 +25,45 @@ module _ (low low' : ℕ) where
     pub is_alike : Alike low low' u term
     pub entered : IsSameRegion low low' d.masks masks
 
-  branch_alike : (o : Outcome) (x e : ℕ) {a a' b b' d d' : Term} → Alike low low' a a' → IsUsedAs OfValue x a → Alike low low' b b' → IsUsedAs OfValue e b → Alike low low' d d' → Alike low low' (part_after o x a e b d) (part_after o x a' e b' d')
+  branch_alike : (o : Outcome) (x e : ℕ) {a a' b b' d d' : Term} → Alike low low' a a' → IsUsedAs kind.Value x a → Alike low low' b b' → IsUsedAs kind.Value e b
+      → Alike low low' d d' → Alike low low' (part_after o x a e b d) (part_after o x a' e b' d')
   branch_alike (outcome.Succeeded n) x e p u q v r = put_alike low low' value x p u
   branch_alike (outcome.Errored n) x e p u q v r = put_alike low low' value e q v
   branch_alike outcome.Canceled x e p u q v r = r
 
+  -- the contexts are the same but for the numbers of regions, and so are their parts
+  record AreAlikeInside (f : Context) (a t' : Term) : Type 0 where
+    pub context : Context
+    pub part : Term
+    pub is : t' ≡ plug context part
+    pub parts : Alike low low' a part
+    pub wholes : {b b' : Term} → Alike low low' b b' → Alike low low' (plug f b) (plug context b')
+
+  alike_inside : (f : Context) {a t' : Term} → Alike low low' (plug f a) t' → AreAlikeInside f a t'
+  alike_inside (LetIn x b) (alike.let_ {b' = b'} p u q) = record { context = LetIn x b'; part = _; is = refl; parts = p; wholes = λ h. alike.let_ h u q }
+  alike_inside (HandleIn x b) (alike.handle {b' = b'} p u q) =
+      record { context = HandleIn x b'; part = _; is = refl; parts = p; wholes = λ h. alike.handle h u q }
+  alike_inside (OnCancelIn f) (alike.oncancel {f' = f'} p q) =
+      record { context = OnCancelIn f'; part = _; is = refl; parts = p; wholes = λ h. alike.oncancel h q }
+  alike_inside (AcquireIn x u r) (alike.bracket {u' = u'} {r' = r'} p i q j v) =
+      record { context = AcquireIn x u' r'; part = _; is = refl; parts = p; wholes = λ h. alike.bracket h i q j v }
+  alike_inside (MaskedIn r) (alike.masked {r' = r'} e p) = record { context = MaskedIn r'; part = _; is = refl; parts = p; wholes = λ h. alike.masked e h }
+  alike_inside (OpenedIn r) (alike.opened {r' = r'} e p) = record { context = OpenedIn r'; part = _; is = refl; parts = p; wholes = λ h. alike.opened e h }
+  alike_inside (InUseIn k r) (alike.using_ {r' = r'} p q) = record { context = InUseIn k r'; part = _; is = refl; parts = p; wholes = λ h. alike.using_ h q }
+  alike_inside (InReleaseIn k v) (alike.releasing p) = record { context = InReleaseIn k v; part = _; is = refl; parts = p; wholes = λ h. alike.releasing h }
+
   module _ {k : Bool} {m : ℕ} where
-    follows : {c d : Counts} {l : Label} {t u u' : Term} {m' : ℕ} → IsSameRegion low low' d.masks m' → Row k (with_masks m c) t l (with_masks m' d) u' → Alike low low' u u' → Follows k m c t l d u
+    follows : {c d : Counts} {l : Label} {t u u' : Term} {m' : ℕ} → IsSameRegion low low' d.masks m' → Row k (with_masks m c) t l (with_masks m' d) u'
+        → Alike low low' u u' → Follows k m c t l d u
     follows {u' = u'} {m' = m'} s r a = record { masks = m'; term = u'; row = r; is_alike = a; entered = s }
 
     -- a step that enters no mask
-    stays : {c d : Counts} {l : Label} {t u u' : Term} → Row k (with_masks m c) t l (with_masks m d) u' → Alike low low' u u' → IsSameRegion low low' d.masks m → Follows k m c t l d u
+    stays : {c d : Counts} {l : Label} {t u u' : Term} → Row k (with_masks m c) t l (with_masks m d) u' → Alike low low' u u' → IsSameRegion low low' d.masks m
+        → Follows k m c t l d u
     stays r a s = follows s r a
 
-    pub row_alike : {c d : Counts} {l : Label} {t u t' : Term} → Row k c t l d u → Alike low low' t t' → IsSameRegion low low' c.masks m → Follows k m c t' l d u
+    pub row_alike : {c d : Counts} {l : Label} {t u t' : Term} → Row k c t l d u → Alike low low' t t' → IsSameRegion low low' c.masks m
+        → Follows k m c t' l d u
     row_alike row.pure (alike.pure (number value)) s = stays row.pure alike.finished s
     row_alike row.raise (alike.raise (number value)) s = stays row.raise alike.finished s
     row_alike row.cede alike.cede s = stays row.cede alike.finished s
@@ -55,7 +82,8 @@ module _ (low low' : ℕ) where
     row_alike row.masked_ends (alike.masked r alike.finished) s = stays row.masked_ends alike.finished s
     row_alike row.opened_ends (alike.opened r alike.finished) s = stays row.opened_ends alike.finished s
     row_alike row.oncancel_ends (alike.oncancel alike.finished q) s = stays row.oncancel_ends alike.finished s
-    row_alike (row.acquired {x = x} {n = n}) (alike.bracket alike.finished i q j r) s = stays row.acquired (alike.using_ (put_named_alike low low' x n q i) (put_named_alike low low' x n r j)) s
+    row_alike (row.acquired {x = x} {n = n}) (alike.bracket alike.finished i q j r) s =
+        stays row.acquired (alike.using_ (put_named_alike low low' x n q i) (put_named_alike low low' x n r j)) s
     row_alike row.acquire_fails (alike.bracket alike.finished i q j r) s = stays row.acquire_fails alike.finished s
     row_alike row.used (alike.using_ alike.finished q) s = stays row.used (alike.releasing q) s
     row_alike row.released (alike.releasing alike.finished) s = stays row.released alike.finished s
@@ -71,11 +99,7 @@ module _ (low low' : ℕ) where
     row_alike row.taken alike.take s = stays row.taken alike.finished s
     row_alike (row.tried_take {n = n} {x = x}) (alike.try_take u p q) s = stays row.tried_take (put_alike low low' value x p u) s
     row_alike row.found_empty (alike.try_take u p q) s = stays row.found_empty q s
-    row_alike (row.in_let r) (alike.let_ p u q) s = let f = row_alike r p s in follows f.entered (row.in_let f.row) (alike.let_ f.is_alike u q)
-    row_alike (row.in_handle r) (alike.handle p u q) s = let f = row_alike r p s in follows f.entered (row.in_handle f.row) (alike.handle f.is_alike u q)
-    row_alike (row.in_oncancel r) (alike.oncancel p q) s = let f = row_alike r p s in follows f.entered (row.in_oncancel f.row) (alike.oncancel f.is_alike q)
-    row_alike (row.in_acquire r) (alike.bracket p i q j v) s = let f = row_alike r p s in follows f.entered (row.in_acquire f.row) (alike.bracket f.is_alike i q j v)
-    row_alike (row.in_masked r) (alike.masked e p) s = let f = row_alike r p s in follows f.entered (row.in_masked f.row) (alike.masked e f.is_alike)
-    row_alike (row.in_opened r) (alike.opened e p) s = let f = row_alike r p s in follows f.entered (row.in_opened f.row) (alike.opened e f.is_alike)
-    row_alike (row.in_using r) (alike.using_ p q) s = let f = row_alike r p s in follows f.entered (row.in_using f.row) (alike.using_ f.is_alike q)
-    row_alike (row.in_releasing r) (alike.releasing p) s = let f = row_alike r p s in follows f.entered (row.in_releasing f.row) (alike.releasing f.is_alike)
+    row_alike (row.inside f {t' = u} e g r) p s =
+        let i = alike_inside f (rw e at p) in
+        let w = row_alike r i.parts s in
+        rw (i.is, g) (follows w.entered (row_plug i.context w.row) (i.wholes w.is_alike))

@@ -5,14 +5,12 @@ use Rattle.std.specs.Prelude.{◌+◌, List}
 use Rattle.fx_term.specs.Term.{Term}
 use Rattle.fx_term.specs.Meaning.{root_term}
 use Rattle.fx_term.specs.Need.{need}
-use Rattle.fx_fiber.specs.Row.{Beginning}
-use Rattle.fx_fiber.specs.Run.{beginning_of_main}
-use Rattle.fx_fiber.specs.Begins.{beginning_of, begin_of_main}
+use Rattle.fx_fiber.specs.Origin.{Origin, main_origin, origin_of, main_begin_of}
 use Rattle.fx_term.proofs.FillNothing.{fill_none}
 
 -- the whole term of its code, since no name is in scope
-pub main_begins : (nodes : List Node) → beginning_of nodes (begin_of_main nodes) ≡ beginning_of_main (root_term nodes)
+pub main_begins : (nodes : List Node) → origin_of nodes (main_begin_of nodes) ≡ main_origin (root_term nodes)
 main_begins nodes = ap of_term (fill_none [] (root_term nodes))
   where
-    of_term : Term → Beginning
+    of_term : Term → Origin
     of_term t = record { term = t; next = 1; end = 1 + need (root_term nodes) }

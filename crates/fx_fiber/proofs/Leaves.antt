@@ -12,77 +12,85 @@ use Rattle.fx_term.specs.Registers.{with_number}
 use Rattle.fx_term.specs.Scope.{IsArgBelow, HasLevels}
 use Rattle.fx_term.specs.Meaning.{assemble, term_of}
 use Rattle.fx_term.proofs.RegisterLaws.{agree_below, length_with}
-use Rattle.fx_mask.specs.Closing.{Closing, MasksView, without_region, is_none_closed}
-use Rattle.fx_mask.specs.Masks.{entered, IsOpened}
+use Rattle.fx_mask.specs.Closing.{Closing, without_region, is_none_closed}
+use Rattle.fx_mask.specs.Masks.{MasksView, entered, IsOpened}
 use Rattle.fx_mask.specs.declared.masks.Region as mask_region
 use Rattle.fx_frames.specs.declared.frame.Frame.{Frame}
 use Rattle.fx_frames.specs.declared.frame.Frame.TheVariants as frame
 use Rattle.fx_fiber.specs.Path.{is_canceled_form}
 use Rattle.fx_fiber.specs.Row.{Counts, Label, Silent, Row, one_more_mask, if_not_zero, if_zero, mask, poll}
 use Rattle.fx_fiber.specs.Step.{Progress, leaf_at, Step}
-use Rattle.fx_fiber.specs.declared.standing.place.Place.TheVariants.{At}
-use Rattle.fx_fiber.specs.declared.standing.Standing.{Standing}
-use Rattle.fx_fiber.specs.Standing.{filled, inner, closed_again, within, running, progress_at, progress_of, counts_of, taken_off, IsNode, IsBound, IsClosedBy, IsSound}
-use Rattle.fx_fiber.specs.Rule.{WaitsAt, IsSame, StandsAt, IsLeafNode, is_due, is_open_standing}
-use Rattle.fx_fiber.specs.MakesStep.{is_giving_way}
+use Rattle.fx_fiber.specs.declared.machine.focus.Focus.TheVariants.{Eval}
+use Rattle.fx_fiber.specs.declared.machine.Machine.{Machine}
+use Rattle.fx_fiber.specs.Machine.{filled, inner, closed_again, within, running, progress_at, progress_of, counts_of}
+use Rattle.fx_fiber.specs.Sound.{taken_off, IsNode, IsBound, IsClosedBy, IsSound}
+use Rattle.fx_fiber.specs.Methods.{WaitsAt, IsSame, IsEvaluating, IsLeafNode, is_canceled_node, must_cancel_machine, is_open_machine}
+use Rattle.fx_fiber.specs.MakesStep.{is_yielding}
 use Rattle.fx_fiber.proofs.Contexts.{row_within}
 use Rattle.fx_fiber.proofs.Numbers.{filled_same, running_same, running_named}
 use Rattle.fx_fiber.proofs.Nodes.{arg_in_registers, levels_at, child_before, child_node, inner_is, leaf_is, leaf_is_free, leaf_step}
 
 -- whether a leaf is `canceled`
-pub canceled_node : (b : ℕ) (ns : List ℕ) (f : ℕ → Term) (n : Node) → n ≢ node.Canceled → is_canceled_form (fill b ns (assemble (Some n) f)) ≡ false
-canceled_node b ns f node.Canceled h = absurd (h refl)
-canceled_node b ns f n h = refl
+canceled_node : (b : ℕ) (ns : List ℕ) (f : ℕ → Term) (n : Node) → is_canceled_form (fill b ns (assemble (Some n) f)) ≡ is_canceled_node n
+canceled_node b ns f node.Canceled = refl
+canceled_node b ns f n = refl
 
 -- whether a leaf is `cede`
-giving_node : (b : ℕ) (ns : List ℕ) (f : ℕ → Term) (n : Node) → n ≢ node.Cede → is_giving_way (Some (fill b ns (assemble (Some n) f))) ≡ false
+giving_node : (b : ℕ) (ns : List ℕ) (f : ℕ → Term) (n : Node) → n ≢ node.Cede → is_yielding (Some (fill b ns (assemble (Some n) f))) ≡ false
 giving_node b ns f node.Cede h = absurd (h refl)
 giving_node b ns f n h = refl
 
 -- a fiber that stands at a leaf
-module _ (nodes : List Node) (s : Standing) (id : NodeId) (n : Node) (at : StandsAt nodes s id n) where
+module _ (nodes : List Node) (s : Machine) (id : NodeId) (n : Node) (at : IsEvaluating nodes s id n) where
   pub levels : HasLevels at.sound.bound (assemble (Some n) (term_of nodes))
-  levels = levels_at nodes s.registers s.frames s.masks s.cleanups s.place id n at.place at.node at.sound
+  levels = levels_at nodes s.registers s.frames s.masks s.cleanups s.focus id n at.focus at.node at.sound
 
   pub child : (c : NodeId) (d : ℕ) → c.0 < id.0 → HasLevels d (term_of nodes c.0) → IsNode nodes d c
-  child = child_node nodes s.registers s.frames s.masks s.cleanups s.place id n at.place at.node at.sound
+  child = child_node nodes s.registers s.frames s.masks s.cleanups s.focus id n at.focus at.node at.sound
 
   -- there is a register for its argument
   pub arg_within : (a : Arg) → IsArgBelow at.sound.bound a → IsArgBelow (length s.registers) a
   arg_within a h = arg_in_registers at.sound.bound (length s.registers) a h at.sound.fits
 
-  pub inner_at : inner nodes s.registers s.place ≡ fill (length s.registers) s.registers (assemble (Some n) (term_of nodes))
-  inner_at = inner_is nodes s.registers s.frames s.masks s.cleanups s.place id n at.place at.node at.sound _ refl
+  pub inner_at : inner nodes s.registers s.focus ≡ fill (length s.registers) s.registers (assemble (Some n) (term_of nodes))
+  inner_at = inner_is nodes s.registers s.frames s.masks s.cleanups s.focus id n at.focus at.node at.sound _ refl
+
+  -- it is at `canceled` where the node is that
+  pub canceled_at : is_canceled_form (inner nodes s.registers s.focus) ≡ is_canceled_node n
+  canceled_at = ap is_canceled_form inner_at ∙ canceled_node (length s.registers) s.registers (term_of nodes) n
 
   -- the row of the leaf is a step
-  pub row_at : IsLeafNode (Some n) → is_due nodes s ≡ false → (d : Counts) (l : Label) (t t' : Term) (p : Progress) → fill (length s.registers) s.registers (assemble (Some n) (term_of nodes)) ≡ t
-      → p ≡ running nodes s.registers s.cleanups (within nodes s.registers s.frames s.masks.regions t') → ((k : Bool) → k ≡ not (is_none_closed s.masks.regions) → Row k (counts_of s) t l d t') → Step (counts_of s) (progress_of nodes s) l d p
+  pub row_at : IsLeafNode (Some n) → must_cancel_machine nodes s ≡ false → (d : Counts) (l : Label) (t t' : Term) (p : Progress)
+      → fill (length s.registers) s.registers (assemble (Some n) (term_of nodes)) ≡ t
+      → p ≡ running nodes s.registers s.cleanups (within nodes s.registers s.frames s.masks.regions t')
+      → ((k : Bool) → k ≡ not (is_none_closed s.masks.regions) → Row k (counts_of s) t l d t') → Step (counts_of s) (progress_of nodes s) l d p
   row_at leaf free d l t t' p e is go =
-      let step = leaf_step nodes s.registers s.frames s.masks s.cleanups s.place id n at.place at.node at.sound (counts_of s) d l t _ e leaf free
+      let step = leaf_step nodes s.registers s.frames s.masks s.cleanups s.focus id n at.focus at.node at.sound (counts_of s) d l t _ e leaf free
       (λ k h. row_within nodes s.registers k (counts_of s) d l s.frames s.masks.regions t t' (go k h)) in
       rw is step
 
   -- the leaf of what the fiber runs
   leaf_here : IsLeafNode (Some n) → leaf_at (progress_of nodes s) ≡ Some (fill (length s.registers) s.registers (assemble (Some n) (term_of nodes)))
-  leaf_here leaf = leaf_is nodes s.registers s.frames s.masks s.cleanups s.place id n at.place at.node at.sound leaf
+  leaf_here leaf = leaf_is nodes s.registers s.frames s.masks s.cleanups s.focus id n at.focus at.node at.sound leaf
 
   -- a rule of another leaf is not that of `cede`
-  pub leaf_is_no_cede : IsLeafNode (Some n) → n ≢ node.Cede → is_giving_way (leaf_at (progress_of nodes s)) ≡ false
-  leaf_is_no_cede leaf other = ap is_giving_way (leaf_here leaf) ∙ giving_node (length s.registers) s.registers (term_of nodes) n other
+  pub leaf_is_no_cede : IsLeafNode (Some n) → n ≢ node.Cede → is_yielding (leaf_at (progress_of nodes s)) ≡ false
+  leaf_is_no_cede leaf other = ap is_yielding (leaf_here leaf) ∙ giving_node (length s.registers) s.registers (term_of nodes) n other
 
-pub leaf_at_cede : (nodes : List Node) (s : Standing) (id : NodeId) → StandsAt nodes s id node.Cede → leaf_at (progress_of nodes s) ≡ Some Cede
+pub leaf_at_cede : (nodes : List Node) (s : Machine) (id : NodeId) → IsEvaluating nodes s id node.Cede → leaf_at (progress_of nodes s) ≡ Some Cede
 leaf_at_cede nodes s id at = leaf_here nodes s id node.Cede at tt
 
 -- where the fiber waits
-pub never_waits : (nodes : List Node) (s : Standing) (id : NodeId) → StandsAt nodes s id node.Never → is_due nodes s ≡ false → WaitsAt nodes s s
+pub never_waits : (nodes : List Node) (s : Machine) (id : NodeId) → IsEvaluating nodes s id node.Never → must_cancel_machine nodes s ≡ false → WaitsAt nodes s s
 never_waits nodes s id at free = record {
   leaf = leaf_here nodes s id node.Never at tt;
-  free = leaf_is_free nodes s.registers s.frames s.masks s.cleanups s.place id node.Never at.place at.node at.sound tt s.known free;
-  same = record { progress = refl; counts = refl };
+  free = leaf_is_free nodes s.registers s.frames s.masks s.cleanups s.focus id node.Never at.focus at.node at.sound tt s.known free;
+  same = record { sound = at.sound; progress = refl; counts = refl };
 }
 
 -- where `canceled` does not cancel, the place is closed
-pub closed_at_canceled : (nodes : List Node) (s : Standing) (id : NodeId) → StandsAt nodes s id node.Canceled → is_due nodes s ≡ false → is_open_standing s ≡ false
+pub closed_at_canceled : (nodes : List Node) (s : Machine) (id : NodeId) → IsEvaluating nodes s id node.Canceled → must_cancel_machine nodes s ≡ false
+    → is_open_machine s ≡ false
 closed_at_canceled nodes s id at free =
     let free' : (is_none_closed s.masks.regions && (s.known || true)) ≡ false = rw (inner_at nodes s id node.Canceled at) at free in
     by_tests (is_none_closed s.masks.regions) s.known free'
@@ -92,11 +100,8 @@ closed_at_canceled nodes s id at free =
     by_tests true false h = h
     by_tests false b h = refl
 
-pub free_where_closed : (nodes : List Node) (s : Standing) → is_open_standing s ≡ false → is_due nodes s ≡ false
-free_where_closed nodes s shut = rw shut refl
-
 -- a fiber that stands at an `if`
-module _ (nodes : List Node) (s : Standing) (id : NodeId) (v : Arg) (part other : NodeId) (at : StandsAt nodes s id (node.If v part other)) where
+module _ (nodes : List Node) (s : Machine) (id : NodeId) (v : Arg) (part other : NodeId) (at : IsEvaluating nodes s id (node.If v part other)) where
   if_levels : IsArgBelow at.sound.bound v × HasLevels at.sound.bound (term_of nodes part.0) × HasLevels at.sound.bound (term_of nodes other.0)
   if_levels = levels nodes s id (node.If v part other) at
 
@@ -104,47 +109,56 @@ module _ (nodes : List Node) (s : Standing) (id : NodeId) (v : Arg) (part other 
   value_within = arg_within nodes s id (node.If v part other) at v if_levels.0
 
   below : All (λ c. c < id.0) (part.0 ∷ other.0 ∷ [])
-  below = child_before nodes s.registers s.frames s.masks s.cleanups s.place id (node.If v part other) at.place at.node at.sound
+  below = child_before nodes s.registers s.frames s.masks s.cleanups s.focus id (node.If v part other) at.focus at.node at.sound
 
-  chosen_sound : (c : NodeId) → c.0 < id.0 → HasLevels at.sound.bound (term_of nodes c.0) → IsSound nodes s.registers s.frames s.masks s.cleanups (At c)
+  chosen_sound : (c : NodeId) → c.0 < id.0 → HasLevels at.sound.bound (term_of nodes c.0) → IsSound nodes s.registers s.frames s.masks s.cleanups (Eval c)
   chosen_sound c before reach = record {
     tree = at.sound.tree;
     bound = at.sound.bound;
     fits = at.sound.fits;
-    place_in = child nodes s id (node.If v part other) at c _ before reach;
+    focus_in = child nodes s id (node.If v part other) at c _ before reach;
     frames_in = at.sound.frames_in;
     closed = at.sound.closed;
     room = at.sound.room;
     between = tt;
   }
 
-  pub part_sound : IsSound nodes s.registers s.frames s.masks s.cleanups (At part)
+  pub part_sound : IsSound nodes s.registers s.frames s.masks s.cleanups (Eval part)
   part_sound = chosen_sound part (below 0 0 (omega arith)) if_levels.1
 
-  pub other_sound : IsSound nodes s.registers s.frames s.masks s.cleanups (At other)
+  pub other_sound : IsSound nodes s.registers s.frames s.masks s.cleanups (Eval other)
   other_sound = chosen_sound other (below 1 0 (omega arith)) if_levels.2
 
-  module _ (n : ℕ) (number : fill_arg (length s.registers) s.registers v ≡ Number n) (free : is_due nodes s ≡ false) where
-    chosen_step : (c : NodeId) → ((k : Bool) → Row k (counts_of s) (If (Number n) (filled nodes s.registers part) (filled nodes s.registers other)) Silent (counts_of s) (filled nodes s.registers c)) → Step (counts_of s) (progress_of nodes s) Silent (counts_of s) (progress_at nodes s.registers s.frames s.masks.regions s.cleanups (At c))
-    chosen_step c go = row_at nodes s id (node.If v part other) at tt free (counts_of s) Silent _ (filled nodes s.registers c) _ (ap (λ (a : Arg). If a (filled nodes s.registers part) (filled nodes s.registers other)) number) refl (λ k h. go k)
+  module _ (n : ℕ) (number : fill_arg (length s.registers) s.registers v ≡ Number n) (free : must_cancel_machine nodes s ≡ false) where
+    chosen_step : (c : NodeId)
+        →
+        ((k : Bool) → Row k (counts_of s) (If (Number n) (filled nodes s.registers part) (filled nodes s.registers other)) Silent (counts_of s) (filled nodes s.registers c))
+        → Step (counts_of s) (progress_of nodes s) Silent (counts_of s) (progress_at nodes s.registers s.frames s.masks.regions s.cleanups (Eval c))
+    chosen_step c go = row_at nodes s id (node.If v part other) at tt free (counts_of s) Silent _ (filled nodes s.registers c) _
+        (ap (λ (a : Arg). If a (filled nodes s.registers part) (filled nodes s.registers other)) number) refl (λ k h. go k)
 
-    pub part_step : n ≢ 0 → Step (counts_of s) (progress_of nodes s) Silent (counts_of s) (progress_at nodes s.registers s.frames s.masks.regions s.cleanups (At part))
+    pub part_step : n ≢ 0
+        → Step (counts_of s) (progress_of nodes s) Silent (counts_of s) (progress_at nodes s.registers s.frames s.masks.regions s.cleanups (Eval part))
     part_step some = chosen_step part (by_number n some)
       where
-        by_number : (n : ℕ) → n ≢ 0 → (k : Bool) → Row k (counts_of s) (If (Number n) (filled nodes s.registers part) (filled nodes s.registers other)) Silent (counts_of s) (filled nodes s.registers part)
+        by_number : (n : ℕ) → n ≢ 0 → (k : Bool)
+            → Row k (counts_of s) (If (Number n) (filled nodes s.registers part) (filled nodes s.registers other)) Silent (counts_of s)
+            (filled nodes s.registers part)
         by_number zero some k = absurd (some refl)
         by_number (suc n) some k = if_not_zero
 
-    pub other_step : n ≡ 0 → Step (counts_of s) (progress_of nodes s) Silent (counts_of s) (progress_at nodes s.registers s.frames s.masks.regions s.cleanups (At other))
+    pub other_step : n ≡ 0
+        → Step (counts_of s) (progress_of nodes s) Silent (counts_of s) (progress_at nodes s.registers s.frames s.masks.regions s.cleanups (Eval other))
     other_step none = chosen_step other (λ k. rw none if_zero)
 
 -- a fiber that stands at a mask
-module _ (nodes : List Node) (s : Standing) (id : NodeId) (p : ℕ) (part : NodeId) (at : StandsAt nodes s id (node.Mask p part)) where
+module _ (nodes : List Node) (s : Machine) (id : NodeId) (p : ℕ) (part : NodeId) (at : IsEvaluating nodes s id (node.Mask p part)) where
   mask_levels : (p ≡ at.sound.bound) × HasLevels (suc at.sound.bound) (term_of nodes part.0)
   mask_levels = levels nodes s id (node.Mask p part) at
 
   part_bound : IsBound nodes at.sound.bound (Some p) part
-  part_bound = record { binder = mask_levels.0; node = child nodes s id (node.Mask p part) at part _ (child_before nodes s.registers s.frames s.masks s.cleanups s.place id (node.Mask p part) at.place at.node at.sound 0 0 (omega arith)) mask_levels.1 }
+  part_bound =
+      record { binder = mask_levels.0; node = child nodes s id (node.Mask p part) at part _ (child_before nodes s.registers s.frames s.masks s.cleanups s.focus id (node.Mask p part) at.focus at.node at.sound 0 0 (omega arith)) mask_levels.1 }
 
   pub mask_reaches : p ≤ length s.registers
   mask_reaches = let e = mask_levels.0 in let f = at.sound.fits in omega arith
@@ -157,47 +171,49 @@ module _ (nodes : List Node) (s : Standing) (id : NodeId) (p : ℕ) (part : Node
     agree i h = let e = mask_levels.0 in agree_below p n s.registers mask_reaches i (omega arith)
 
     -- the register of its name is in scope only inside
-    pub mask_register_sound : IsSound nodes (with_number (Some p) n s.registers) s.frames s.masks s.cleanups s.place
+    pub mask_register_sound : IsSound nodes (with_number (Some p) n s.registers) s.frames s.masks s.cleanups s.focus
     mask_register_sound = record {
       tree = at.sound.tree;
       bound = at.sound.bound;
       fits = let h = fits_more in omega arith;
-      place_in = at.sound.place_in;
+      focus_in = at.sound.focus_in;
       frames_in = at.sound.frames_in;
       closed = at.sound.closed;
       room = at.sound.room;
       between = at.sound.between;
     }
 
-    pub mask_register_same : progress_at nodes (with_number (Some p) n s.registers) s.frames s.masks.regions s.cleanups s.place ≡ progress_of nodes s
+    pub mask_register_same : progress_at nodes (with_number (Some p) n s.registers) s.frames s.masks.regions s.cleanups s.focus ≡ progress_of nodes s
     mask_register_same =
         let h : at.sound.bound ≤ length (with_number (Some p) n s.registers) = let h = fits_more in omega arith in
-        let here : IsNode nodes at.sound.bound id = rw at.place at at.sound.place_in in
+        let here : IsNode nodes at.sound.bound id = rw at.focus at at.sound.focus_in in
         let inside = filled_same nodes s.registers (with_number (Some p) n s.registers) at.sound.bound id here at.sound.fits h agree in
-        let around = running_same nodes s.registers (with_number (Some p) n s.registers) at.sound.bound s.frames s.masks.regions s.cleanups (filled nodes (with_number (Some p) n s.registers) id) at.sound.frames_in at.sound.fits h agree in
-        rw at.place (sym around ∙ ap (λ (t : Term). running nodes s.registers s.cleanups (within nodes s.registers s.frames s.masks.regions t)) (sym inside))
+        let around = running_same nodes s.registers (with_number (Some p) n s.registers) at.sound.bound s.frames s.masks.regions s.cleanups
+        (filled nodes (with_number (Some p) n s.registers) id) at.sound.frames_in at.sound.fits h agree in
+        rw at.focus (sym around ∙ ap (λ (t : Term). running nodes s.registers s.cleanups (within nodes s.registers s.frames s.masks.regions t)) (sym inside))
 
     -- so the fiber has come no further by it
-    pub mask_register_stays : (t : Standing) → t ≡ record s { registers = with_number (Some p) n s.registers } → IsSame nodes s t
-    mask_register_stays t e = rw e (record { progress = mask_register_same; counts = refl })
+    pub mask_register_stays : (t : Machine) → t ≡ record s { registers = with_number (Some p) n s.registers } → IsSame nodes s t
+    mask_register_stays t e = rw e (record { sound = mask_register_sound; progress = mask_register_same; counts = refl })
 
-    pub mask_sound : IsSound nodes (with_number (Some p) n s.registers) (frame.Masked ∷ s.frames) (entered s.masks) s.cleanups (At part)
+    pub mask_sound : IsSound nodes (with_number (Some p) n s.registers) (frame.Masked ∷ s.frames) (entered s.masks) s.cleanups (Eval part)
     mask_sound = record {
       tree = at.sound.tree;
       bound = suc at.sound.bound;
       fits = fits_more;
-      place_in = part_bound.node;
+      focus_in = part_bound.node;
       frames_in = (at.sound.bound, omega arith, tt, at.sound.frames_in);
       closed = ((s.masks.entries, s.masks.regions, refl), at.sound.closed);
       room = at.sound.room;
       between = tt;
     }
 
-  pub mask_step : is_due nodes s ≡ false → (ns : List ℕ) → ns ≡ with_number (Some p) s.masks.entries s.registers
-      → Step (counts_of s) (progress_of nodes s) Silent (one_more_mask (counts_of s)) (progress_at nodes ns (frame.Masked ∷ s.frames) (entered s.masks).regions s.cleanups (At part))
+  pub mask_step : must_cancel_machine nodes s ≡ false → (ns : List ℕ) → ns ≡ with_number (Some p) s.masks.entries s.registers
+      → Step (counts_of s) (progress_of nodes s) Silent (one_more_mask (counts_of s))
+      (progress_at nodes ns (frame.Masked ∷ s.frames) (entered s.masks).regions s.cleanups (Eval part))
   mask_step free ns e =
       row_at nodes s id (node.Mask p part) at tt free (one_more_mask (counts_of s)) Silent _ _ _ refl
-      (ap (λ (ms : List ℕ). progress_at nodes ms (frame.Masked ∷ s.frames) (entered s.masks).regions s.cleanups (At part)) e ∙ sym (running_named nodes s.registers s.masks.entries at.sound.bound part at.sound.fits (λ t. Masked s.masks.entries t) (Some p) s.frames s.masks.regions s.cleanups part_bound at.sound.frames_in))
+      (ap (λ (ms : List ℕ). progress_at nodes ms (frame.Masked ∷ s.frames) (entered s.masks).regions s.cleanups (Eval part)) e ∙ sym (running_named nodes s.registers s.masks.entries at.sound.bound part at.sound.fits (λ t. Masked s.masks.entries t) (Some p) s.frames s.masks.regions s.cleanups part_bound at.sound.frames_in))
       (λ k h. mask)
 
 -- what a poll leaves closed, whether it took its region off or not
@@ -210,16 +226,18 @@ module _ (r : ℕ) (old new : MasksView) where
   opened_entries true h = h.entries
   opened_entries false h = rw h refl
 
-  pub opened_room : (took_off : Bool) (region : mask_region.Region) (fs : List Frame) → MatchBool took_off (IsOpened r old new) (new ≡ old) → taken_off fs ≤ old.opened → taken_off (frame.Opened region took_off ∷ fs) ≤ new.opened
+  pub opened_room : (took_off : Bool) (region : mask_region.Region) (fs : List Frame) → MatchBool took_off (IsOpened r old new) (new ≡ old)
+      → taken_off fs ≤ old.opened → taken_off (frame.Opened region took_off ∷ fs) ≤ new.opened
   opened_room true region fs h p = let e = h.count in omega arith
   opened_room false region fs h p = rw h p
 
-  pub opened_closed : (took_off : Bool) (region : mask_region.Region) → region.0 ≡ r → MatchBool took_off (IsOpened r old new) (new ≡ old) → new.regions ≡ without_region r old.regions → IsClosedBy (frame.Opened region took_off) new.regions
+  pub opened_closed : (took_off : Bool) (region : mask_region.Region) → region.0 ≡ r → MatchBool took_off (IsOpened r old new) (new ≡ old)
+      → new.regions ≡ without_region r old.regions → IsClosedBy (frame.Opened region took_off) new.regions
   opened_closed true region e h w = tt
   opened_closed false region e h w = rw (e, h) (sym (rw h at w))
 
 -- a fiber that stands at a poll
-module _ (nodes : List Node) (s : Standing) (id : NodeId) (p : ℕ) (part : NodeId) (at : StandsAt nodes s id (node.Poll p part)) where
+module _ (nodes : List Node) (s : Machine) (id : NodeId) (p : ℕ) (part : NodeId) (at : IsEvaluating nodes s id (node.Poll p part)) where
   poll_levels : (p < at.sound.bound) × HasLevels at.sound.bound (term_of nodes part.0)
   poll_levels = levels nodes s id (node.Poll p part) at
 
@@ -227,19 +245,23 @@ module _ (nodes : List Node) (s : Standing) (id : NodeId) (p : ℕ) (part : Node
   poll_within = arg_within nodes s id (node.Poll p part) at (Slot p) poll_levels.0
 
   module _ (region : mask_region.Region) (took_off : Bool) (m : MasksView) (opens : MatchBool took_off (IsOpened region.0 s.masks m) (m ≡ s.masks)) where
-    pub poll_sound : m.regions ≡ without_region region.0 s.masks.regions → IsSound nodes s.registers (frame.Opened region took_off ∷ s.frames) m s.cleanups (At part)
+    pub poll_sound : m.regions ≡ without_region region.0 s.masks.regions
+        → IsSound nodes s.registers (frame.Opened region took_off ∷ s.frames) m s.cleanups (Eval part)
     poll_sound w = record {
       tree = at.sound.tree;
       bound = at.sound.bound;
       fits = at.sound.fits;
-      place_in = child nodes s id (node.Poll p part) at part _ (child_before nodes s.registers s.frames s.masks s.cleanups s.place id (node.Poll p part) at.place at.node at.sound 0 0 (omega arith)) poll_levels.1;
+      focus_in = child nodes s id (node.Poll p part) at part _
+          (child_before nodes s.registers s.frames s.masks s.cleanups s.focus id (node.Poll p part) at.focus at.node at.sound 0 0 (omega arith)) poll_levels.1;
       frames_in = (at.sound.bound, omega arith, tt, at.sound.frames_in);
       closed = (opened_closed region.0 s.masks m took_off region refl opens w, rw (opened_again region.0 s.masks m took_off opens) at.sound.closed);
       room = opened_room region.0 s.masks m took_off region s.frames opens at.sound.room;
       between = tt;
     }
 
-    pub poll_step : fill_arg (length s.registers) s.registers (Slot p) ≡ Number region.0 → is_due nodes s ≡ false → (d : Counts) (q : Progress) → d ≡ counts_of s → q ≡ progress_at nodes s.registers (frame.Opened region took_off ∷ s.frames) m.regions s.cleanups (At part)
+    pub poll_step : fill_arg (length s.registers) s.registers (Slot p) ≡ Number region.0 → must_cancel_machine nodes s ≡ false
+        → (d : Counts) (q : Progress) → d ≡ counts_of s
+        → q ≡ progress_at nodes s.registers (frame.Opened region took_off ∷ s.frames) m.regions s.cleanups (Eval part)
         → Step (counts_of s) (progress_of nodes s) Silent d q
     poll_step number free d q same e =
         rw same (row_at nodes s id (node.Poll p part) at tt free (counts_of s) Silent (Poll (Number region.0) (filled nodes s.registers part)) _ q (ap (λ (a : Arg). Poll a (filled nodes s.registers part)) number)

@@ -1,3 +1,8 @@
+pub mod Paths
+pub mod RowLabels
+pub mod Cleanups
+pub mod Work
+pub mod WorkOfCode
 pub mod Contexts
 pub mod Numbers
 pub mod Rules
@@ -7,12 +12,13 @@ pub mod Results
 pub mod Loops
 pub mod Resources
 pub mod Unwindings
-pub mod EntriesLaws
 pub mod Ends
 pub mod Looks
-pub mod Keeping
+pub mod Advances
+pub mod Ranges
+pub mod Waits
 pub mod Beginnings
-pub mod CoreTerms
+pub mod Keeping
 pub mod PairedMasks
 pub mod CancelledSteps
 pub mod RunningTerms
@@ -23,7 +29,6 @@ pub mod AcquiredNumbers
 pub mod BalancedRuns
 pub mod MaskPairs
 pub mod PlainCode
-pub mod NameUses
 pub mod Alike
 pub mod AlikeRows
 pub mod AlikePaths
@@ -34,3 +39,11 @@ pub mod ShownRuns
 pub mod MaskedRuns
 pub mod MaskEntering
 pub mod MaskLaws
+pub mod Mapped
+pub mod Names
+pub mod Simple
+pub mod Moves
+pub mod Nexts
+pub mod ForcedTerms
+pub mod PutScopes
+pub mod ScopedRuns

@@ -2,25 +2,34 @@
 use Rattle.std.proofs.Common.{◌≡◌, ◌≢◌, ℕ, true, false, List, [], ◌∷◌, refl, sym, ◌∙◌}
 use Rattle.std.proofs.lemmas.Bool.{eq-eqb, ne_eqb}
 use Rattle.fx_term.specs.declared.node.Arg.TheVariants.{Number, Slot}
-use Rattle.fx_term.specs.Term.{Term, Mask, Poll, Masked, Opened, put_arg, put}
+use Rattle.fx_term.specs.Term.{Term, Mask, Poll, OnCancel, Masked, Opened, put_arg, put}
 use Rattle.fx_mask.specs.Closing.{is_none_closed}
-use Rattle.fx_fiber.specs.Row.{Counts, Label, Silent, one_more_mask, mask, poll}
-use Rattle.fx_fiber.proofs.Wrapped.{Wrap, Closes, Opens, wrapped, closes, open_wrapped, row_wrapped, RowOfWrapped, moves, row_of_wrapped}
+use Rattle.fx_fiber.specs.Row.{Counts, Label, Silent, one_more_mask, mask, poll, inside}
+use Rattle.fx_fiber.proofs.Wrapped.{Wrap, Closes, Opens, Cleans, wrapped, closes, open_wrapped, row_wrapped, RowOfWrapped, moves, row_of_wrapped}
+use Rattle.fx_fiber.proofs.Paths.{no_context}
 use Rattle.fx_fiber.proofs.ShownRuns.{Enters, entered, enters}
 
-only_mask : {c d : Counts} {l : Label} {p : ℕ} {t u : Term} {ws : List Wrap} → RowOfWrapped true c ws (Mask p t) l d u → (l ≡ Silent) × (d ≡ one_more_mask c) × (u ≡ wrapped (Closes c.masks ∷ ws) (put p c.masks t))
+only_mask : {c d : Counts} {l : Label} {p : ℕ} {t u : Term} {ws : List Wrap} → RowOfWrapped true c ws (Mask p t) l d u
+    → (l ≡ Silent) × (d ≡ one_more_mask c) × (u ≡ wrapped (Closes c.masks ∷ ws) (put p c.masks t))
 only_mask (moves mask) = (refl, refl, refl)
+only_mask (moves (inside f e g r)) = absurd (no_context f _ _ refl e)
 
-only_poll : {c d : Counts} {l : Label} {r : ℕ} {t u : Term} {ws : List Wrap} → RowOfWrapped true c ws (Poll (Number r) t) l d u → (l ≡ Silent) × (d ≡ c) × (u ≡ wrapped (Opens r ∷ ws) t)
+only_poll : {c d : Counts} {l : Label} {r : ℕ} {t u : Term} {ws : List Wrap} → RowOfWrapped true c ws (Poll (Number r) t) l d u
+    → (l ≡ Silent) × (d ≡ c) × (u ≡ wrapped (Opens r ∷ ws) t)
 only_poll (moves poll) = (refl, refl, refl)
+only_poll (moves (inside f e g r)) = absurd (no_context f _ _ refl e)
 
 -- a mask at a closed place is entered, whatever comes next
-enter_mask : {c d : Counts} {v : Term} (ws : List Wrap) (p : ℕ) (t : Term) → is_none_closed (closes ws) ≡ false → Enters (one_more_mask c) (wrapped (Closes c.masks ∷ ws) (put p c.masks t)) d v → Enters c (wrapped ws (Mask p t)) d v
-enter_mask ws p t closed rest = enters (open_wrapped ws (Mask p t) ∙ closed) (row_wrapped ws mask) (λ l d u r. only_mask (row_of_wrapped ws (Mask p t) u r)) rest
+enter_mask : {c d : Counts} {v : Term} (ws : List Wrap) (p : ℕ) (t : Term) → is_none_closed (closes ws) ≡ false
+    → Enters (one_more_mask c) (wrapped (Closes c.masks ∷ ws) (put p c.masks t)) d v → Enters c (wrapped ws (Mask p t)) d v
+enter_mask ws p t closed rest =
+    enters (open_wrapped ws (Mask p t) ∙ closed) (row_wrapped ws mask) (λ l d u r. only_mask (row_of_wrapped ws (Mask p t) u r)) rest
 
 -- and so is a poll
-enter_poll : {c d : Counts} {v : Term} (ws : List Wrap) (r : ℕ) (t : Term) → is_none_closed (closes ws) ≡ false → Enters c (wrapped (Opens r ∷ ws) t) d v → Enters c (wrapped ws (Poll (Number r) t)) d v
-enter_poll ws r t closed rest = enters (open_wrapped ws (Poll (Number r) t) ∙ closed) (row_wrapped ws poll) (λ l d u h. only_poll (row_of_wrapped ws (Poll (Number r) t) u h)) rest
+enter_poll : {c d : Counts} {v : Term} (ws : List Wrap) (r : ℕ) (t : Term) → is_none_closed (closes ws) ≡ false → Enters c (wrapped (Opens r ∷ ws) t) d v
+    → Enters c (wrapped ws (Poll (Number r) t)) d v
+enter_poll ws r t closed rest =
+    enters (open_wrapped ws (Poll (Number r) t) ∙ closed) (row_wrapped ws poll) (λ l d u h. only_poll (row_of_wrapped ws (Poll (Number r) t) u h)) rest
 
 put_self : (x n : ℕ) → put_arg x n (Slot x) ≡ Number n
 put_self x n = rw (eq-eqb x x refl) refl
@@ -47,9 +56,18 @@ module _ (p : ℕ) (t : Term) (p_unused : (n : ℕ) → put p n t ≡ t) where
   pub enters_own_poll : MaskLeadsInto p (Poll (Slot p) t) 1 (Opens 0 ∷ Closes 0 ∷ []) t
   enters_own_poll next end = rw (put_self p 0, p_unused 0) (enter_poll (Closes 0 ∷ []) 0 t refl entered)
 
+  -- a finalizer that stands directly inside the mask
+  pub enters_finalizer : (f : Term) → MaskLeadsInto p (OnCancel t f) 1 (Cleans (put p 0 f) ∷ Closes 0 ∷ []) t
+  enters_finalizer f next end = rw (p_unused 0) entered
+
   module _ (r : ℕ) (other : p ≢ r) (r_unused : (n : ℕ) → put r n t ≡ t) where
     pub enters_two : MaskLeadsInto p (Mask r t) 2 (Closes 1 ∷ Closes 0 ∷ []) t
     enters_two next end = rw (p_unused 0) (enter_mask (Closes 0 ∷ []) r t refl (rw (r_unused 1) entered))
 
     pub enters_inverse : MaskLeadsInto p (Mask r (Poll (Slot p) (Poll (Slot r) t))) 2 (Opens 1 ∷ Opens 0 ∷ Closes 1 ∷ Closes 0 ∷ []) t
-    enters_inverse next end = rw (put_self p 0, put_other p r 0 other, p_unused 0) (enter_mask (Closes 0 ∷ []) r (Poll (Number 0) (Poll (Slot r) t)) refl (rw (put_self r 1, r_unused 1) (both_polls t)))
+    enters_inverse next end =
+        rw (
+          put_self p 0,
+          put_other p r 0 other,
+          p_unused 0,
+        ) (enter_mask (Closes 0 ∷ []) r (Poll (Number 0) (Poll (Slot r) t)) refl (rw (put_self r 1, r_unused 1) (both_polls t)))

@@ -6,36 +6,45 @@ use Rattle.fx_term.specs.declared.event.Event.TheVariants as event
 use Rattle.fx_fiber.specs.Row.{Label, Silent, Shows, Learns, Starts}
 use Rattle.fx_fiber.specs.Run.{events}
 use Rattle.fx_fiber.specs.Balanced.{IsOfNoResource, IsNested, nothing, other, resource, appended, acquired_number, acquired_numbers}
-use Rattle.fx_fiber.proofs.HeldResources.{Held, InUse, InRelease}
+use Rattle.fx_fiber.proofs.HeldResources.{Held, Unreleased, BeingReleased}
 
 -- each resource was acquired, and the release of one that is in release has begun; the events between are nested
 abbrev pub LeadsTo : List Held → List Event → Type 0
 LeadsTo [] es = IsNested es
-LeadsTo (InUse k ∷ outer) es = (w : List Event) × (x : List Event) × LeadsTo outer w × IsNested x × (es ≡ w ++ event.Acquired k ∷ x)
-LeadsTo (InRelease k ∷ outer) es = (w : List Event) × (x : List Event) × (y : List Event) × LeadsTo outer w × IsNested x × IsNested y × (es ≡ w ++ event.Acquired k ∷ (x ++ event.Begin k ∷ y))
+LeadsTo (Unreleased k ∷ outer) es = (w : List Event) × (x : List Event) × LeadsTo outer w × IsNested x × (es ≡ w ++ event.Acquired k ∷ x)
+LeadsTo (BeingReleased k ∷ outer) es =
+    (w : List Event) × (x : List Event) × (y : List Event) × LeadsTo outer w × IsNested x × IsNested y × (es ≡ w ++ event.Acquired k ∷ (x ++ event.Begin k ∷ y))
 
 leads_more : (s : List Held) (es fs : List Event) → LeadsTo s es → IsNested fs → LeadsTo s (es ++ fs)
 leads_more [] es fs h n = appended h n
-leads_more (InUse k ∷ s) es fs h n = (h.0, h.1 ++ fs, h.2, appended h.3 n, rw h.4 (append_assoc h.0 (event.Acquired k ∷ h.1) fs))
-leads_more (InRelease k ∷ s) es fs h n =
-    (h.0, h.1, h.2 ++ fs, h.3, h.4, appended h.5 n, rw h.6 (rw (append_assoc h.0 (event.Acquired k ∷ (h.1 ++ event.Begin k ∷ h.2)) fs, append_assoc h.1 (event.Begin k ∷ h.2) fs) refl))
+leads_more (Unreleased k ∷ s) es fs h n = (h.0, h.1 ++ fs, h.2, appended h.3 n, rw h.4 (append_assoc h.0 (event.Acquired k ∷ h.1) fs))
+leads_more (BeingReleased k ∷ s) es fs h n = (
+  h.0,
+  h.1,
+  h.2 ++ fs,
+  h.3,
+  h.4,
+  appended h.5 n,
+  rw h.6 (rw (append_assoc h.0 (event.Acquired k ∷ (h.1 ++ event.Begin k ∷ h.2)) fs, append_assoc h.1 (event.Begin k ∷ h.2) fs) refl),
+)
 
-acquires : (s : List Held) (k : ℕ) (es : List Event) → LeadsTo s es → LeadsTo (InUse k ∷ s) (es ++ event.Acquired k ∷ [])
+acquires : (s : List Held) (k : ℕ) (es : List Event) → LeadsTo s es → LeadsTo (Unreleased k ∷ s) (es ++ event.Acquired k ∷ [])
 acquires s k es h = (es, [], h, nothing, refl)
 
-begins : (s : List Held) (k : ℕ) (es : List Event) → LeadsTo (InUse k ∷ s) es → LeadsTo (InRelease k ∷ s) (es ++ event.Begin k ∷ [])
+begins : (s : List Held) (k : ℕ) (es : List Event) → LeadsTo (Unreleased k ∷ s) es → LeadsTo (BeingReleased k ∷ s) (es ++ event.Begin k ∷ [])
 begins s k es h = (h.0, h.1, [], h.2, h.3, nothing, rw h.4 (append_assoc h.0 (event.Acquired k ∷ h.1) (event.Begin k ∷ [])))
 
-ends : (s : List Held) (k : ℕ) (es : List Event) → LeadsTo (InRelease k ∷ s) es → LeadsTo s (es ++ event.End k ∷ [])
+ends : (s : List Held) (k : ℕ) (es : List Event) → LeadsTo (BeingReleased k ∷ s) es → LeadsTo s (es ++ event.End k ∷ [])
 ends s k es h =
-    rw h.6 (rw (append_assoc h.0 (event.Acquired k ∷ (h.1 ++ event.Begin k ∷ h.2)) (event.End k ∷ []), append_assoc h.1 (event.Begin k ∷ h.2) (event.End k ∷ []))
+    rw h.6
+    (rw (append_assoc h.0 (event.Acquired k ∷ (h.1 ++ event.Begin k ∷ h.2)) (event.End k ∷ []), append_assoc h.1 (event.Begin k ∷ h.2) (event.End k ∷ []))
     (leads_more s h.0 (event.Acquired k ∷ (h.1 ++ event.Begin k ∷ (h.2 ++ event.End k ∷ []))) h.3 (resource h.4 h.5)))
 
 -- how a label changes what is held
 abbrev pub Changes : Label → List Held → List Held → Type 0
-Changes (Shows (event.Acquired k)) s s' = s' ≡ InUse k ∷ s
-Changes (Shows (event.Begin k)) s s' = (outer : List Held) × (s ≡ InUse k ∷ outer) × (s' ≡ InRelease k ∷ outer)
-Changes (Shows (event.End k)) s s' = s ≡ InRelease k ∷ s'
+Changes (Shows (event.Acquired k)) s s' = s' ≡ Unreleased k ∷ s
+Changes (Shows (event.Begin k)) s s' = (outer : List Held) × (s ≡ Unreleased k ∷ outer) × (s' ≡ BeingReleased k ∷ outer)
+Changes (Shows (event.End k)) s s' = s ≡ BeingReleased k ∷ s'
 Changes (Learns f o e) s s' = (s' ≡ s) × IsOfNoResource e
 Changes _ s s' = s' ≡ s
 
@@ -60,23 +69,26 @@ changes_lead (Shows e) s s' es c h = rw c (leads_more s es _ h (other tt))
 -- the events that release what is held
 abbrev pub releases : List Held → List Event
 releases [] = []
-releases (InUse k ∷ outer) = event.Begin k ∷ event.End k ∷ releases outer
-releases (InRelease k ∷ outer) = event.End k ∷ releases outer
+releases (Unreleased k ∷ outer) = event.Begin k ∷ event.End k ∷ releases outer
+releases (BeingReleased k ∷ outer) = event.End k ∷ releases outer
 
 releases_acquire_none : (s : List Held) → acquired_numbers (releases s) ≡ []
 releases_acquire_none [] = refl
-releases_acquire_none (InUse k ∷ outer) = releases_acquire_none outer
-releases_acquire_none (InRelease k ∷ outer) = releases_acquire_none outer
+releases_acquire_none (Unreleased k ∷ outer) = releases_acquire_none outer
+releases_acquire_none (BeingReleased k ∷ outer) = releases_acquire_none outer
 
 -- with them no more is acquired
 pub released_acquires_same : (s : List Held) (es : List Event) → acquired_numbers (es ++ releases s) ≡ acquired_numbers es
-released_acquires_same s es = filter_map-append acquired_number es (releases s) ∙ ap (λ (ns : List ℕ). acquired_numbers es ++ ns) (releases_acquire_none s) ∙ append-nil (acquired_numbers es)
+released_acquires_same s es =
+    filter_map-append acquired_number es (releases s) ∙ ap (λ (ns : List ℕ). acquired_numbers es ++ ns) (releases_acquire_none s)
+    ∙ append-nil (acquired_numbers es)
 
 -- and all is nested
 pub released_is_nested : (s : List Held) (es : List Event) → LeadsTo s es → IsNested (es ++ releases s)
 released_is_nested [] es h = rw append-nil h
-released_is_nested (InRelease k ∷ s) es h = subst IsNested (append_assoc es (event.End k ∷ []) (releases s)) (released_is_nested s (es ++ event.End k ∷ []) (ends s k es h))
-released_is_nested (InUse k ∷ s) es h =
+released_is_nested (BeingReleased k ∷ s) es h =
+    subst IsNested (append_assoc es (event.End k ∷ []) (releases s)) (released_is_nested s (es ++ event.End k ∷ []) (ends s k es h))
+released_is_nested (Unreleased k ∷ s) es h =
     let begun = es ++ event.Begin k ∷ [] in
     let step = released_is_nested s (begun ++ event.End k ∷ []) (ends s k begun (begins s k es h)) in
     subst IsNested (append_assoc es (event.Begin k ∷ []) (event.End k ∷ releases s)) (subst IsNested (append_assoc begun (event.End k ∷ []) (releases s)) step)

@@ -1,5 +1,5 @@
 -- A fiber that stands at a node: the term of its leaf, and the context that it enters there.
-use Rattle.std.proofs.Common.{◌≡◌, ℕ, ◌+◌, ◌<◌, ◌≤◌, Bool, false, Option, Some, None, List, [], ◌∷◌, length, refl, sym, ◌∙◌, ap, subst, arith}
+use Rattle.std.proofs.Common.{◌≡◌, ℕ, ◌<◌, ◌≤◌, Bool, false, Option, Some, None, List, [], ◌∷◌, length, refl, sym, ◌∙◌, ap, subst, arith}
 use Rattle.std.specs.Prelude.{All, not, ◌&&◌, ◌||◌, slice_get}
 use Rattle.fx_term.specs.declared.node.Arg.{Arg}
 use Rattle.fx_term.specs.declared.node.Arg.TheVariants.{Number, Slot}
@@ -11,19 +11,20 @@ use Rattle.fx_term.specs.Fill.{fill}
 use Rattle.fx_term.specs.Scope.{IsArgBelow, HasLevels}
 use Rattle.fx_term.specs.Meaning.{assemble, term_of}
 use Rattle.fx_term.specs.Tree.{children, ChildrenComeFirst}
-use Rattle.fx_term.proofs.NodeTerms.{term_of_node}
-use Rattle.fx_mask.specs.Closing.{Closing, Seal, MasksView, is_none_closed}
-use Rattle.fx_mask.specs.Masks.{closed_by}
+use Rattle.fx_term.proofs.NodeTerms.{term_of_node, get_past}
+use Rattle.fx_mask.specs.Closing.{Closing, Seal, is_none_closed}
+use Rattle.fx_mask.specs.Masks.{MasksView, closed_by}
 use Rattle.fx_frames.specs.declared.frame.Frame.{Frame}
 use Rattle.fx_frames.specs.declared.frame.Frame.TheVariants as frame
-use Rattle.fx_fiber.specs.declared.standing.cleaning.Cleaning.{Cleaning}
+use Rattle.fx_fiber.specs.declared.machine.unwound.Unwound.{Unwound}
 use Rattle.fx_fiber.specs.Path.{is_canceled_form}
 use Rattle.fx_fiber.specs.Row.{Counts, Label, Row}
 use Rattle.fx_fiber.specs.Step.{leaf_at, must_cancel_at, Step}
-use Rattle.fx_fiber.specs.declared.standing.place.Place.{Place}
-use Rattle.fx_fiber.specs.declared.standing.place.Place.TheVariants.{At, Gave, Turn, Unwinding, Ended}
-use Rattle.fx_fiber.specs.Standing.{filled, loop_of, inner, outside_frame, masks_inside, within, running, progress_at, taken_off, IsNode, IsBound, IsBracketIn, IsFrameIn, IsClosedBy, IsSound}
-use Rattle.fx_fiber.specs.Rule.{IsLeafNode, IsEntered, IsEntryOf}
+use Rattle.fx_fiber.specs.declared.machine.focus.Focus.{Focus}
+use Rattle.fx_fiber.specs.declared.machine.focus.Focus.TheVariants.{Eval, Return, Turn, Unwinding, Ended}
+use Rattle.fx_fiber.specs.Machine.{filled, loop_of, inner, outside_frame, masks_inside, within, running, progress_at}
+use Rattle.fx_fiber.specs.Sound.{taken_off, IsNode, IsBound, IsLoopIn, IsBracketIn, IsFrameIn, IsClosedBy, IsSound}
+use Rattle.fx_fiber.specs.Methods.{IsLeafNode, IsEntered, IsEntryOf}
 use Rattle.fx_fiber.proofs.Rules.{IsLeafTerm, result_term, row_step, leaf_of_running, free_running}
 
 pub arg_in_registers : (d e : ℕ) (a : Arg) → IsArgBelow d a → d ≤ e → IsArgBelow e a
@@ -42,20 +43,22 @@ loop_term nodes ns cs (Some (node.For i n a)) turn = record { is_leaf = refl; st
 loop_term nodes ns cs o turn = record { is_leaf = refl; stays = refl; nothing = refl }
 
 -- what stands inside all contexts is a leaf, once all are entered
-pub leaf_of_place : (nodes : List Node) (ns : List ℕ) (cs : List Closing) (place : Place) → ChildrenComeFirst nodes → IsEntered nodes place → IsLeafTerm cs (inner nodes ns place)
-leaf_of_place nodes ns cs (At id) tree h = by_node (slice_get nodes id.0) refl h
+pub leaf_of_focus : (nodes : List Node) (ns : List ℕ) (cs : List Closing) (focus : Focus) → ChildrenComeFirst nodes → IsEntered nodes focus
+    → IsLeafTerm cs (inner nodes ns focus)
+leaf_of_focus nodes ns cs (Eval id) tree h = by_node (slice_get nodes id.0) refl h
   where
     by_node : (o : Option Node) → slice_get nodes id.0 ≡ o → IsLeafNode o → IsLeafTerm cs (filled nodes ns id)
     by_node None e h = absurd h
     by_node (Some n) e h = rw (term_of_node nodes tree id.0 n e) (leaf_of_node cs (length ns) ns (term_of nodes) n h)
-leaf_of_place nodes ns cs (Gave v) tree h = result_term cs v
-leaf_of_place nodes ns cs (Turn id turn) tree h = loop_term nodes ns cs (slice_get nodes id.0) turn
-leaf_of_place nodes ns cs Unwinding tree h = record { is_leaf = refl; stays = refl; nothing = refl }
-leaf_of_place nodes ns cs (Ended o) tree h = record { is_leaf = refl; stays = refl; nothing = refl }
+leaf_of_focus nodes ns cs (Return v) tree h = result_term cs v
+leaf_of_focus nodes ns cs (Turn id turn) tree h = loop_term nodes ns cs (slice_get nodes id.0) turn
+leaf_of_focus nodes ns cs Unwinding tree h = record { is_leaf = refl; stays = refl; nothing = refl }
+leaf_of_focus nodes ns cs (Ended o) tree h = record { is_leaf = refl; stays = refl; nothing = refl }
 
-module _ (nodes : List Node) (ns : List ℕ) (fs : List Frame) (m : MasksView) (left : Option Cleaning) (place : Place) (id : NodeId) (n : Node) (here : place ≡ At id) (is : slice_get nodes id.0 ≡ Some n) (sound : IsSound nodes ns fs m left place) where
+module _ (nodes : List Node) (ns : List ℕ) (fs : List Frame) (m : MasksView) (left : Option Unwound) (focus : Focus) (id : NodeId) (n : Node)
+    (here : focus ≡ Eval id) (is : slice_get nodes id.0 ≡ Some n) (sound : IsSound nodes ns fs m left focus) where
   pub node_in : IsNode nodes sound.bound id
-  node_in = rw here at sound.place_in
+  node_in = rw here at sound.focus_in
 
   term_is : term_of nodes id.0 ≡ assemble (Some n) (term_of nodes)
   term_is = term_of_node nodes sound.tree id.0 n is
@@ -66,27 +69,31 @@ module _ (nodes : List Node) (ns : List ℕ) (fs : List Frame) (m : MasksView) (
   pub child_before : All (λ c. c < id.0) (children n)
   child_before = sound.tree id.0 n is
 
-  pub inner_is : (t : Term) → fill (length ns) ns (assemble (Some n) (term_of nodes)) ≡ t → inner nodes ns place ≡ t
+  pub inner_is : (t : Term) → fill (length ns) ns (assemble (Some n) (term_of nodes)) ≡ t → inner nodes ns focus ≡ t
   inner_is t e = rw here (ap (λ (u : Term). fill (length ns) ns u) term_is ∙ e)
 
-  pub progress_is : (t : Term) → fill (length ns) ns (assemble (Some n) (term_of nodes)) ≡ t → progress_at nodes ns fs m.regions left place ≡ running nodes ns left (within nodes ns fs m.regions t)
+  pub progress_is : (t : Term) → fill (length ns) ns (assemble (Some n) (term_of nodes)) ≡ t
+      → progress_at nodes ns fs m.regions left focus ≡ running nodes ns left (within nodes ns fs m.regions t)
   progress_is t e = rw here (ap (λ (u : Term). running nodes ns left (within nodes ns fs m.regions u)) (ap (λ (u : Term). fill (length ns) ns u) term_is ∙ e))
 
   -- the leaf of what the fiber runs
-  pub leaf_is : IsLeafNode (Some n) → leaf_at (progress_at nodes ns fs m.regions left place) ≡ Some (fill (length ns) ns (assemble (Some n) (term_of nodes)))
+  pub leaf_is : IsLeafNode (Some n) → leaf_at (progress_at nodes ns fs m.regions left focus) ≡ Some (fill (length ns) ns (assemble (Some n) (term_of nodes)))
   leaf_is leaf = ap leaf_at (progress_is _ refl) ∙ leaf_of_running nodes ns fs m.regions _ (leaf_of_node m.regions (length ns) ns (term_of nodes) n leaf) left
 
   -- where cancellation is not the one rule at the leaf, it is not the one of the fiber
-  pub leaf_is_free : IsLeafNode (Some n) → (known : Bool) → (is_none_closed m.regions && (known || is_canceled_form (inner nodes ns place))) ≡ false → must_cancel_at known (progress_at nodes ns fs m.regions left place) ≡ false
+  pub leaf_is_free : IsLeafNode (Some n) → (known : Bool) → (is_none_closed m.regions && (known || is_canceled_form (inner nodes ns focus))) ≡ false
+      → must_cancel_at known (progress_at nodes ns fs m.regions left focus) ≡ false
   leaf_is_free leaf known free =
-      let free' : (is_none_closed m.regions && (known || is_canceled_form (fill (length ns) ns (assemble (Some n) (term_of nodes))))) ≡ false = rw (inner_is _ refl) at free in
-      ap (must_cancel_at known) (progress_is _ refl) ∙ free_running nodes ns fs m.regions _ (leaf_of_node m.regions (length ns) ns (term_of nodes) n leaf) left known sound.closed free'
+      let free' : (is_none_closed m.regions && (known || is_canceled_form (fill (length ns) ns (assemble (Some n) (term_of nodes))))) ≡ false = rw
+      (inner_is _ refl) at free in
+      ap (must_cancel_at known) (progress_is _ refl) ∙ free_running nodes ns fs m.regions _
+      (leaf_of_node m.regions (length ns) ns (term_of nodes) n leaf) left known sound.closed free'
 
   -- the row of a leaf
   pub leaf_step : (c d : Counts) (l : Label) (t t' : Term) → fill (length ns) ns (assemble (Some n) (term_of nodes)) ≡ t → IsLeafNode (Some n)
-      → (is_none_closed m.regions && (c.known || is_canceled_form (inner nodes ns place))) ≡ false
+      → (is_none_closed m.regions && (c.known || is_canceled_form (inner nodes ns focus))) ≡ false
       → ((k : Bool) → k ≡ not (is_none_closed m.regions) → Row k c (within nodes ns fs m.regions t) l d t')
-      → Step c (progress_at nodes ns fs m.regions left place) l d (running nodes ns left t')
+      → Step c (progress_at nodes ns fs m.regions left focus) l d (running nodes ns left t')
   leaf_step c d l t t' e leaf free go =
       let term : IsLeafTerm m.regions t = rw e at (leaf_of_node m.regions (length ns) ns (term_of nodes) n leaf) in
       let free' : (is_none_closed m.regions && (c.known || is_canceled_form t)) ≡ false = rw (inner_is t e) at free in
@@ -97,31 +104,35 @@ module _ (nodes : List Node) (ns : List ℕ) (fs : List Frame) (m : MasksView) (
 
   -- a context is entered, which is no step
   module _ (a : NodeId) where
-    sound_inside : (f : Frame) (inside : MasksView) → IsNode nodes sound.bound a → IsFrameIn nodes sound.bound f → IsClosedBy f inside.regions → outside_frame f inside.regions ≡ m.regions → taken_off (f ∷ fs) ≤ inside.opened → IsSound nodes ns (f ∷ fs) inside left (At a)
+    sound_inside : (f : Frame) (inside : MasksView) → IsNode nodes sound.bound a → IsFrameIn nodes sound.bound f → IsClosedBy f inside.regions
+        → outside_frame f inside.regions ≡ m.regions → taken_off (f ∷ fs) ≤ inside.opened → IsSound nodes ns (f ∷ fs) inside left (Eval a)
     sound_inside f inside first frame_in by outside room = record {
       tree = sound.tree;
       bound = sound.bound;
       fits = sound.fits;
-      place_in = first;
+      focus_in = first;
       frames_in = (sound.bound, omega arith, frame_in, sound.frames_in);
       closed = (by, rw outside sound.closed);
       room = room;
       between = tt;
     }
 
-    pub entered_sound : (f : Frame) → IsEntryOf id n f a → IsSound nodes ns (f ∷ fs) (masks_inside f m) left (At a)
+    pub entered_sound : (f : Frame) → IsEntryOf id n f a → IsSound nodes ns (f ∷ fs) (masks_inside f m) left (Eval a)
     entered_sound (frame.Let x b) e =
         let s : HasLevels sound.bound (assemble (Some (node.Let x a b)) (term_of nodes)) = rw e at levels_at in
         let below : All (λ c. c < id.0) (children (node.Let x a b)) = rw e at child_before in
-        sound_inside (frame.Let x b) m (child_node a sound.bound (below 0 0 (omega arith)) s.0) (record { binder = s.1; node = child_node b _ (below 1 0 (omega arith)) s.2 }) tt refl sound.room
+        sound_inside (frame.Let x b) m (child_node a sound.bound (below 0 0 (omega arith)) s.0)
+        (record { binder = s.1; node = child_node b _ (below 1 0 (omega arith)) s.2 }) tt refl sound.room
     entered_sound (frame.Handle x b) e =
         let s : HasLevels sound.bound (assemble (Some (node.Handle a x b)) (term_of nodes)) = rw e at levels_at in
         let below : All (λ c. c < id.0) (children (node.Handle a x b)) = rw e at child_before in
-        sound_inside (frame.Handle x b) m (child_node a sound.bound (below 0 0 (omega arith)) s.0) (record { binder = s.1; node = child_node b _ (below 1 0 (omega arith)) s.2 }) tt refl sound.room
+        sound_inside (frame.Handle x b) m (child_node a sound.bound (below 0 0 (omega arith)) s.0)
+        (record { binder = s.1; node = child_node b _ (below 1 0 (omega arith)) s.2 }) tt refl sound.room
     entered_sound (frame.OnCancel f) e =
         let s : HasLevels sound.bound (assemble (Some (node.OnCancel a f)) (term_of nodes)) = rw e at levels_at in
         let below : All (λ c. c < id.0) (children (node.OnCancel a f)) = rw e at child_before in
-        sound_inside (frame.OnCancel f) m (child_node a sound.bound (below 0 0 (omega arith)) s.0) (child_node f sound.bound (below 1 0 (omega arith)) s.1) tt refl sound.room
+        sound_inside (frame.OnCancel f) m (child_node a sound.bound (below 0 0 (omega arith)) s.0)
+        (child_node f sound.bound (below 1 0 (omega arith)) s.1) tt refl sound.room
     entered_sound (frame.Acquire own) e =
         let x : Option ℕ = e.1 in
         let u : NodeId = e.2 in
@@ -138,10 +149,12 @@ module _ (nodes : List Node) (ns : List ℕ) (fs : List Frame) (m : MasksView) (
     entered_sound frame.Masked e = absurd e
     entered_sound (frame.Opened r b) e = absurd e
 
-    entered_term : (u : Term) → fill (length ns) ns (assemble (Some n) (term_of nodes)) ≡ u → running nodes ns left (within nodes ns fs m.regions u) ≡ progress_at nodes ns fs m.regions left place
+    entered_term : (u : Term) → fill (length ns) ns (assemble (Some n) (term_of nodes)) ≡ u
+        → running nodes ns left (within nodes ns fs m.regions u) ≡ progress_at nodes ns fs m.regions left focus
     entered_term u e = sym (progress_is u e)
 
-    pub entered_same : (f : Frame) → IsEntryOf id n f a → progress_at nodes ns (f ∷ fs) (masks_inside f m).regions left (At a) ≡ progress_at nodes ns fs m.regions left place
+    pub entered_same : (f : Frame) → IsEntryOf id n f a
+        → progress_at nodes ns (f ∷ fs) (masks_inside f m).regions left (Eval a) ≡ progress_at nodes ns fs m.regions left focus
     entered_same (frame.Let x b) e = entered_term _ (rw e refl)
     entered_same (frame.Handle x b) e = entered_term _ (rw e refl)
     entered_same (frame.OnCancel f) e = entered_term _ (rw e refl)
@@ -157,14 +170,18 @@ pub inside_entries : (f : Frame) (m : MasksView) → (masks_inside f m).entries 
 inside_entries (frame.Acquire id) m = refl
 inside_entries f m = refl
 
--- how far down the parts of a node's term may reach
-abbrev pub levels_below : Place → ℕ
-levels_below (At id) = id.0 + 1
-levels_below _ = 0
+-- a loop stands at a node
+pub loop_number : (nodes : List Node) (d : ℕ) (id : NodeId) → IsLoopIn nodes d (slice_get nodes id.0) → id.0 < length nodes
+loop_number nodes d id h = by_node (slice_get nodes id.0) refl h
+  where
+    by_node : (o : Option Node) → slice_get nodes id.0 ≡ o → IsLoopIn nodes d o → id.0 < length nodes
+    by_node None e h = absurd h
+    by_node (Some n) e h = get_past nodes id.0 n e
 
 -- the first part stands before its form
-pub first_lower : (nodes : List Node) (place place' : Place) (id a : NodeId) (n : Node) (f : Frame) → ChildrenComeFirst nodes → slice_get nodes id.0 ≡ Some n → IsEntryOf id n f a → place ≡ At id → place' ≡ At a → levels_below place' < levels_below place
-first_lower nodes place place' id a n f tree is entry e e' = let p = below f entry in rw (e, e') (omega arith)
+pub first_before : (nodes : List Node) (id a : NodeId) (n : Node) (f : Frame) → ChildrenComeFirst nodes → slice_get nodes id.0 ≡ Some n
+    → IsEntryOf id n f a → a.0 < id.0
+first_before nodes id a n f tree is entry = below f entry
   where
     below : (f : Frame) → IsEntryOf id n f a → a.0 < id.0
     below (frame.Let x b) entry = let p : All (λ c. c < id.0) (a.0 ∷ b.0 ∷ []) = rw entry at (tree id.0 n is) in p 0 0 (omega arith)

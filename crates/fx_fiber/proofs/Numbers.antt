@@ -4,7 +4,7 @@ use Rattle.std.proofs.Common.{◌≡◌, ℕ, suc, ◌≤◌, Option, Some, None
 use Rattle.fx_term.specs.declared.node.NodeId.{NodeId}
 use Rattle.fx_term.specs.declared.node.Node.{Node}
 use Rattle.fx_term.specs.declared.node.Node.TheVariants as node
-use Rattle.fx_term.specs.Term.{Term, Let, Handle, OnCancel, Using, Loop, put_named}
+use Rattle.fx_term.specs.Term.{Term, Let, Handle, OnCancel, InUse, Loop, put_named}
 use Rattle.fx_term.specs.Fill.{AgreeBelow}
 use Rattle.fx_term.specs.Registers.{with_number}
 use Rattle.fx_term.specs.Scope.{bound_under, HasLevels}
@@ -17,10 +17,11 @@ use Rattle.fx_frames.specs.declared.frame.Frame.TheVariants as frame
 use Rattle.fx_frames.specs.declared.cleanup.Cleanup.{Cleanup}
 use Rattle.fx_frames.specs.declared.cleanup.Cleanup.TheVariants as cleanup
 use Rattle.fx_frames.specs.Frames.{cleanups_of}
-use Rattle.fx_fiber.specs.declared.standing.cleaning.Cleaning.{Cleaning}
-use Rattle.fx_fiber.specs.Path.{CleanUp, Finalizer, Release}
+use Rattle.fx_fiber.specs.declared.machine.unwound.Unwound.{Unwound}
+use Rattle.fx_fiber.specs.Path.{CleanupTerm, Finalizer, Release}
 use Rattle.fx_fiber.specs.Step.{CleansUp}
-use Rattle.fx_fiber.specs.Standing.{filled, waiting, loop_of, bracket_of, outside_frame, in_frame, within, clean_up_of, clean_ups_of, running, left_of, IsNode, IsBound, IsLoopIn, IsBracketIn, IsFrameIn, IsCleanupIn, AreCleanupsIn, AreFramesIn}
+use Rattle.fx_fiber.specs.Machine.{filled, waiting, loop_of, bracket_of, outside_frame, in_frame, within, cleanup_term, cleanup_terms_of, running}
+use Rattle.fx_fiber.specs.Sound.{left_of, IsNode, IsBound, IsLoopIn, IsBracketIn, IsFrameIn, IsCleanupIn, AreCleanupsIn, AreFramesIn}
 
 pub cleanups_up : (nodes : List Node) (d e : ℕ) (cs : List Cleanup) → AreCleanupsIn nodes d cs → d ≤ e → AreCleanupsIn nodes e cs
 cleanups_up nodes d e [] h p = tt
@@ -51,7 +52,8 @@ module _ (nodes : List Node) (ns ms : List ℕ) where
   pub filled_same : (e : ℕ) (id : NodeId) → IsNode nodes e id → e ≤ length ns → e ≤ length ms → AgreeBelow e ns ms → filled nodes ns id ≡ filled nodes ms id
   filled_same e id s p q h = fill_same e (length ns) (length ms) ns ms (term_of nodes id.0) s.levels p q h
 
-  waiting_same : (e : ℕ) (x : Option ℕ) (b : NodeId) → IsBound nodes e x b → e ≤ length ns → e ≤ length ms → AgreeBelow e ns ms → waiting nodes ns x b ≡ waiting nodes ms x b
+  waiting_same : (e : ℕ) (x : Option ℕ) (b : NodeId) → IsBound nodes e x b → e ≤ length ns → e ≤ length ms → AgreeBelow e ns ms
+      → waiting nodes ns x b ≡ waiting nodes ms x b
   waiting_same e None b s p q h = filled_same e b s.node p q h
   waiting_same e (Some x) b s p q h =
       let at = s.binder in
@@ -59,33 +61,38 @@ module _ (nodes : List Node) (ns ms : List ℕ) where
       let v : x ≤ length ms = omega arith in
       rw (lower_below (length ns) x u, lower_below (length ms) x v, at) (fill_agree e ns ms (term_of nodes b.0) h)
 
-  bracket_same : (e : ℕ) (o : Option Node) (t : Term) → IsBracketIn nodes e o → e ≤ length ns → e ≤ length ms → AgreeBelow e ns ms → bracket_of nodes ns o t ≡ bracket_of nodes ms o t
+  bracket_same : (e : ℕ) (o : Option Node) (t : Term) → IsBracketIn nodes e o → e ≤ length ns → e ≤ length ms → AgreeBelow e ns ms
+      → bracket_of nodes ns o t ≡ bracket_of nodes ms o t
   bracket_same e (Some (node.Bracket x a u r)) t s p q h =
       let used = waiting_same e x u s.0 p q h in
       let released = waiting_same e x r s.1 p q h in
       cc
   bracket_same e o t s p q h = refl
 
-  pub loop_same : (e : ℕ) (o : Option Node) (turn : ℕ) → IsLoopIn nodes e o → e ≤ length ns → e ≤ length ms → AgreeBelow e ns ms → loop_of nodes ns o turn ≡ loop_of nodes ms o turn
+  pub loop_same : (e : ℕ) (o : Option Node) (turn : ℕ) → IsLoopIn nodes e o → e ≤ length ns → e ≤ length ms → AgreeBelow e ns ms
+      → loop_of nodes ns o turn ≡ loop_of nodes ms o turn
   loop_same e (Some (node.For i n a)) turn s p q h = ap (λ (w : Term). Loop i turn n w) (waiting_same e (Some i) a s p q h)
   loop_same e o turn s p q h = refl
 
-  frame_same : (e : ℕ) (cs : List Closing) (f : Frame) (t : Term) → IsFrameIn nodes e f → e ≤ length ns → e ≤ length ms → AgreeBelow e ns ms → in_frame nodes ns cs f t ≡ in_frame nodes ms cs f t
+  frame_same : (e : ℕ) (cs : List Closing) (f : Frame) (t : Term) → IsFrameIn nodes e f → e ≤ length ns → e ≤ length ms → AgreeBelow e ns ms
+      → in_frame nodes ns cs f t ≡ in_frame nodes ms cs f t
   frame_same e cs (frame.Let x b) t s p q h = ap (λ (w : Term). Let x t w) (waiting_same e x b s p q h)
   frame_same e cs (frame.Handle x b) t s p q h = ap (λ (w : Term). Handle t x w) (waiting_same e x b s p q h)
   frame_same e cs (frame.OnCancel f) t s p q h = ap (λ (w : Term). OnCancel t w) (filled_same e f s p q h)
   frame_same e cs (frame.Acquire id) t s p q h = bracket_same e (slice_get nodes id.0) t s p q h
-  frame_same e cs (frame.Using k r) t s p q h = ap (λ (w : Term). Using k t w) (filled_same e r s p q h)
+  frame_same e cs (frame.Using k r) t s p q h = ap (λ (w : Term). InUse k t w) (filled_same e r s p q h)
   frame_same e cs (frame.Releasing k v) t s p q h = refl
   frame_same e cs (frame.Loop id turn) t s p q h = ap (λ (w : Term). Let None t w) (loop_same e (slice_get nodes id.0) turn s p q h)
   frame_same e cs frame.Masked t s p q h = refl
   frame_same e cs (frame.Opened r b) t s p q h = refl
 
-  clean_up_same : (e : ℕ) (c : Cleanup) → IsCleanupIn nodes e c → e ≤ length ns → e ≤ length ms → AgreeBelow e ns ms → clean_up_of nodes ns c ≡ clean_up_of nodes ms c
+  clean_up_same : (e : ℕ) (c : Cleanup) → IsCleanupIn nodes e c → e ≤ length ns → e ≤ length ms → AgreeBelow e ns ms
+      → cleanup_term nodes ns c ≡ cleanup_term nodes ms c
   clean_up_same e (cleanup.Finalizer f) s p q h = ap Finalizer (filled_same e f s p q h)
   clean_up_same e (cleanup.Release k r) s p q h = ap (λ (w : Term). Release k w) (filled_same e r s p q h)
 
-  clean_ups_same : (d : ℕ) (left : List Cleanup) → AreCleanupsIn nodes d left → d ≤ length ns → d ≤ length ms → AgreeBelow d ns ms → clean_ups_of nodes ns left ≡ clean_ups_of nodes ms left
+  clean_ups_same : (d : ℕ) (left : List Cleanup) → AreCleanupsIn nodes d left → d ≤ length ns → d ≤ length ms → AgreeBelow d ns ms
+      → cleanup_terms_of nodes ns left ≡ cleanup_terms_of nodes ms left
   clean_ups_same d [] s p q h = refl
   clean_ups_same d (c ∷ left) s p q h =
       let e_le = s.1 in
@@ -96,10 +103,11 @@ module _ (nodes : List Node) (ns ms : List ℕ) where
       let rest = clean_ups_same s.0 left s.3 u v k in
       cc
 
-  pub running_same : (d : ℕ) (fs : List Frame) (cs : List Closing) (left : Option Cleaning) (t : Term) → AreFramesIn nodes d fs (left_of left) → d ≤ length ns → d ≤ length ms → AgreeBelow d ns ms
+  pub running_same : (d : ℕ) (fs : List Frame) (cs : List Closing) (left : Option Unwound) (t : Term) → AreFramesIn nodes d fs (left_of left)
+      → d ≤ length ns → d ≤ length ms → AgreeBelow d ns ms
       → running nodes ns left (within nodes ns fs cs t) ≡ running nodes ms left (within nodes ms fs cs t)
   running_same d [] cs None t s p q h = refl
-  running_same d [] cs (Some c) t s p q h = ap (λ (xs : List CleanUp). CleansUp c.resource t xs) (clean_ups_same d c.left s p q h)
+  running_same d [] cs (Some c) t s p q h = ap (λ (xs : List CleanupTerm). CleansUp c.resource t xs) (clean_ups_same d c.left s p q h)
   running_same d (f ∷ fs) cs left t s p q h =
       let e : ℕ = s.0 in
       let e_le : e ≤ d = s.1 in
@@ -123,7 +131,8 @@ module _ (nodes : List Node) (ns : List ℕ) (n e : ℕ) (b : NodeId) (fits : e 
       (put_fill x n ns (with_number (Some x) n ns) (agree_below x n ns h) (number_at x n ns h) (suc x) (term_of nodes b.0) levels (omega arith) ∙ sym filled_same)
 
   -- a register for the name changes nothing outside its scope
-  pub running_bound : (x : Option ℕ) (fs : List Frame) (cs : List Closing) (left : Option Cleaning) (t : Term) → IsBound nodes e x b → AreFramesIn nodes e fs (left_of left)
+  pub running_bound : (x : Option ℕ) (fs : List Frame) (cs : List Closing) (left : Option Unwound) (t : Term) → IsBound nodes e x b
+      → AreFramesIn nodes e fs (left_of left)
       → running nodes ns left (within nodes ns fs cs t) ≡ running nodes (with_number x n ns) left (within nodes (with_number x n ns) fs cs t)
   running_bound None fs cs left t s outer = refl
   running_bound (Some x) fs cs left t s outer =
@@ -134,14 +143,17 @@ module _ (nodes : List Node) (ns : List ℕ) (n e : ℕ) (b : NodeId) (fits : e 
       running_same nodes ns (with_number (Some x) n ns) x fs cs left t outer' h (omega arith) (agree_below x n ns h)
 
   -- the fiber where the part goes on, inside a context of its own
-  pub running_named : (wrap : Term → Term) (x : Option ℕ) (fs : List Frame) (cs : List Closing) (left : Option Cleaning) → IsBound nodes e x b → AreFramesIn nodes e fs (left_of left)
-      → running nodes ns left (within nodes ns fs cs (wrap (put_named x n (waiting nodes ns x b)))) ≡ running nodes (with_number x n ns) left (within nodes (with_number x n ns) fs cs (wrap (filled nodes (with_number x n ns) b)))
+  pub running_named : (wrap : Term → Term) (x : Option ℕ) (fs : List Frame) (cs : List Closing) (left : Option Unwound) → IsBound nodes e x b
+      → AreFramesIn nodes e fs (left_of left)
+      → running nodes ns left (within nodes ns fs cs (wrap (put_named x n (waiting nodes ns x b)))) ≡ running nodes (with_number x n ns) left
+      (within nodes (with_number x n ns) fs cs (wrap (filled nodes (with_number x n ns) b)))
   running_named wrap x fs cs left s outer =
       running_bound x fs cs left (wrap (put_named x n (waiting nodes ns x b))) s outer
       ∙ ap (λ (w : Term). running nodes (with_number x n ns) left (within nodes (with_number x n ns) fs cs (wrap w))) (part_named x s)
 
 -- there are registers for one name more
-pub fits_named : (x : Option ℕ) (n e : ℕ) (ns : List ℕ) (nodes : List Node) (b : NodeId) → IsBound nodes e x b → e ≤ length ns → bound_under e x ≤ length (with_number x n ns)
+pub fits_named : (x : Option ℕ) (n e : ℕ) (ns : List ℕ) (nodes : List Node) (b : NodeId) → IsBound nodes e x b → e ≤ length ns
+    → bound_under e x ≤ length (with_number x n ns)
 fits_named None n e ns nodes b s fits = fits
 fits_named (Some x) n e ns nodes b s fits = let at = s.binder in let h : x ≤ length ns = omega arith in let len = length_with x n ns h in omega arith
 

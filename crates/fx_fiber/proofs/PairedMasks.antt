@@ -2,7 +2,7 @@
 use Rattle.std.proofs.Common.{◌≡◌, ℕ, Bool, true, false, List, [], ◌∷◌, ◌++◌, refl, sym, ◌∙◌, ap, subst, append_assoc, append-nil}
 use Rattle.std.specs.Prelude.{if◌then◌else◌, ◌==◌, ◌↔◌}
 use Rattle.std.proofs.lemmas.Bool.{eqb-true}
-use Rattle.fx_term.specs.Term.{Term, Let, Handle, OnCancel, Bracket, Masked, Opened, Using, Releasing, Await}
+use Rattle.fx_term.specs.Term.{Term, Let, Handle, OnCancel, Bracket, Masked, Opened, InUse, InRelease, Await}
 use Rattle.fx_mask.specs.Closing.{Closing, Region, Seal, without_region, is_none_closed}
 use Rattle.fx_fiber.specs.Path.{closed_regions, is_open}
 use Rattle.fx_fiber.specs.PairedMasks.{Mark, Closes, Opens, Seals, marks, IsPaired, nothing, idle, pair, appended}
@@ -22,8 +22,8 @@ closed_by_marks outer (OnCancel a f) = closed_by_marks outer a
 closed_by_marks outer (Bracket x a u r) = closed_by_marks (Seal ∷ outer) a
 closed_by_marks outer (Masked r a) = closed_by_marks (Region r ∷ outer) a
 closed_by_marks outer (Opened r a) = closed_by_marks (without_region r outer) a
-closed_by_marks outer (Using k a r) = closed_by_marks outer a
-closed_by_marks outer (Releasing k a v) = closed_by_marks (Seal ∷ outer) a
+closed_by_marks outer (InUse k a r) = closed_by_marks outer a
+closed_by_marks outer (InRelease k a v) = closed_by_marks (Seal ∷ outer) a
 closed_by_marks outer (Await f) = refl
 closed_by_marks outer _ = refl
 
@@ -60,9 +60,14 @@ leave_opened r (Region s ∷ outer) w h = by_test (s == r) refl
 -- more marks leave closed what they close
 leave_closed : (cs : List Closing) (w x : List Mark) → Leave cs w → Leave (closed_inside cs x) (w ++ x)
 leave_closed cs w [] h = subst (λ (y : List Mark). Leave cs y) (sym (append-nil w)) h
-leave_closed cs w (Closes r ∷ x) h = subst (λ (y : List Mark). Leave (closed_inside (Region r ∷ cs) x) y) (append_assoc w (Closes r ∷ []) x) (leave_closed (Region r ∷ cs) (w ++ Closes r ∷ []) x (w, [], h, nothing, refl))
-leave_closed cs w (Opens r ∷ x) h = subst (λ (y : List Mark). Leave (closed_inside (without_region r cs) x) y) (append_assoc w (Opens r ∷ []) x) (leave_closed (without_region r cs) (w ++ Opens r ∷ []) x (leave_opened r cs w h))
-leave_closed cs w (Seals ∷ x) h = subst (λ (y : List Mark). Leave (closed_inside (Seal ∷ cs) x) y) (append_assoc w (Seals ∷ []) x) (leave_closed (Seal ∷ cs) (w ++ Seals ∷ []) x tt)
+leave_closed cs w (Closes r ∷ x) h =
+    subst (λ (y : List Mark). Leave (closed_inside (Region r ∷ cs) x) y) (append_assoc w (Closes r ∷ []) x)
+    (leave_closed (Region r ∷ cs) (w ++ Closes r ∷ []) x (w, [], h, nothing, refl))
+leave_closed cs w (Opens r ∷ x) h =
+    subst (λ (y : List Mark). Leave (closed_inside (without_region r cs) x) y) (append_assoc w (Opens r ∷ []) x)
+    (leave_closed (without_region r cs) (w ++ Opens r ∷ []) x (leave_opened r cs w h))
+leave_closed cs w (Seals ∷ x) h =
+    subst (λ (y : List Mark). Leave (closed_inside (Seal ∷ cs) x) y) (append_assoc w (Seals ∷ []) x) (leave_closed (Seal ∷ cs) (w ++ Seals ∷ []) x tt)
 
 -- what is closed is what was closed outside, without some of the innermost
 abbrev IsOuterPart : List Closing → List Closing → Type 0
@@ -89,11 +94,13 @@ paired_is_outer_part : (outer : List Closing) {w : List Mark} → IsPaired w →
 paired_is_outer_part outer nothing = ([], refl)
 paired_is_outer_part outer (idle {r = r}) = opened_is_outer_part r outer
 paired_is_outer_part outer (pair {r = r} {w = w} p) =
-    subst (λ (cs : List Closing). IsOuterPart cs outer) (sym (closed_append (Region r ∷ outer) w (Opens r ∷ []))) (pair_is_outer_part r (closed_inside (Region r ∷ outer) w) outer (paired_is_outer_part (Region r ∷ outer) p))
+    subst (λ (cs : List Closing). IsOuterPart cs outer) (sym (closed_append (Region r ∷ outer) w (Opens r ∷ [])))
+    (pair_is_outer_part r (closed_inside (Region r ∷ outer) w) outer (paired_is_outer_part (Region r ∷ outer) p))
 paired_is_outer_part outer (appended {w = w} {x = x} p q) =
     let first = paired_is_outer_part outer p in
     let second = paired_is_outer_part (closed_inside outer w) q in
-    subst (λ (cs : List Closing). IsOuterPart cs outer) (sym (closed_append outer w x)) (outer_part_of_part (closed_inside (closed_inside outer w) x) (closed_inside outer w) outer second first)
+    subst (λ (cs : List Closing). IsOuterPart cs outer) (sym (closed_append outer w x))
+    (outer_part_of_part (closed_inside (closed_inside outer w) x) (closed_inside outer w) outer second first)
 
 none_outside : (cs : List Closing) → IsOuterPart cs [] → is_none_closed cs ≡ true
 none_outside [] h = refl
@@ -105,7 +112,8 @@ none_closed [] e = refl
 none_closed (c ∷ cs) e = absurd (cc)
 
 pub open_is_paired : (t : Term) → is_open t ≡ true → IsPaired (marks t)
-open_is_paired t e = subst (λ (cs : List Closing). Leave cs (marks t)) (sym (closed_by_marks [] t) ∙ none_closed (closed_regions [] t) e) (leave_closed [] [] (marks t) nothing)
+open_is_paired t e =
+    subst (λ (cs : List Closing). Leave cs (marks t)) (sym (closed_by_marks [] t) ∙ none_closed (closed_regions [] t) e) (leave_closed [] [] (marks t) nothing)
 
 paired_is_open : (t : Term) → IsPaired (marks t) → is_open t ≡ true
 paired_is_open t p = ap is_none_closed (closed_by_marks [] t) ∙ none_outside (closed_inside [] (marks t)) (paired_is_outer_part [] p)

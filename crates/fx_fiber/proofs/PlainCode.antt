@@ -23,7 +23,8 @@ read_plain nodes tree zero id p q = absurd (omega arith)
 read_plain nodes tree (suc depth) id p q =
     let n = get_or nodes id node.Canceled in
     let here = slice_get-get_or nodes id node.Canceled q in
-    let each : All (λ c. IsPlain (read depth nodes c)) (children n) = λ k d h. let below = tree id n here k d h in read_plain nodes tree depth (get_or (children n) k d) (omega arith) (omega arith) in
+    let each : All (λ c. IsPlain (read depth nodes c)) (children n) = λ k d h. let below = tree id n here k d h in
+    read_plain nodes tree depth (get_or (children n) k d) (omega arith) (omega arith) in
     rw here (assemble_plain n (read depth nodes) (recursion_from_All (λ c. IsPlain (read depth nodes c)) (children n) each))
 
 last_is_within : (nodes : List Node) → nodes ≢ [] → length nodes - 1 < length nodes

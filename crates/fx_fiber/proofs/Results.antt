@@ -11,22 +11,24 @@ use Rattle.fx_mask.specs.Closing.{Closing, is_none_closed}
 use Rattle.fx_frames.specs.declared.frame.Frame.{Frame}
 use Rattle.fx_fiber.specs.Row.{Counts, Label, Silent, Row}
 use Rattle.fx_fiber.specs.Step.{Progress, leaf_at, Step}
-use Rattle.fx_fiber.specs.declared.standing.place.Place.TheVariants.{At}
-use Rattle.fx_fiber.specs.declared.standing.Standing.{Standing}
-use Rattle.fx_fiber.specs.Standing.{filled, waiting, outside_frame, in_frame, within, running, progress_of, counts_of, closed_outside, left_of, taken_off, AreClosedBy, AreFramesIn, IsFrameIn, IsBound, IsClosedBy, IsSound}
+use Rattle.fx_fiber.specs.declared.machine.focus.Focus.TheVariants.{Eval}
+use Rattle.fx_fiber.specs.declared.machine.Machine.{Machine}
+use Rattle.fx_fiber.specs.Machine.{filled, waiting, outside_frame, in_frame, within, running, progress_of, counts_of}
+use Rattle.fx_fiber.specs.Sound.{closed_outside, left_of, taken_off, AreClosedBy, AreFramesIn, IsFrameIn, IsBound, IsClosedBy, IsSound}
 use Rattle.fx_fiber.specs.Path.{must_cancel}
-use Rattle.fx_fiber.specs.Rule.{StandsIn, HasGiven, is_due}
-use Rattle.fx_fiber.specs.MakesStep.{is_giving_way}
+use Rattle.fx_fiber.specs.Methods.{ReturnsInto, IsReturning}
+use Rattle.fx_fiber.specs.MakesStep.{is_yielding}
 use Rattle.fx_fiber.proofs.Contexts.{row_within}
 use Rattle.fx_fiber.proofs.Numbers.{frames_up, running_named, fits_named, under_above}
 use Rattle.fx_fiber.proofs.Rules.{row_step, result_term, leaf_of_running}
 
 -- the leaf of a fiber with a result is that result, so no rule of it is that of `cede`
-pub given_is_no_cede : (nodes : List Node) (s : Standing) (v : Done) → HasGiven nodes s v → is_giving_way (leaf_at (progress_of nodes s)) ≡ false
-given_is_no_cede nodes s v given = rw given.place (ap is_giving_way (leaf_of_running nodes s.registers s.frames s.masks.regions (Finished v) (result_term s.masks.regions v) s.cleanups))
+pub given_is_no_cede : (nodes : List Node) (s : Machine) (v : Done) → IsReturning nodes s v → is_yielding (leaf_at (progress_of nodes s)) ≡ false
+given_is_no_cede nodes s v given = rw given.focus
+    (ap is_yielding (leaf_of_running nodes s.registers s.frames s.masks.regions (Finished v) (result_term s.masks.regions v) s.cleanups))
 
 -- a fiber with a result in its innermost context
-module _ (nodes : List Node) (s : Standing) (f : Frame) (v : Done) (inside : StandsIn nodes s f v) where
+module _ (nodes : List Node) (s : Machine) (f : Frame) (v : Done) (inside : ReturnsInto nodes s f v) where
   pub closed_in : AreClosedBy (closed_outside s.cleanups) (f ∷ inside.outer) s.masks.regions
   closed_in = rw inside.frames at inside.given.sound.closed
 
@@ -38,21 +40,26 @@ module _ (nodes : List Node) (s : Standing) (f : Frame) (v : Done) (inside : Sta
   frames_in = rw inside.frames at inside.given.sound.frames_in
 
   -- the row of that context is a step
-  pub given_step : is_due nodes s ≡ false → (d : Counts) (l : Label) (t' : Term) (p : Progress) → p ≡ running nodes s.registers s.cleanups (within nodes s.registers inside.outer (outside_frame f s.masks.regions) t')
+  pub given_step : (d : Counts) (l : Label) (t' : Term) (p : Progress)
+      → p ≡ running nodes s.registers s.cleanups (within nodes s.registers inside.outer (outside_frame f s.masks.regions) t')
       → ((k : Bool) → Row k (counts_of s) (in_frame nodes s.registers s.masks.regions f (Finished v)) l d t') → Step (counts_of s) (progress_of nodes s) l d p
-  given_step free d l t' p e go =
-      let free' : (is_none_closed s.masks.regions && (s.known || false)) ≡ false = rw inside.given.place at free in
-      let step = row_step nodes s.registers (f ∷ inside.outer) s.masks.regions (Finished v) (result_term s.masks.regions v) s.cleanups (counts_of s) d l _ closed_in free'
+  given_step d l t' p e go =
+      let free' : (is_none_closed s.masks.regions && (s.known || false)) ≡ false = rw inside.given.focus at inside.given.free in
+      let step = row_step nodes s.registers (f ∷ inside.outer) s.masks.regions (Finished v) (result_term s.masks.regions v) s.cleanups
+      (counts_of s) d l _ closed_in free'
       (λ k h. row_within nodes s.registers k (counts_of s) d l inside.outer (outside_frame f s.masks.regions) _ _ (go k)) in
-      rw (inside.given.place, inside.frames, e) step
+      rw (inside.given.focus, inside.frames, e) step
 
   -- the same of a row that shows nothing and changes no count
-  pub given_quietly : is_due nodes s ≡ false → (d : Counts) (t' : Term) (p : Progress) → d ≡ counts_of s → p ≡ running nodes s.registers s.cleanups (within nodes s.registers inside.outer (outside_frame f s.masks.regions) t')
-      → ((k : Bool) → Row k (counts_of s) (in_frame nodes s.registers s.masks.regions f (Finished v)) Silent (counts_of s) t') → Step (counts_of s) (progress_of nodes s) Silent d p
-  given_quietly free d t' p same e go = rw same (given_step free (counts_of s) Silent t' p e go)
+  pub given_quietly : (d : Counts) (t' : Term) (p : Progress) → d ≡ counts_of s
+      → p ≡ running nodes s.registers s.cleanups (within nodes s.registers inside.outer (outside_frame f s.masks.regions) t')
+      → ((k : Bool) → Row k (counts_of s) (in_frame nodes s.registers s.masks.regions f (Finished v)) Silent (counts_of s) t')
+      → Step (counts_of s) (progress_of nodes s) Silent d p
+  given_quietly d t' p same e go = rw same (given_step (counts_of s) Silent t' p e go)
 
   -- a result put for the name of the part that waits in that context
-  module _ (x : Option ℕ) (b : NodeId) (n : ℕ) (under : (e : ℕ) → IsFrameIn nodes e f → IsBound nodes e x b) (same : outside_frame f s.masks.regions ≡ s.masks.regions) where
+  module _ (x : Option ℕ) (b : NodeId) (n : ℕ) (under : (e : ℕ) → IsFrameIn nodes e f → IsBound nodes e x b)
+      (same : outside_frame f s.masks.regions ≡ s.masks.regions) where
     fits : frames_in.0 ≤ length s.registers
     fits = let p = frames_in.1 in let q = inside.given.sound.fits in omega arith
 
@@ -60,17 +67,23 @@ module _ (nodes : List Node) (s : Standing) (f : Frame) (v : Done) (inside : Sta
     bound = under frames_in.0 frames_in.2
 
     -- the part goes on with one more register
-    pub named_step : is_due nodes s ≡ false → (p : Progress) → p ≡ running nodes (with_number x n s.registers) s.cleanups (within nodes (with_number x n s.registers) inside.outer s.masks.regions (filled nodes (with_number x n s.registers) b))
-        → ((k : Bool) → Row k (counts_of s) (in_frame nodes s.registers s.masks.regions f (Finished v)) Silent (counts_of s) (put_named x n (waiting nodes s.registers x b))) → Step (counts_of s) (progress_of nodes s) Silent (counts_of s) p
-    named_step free p e go =
-        given_step free (counts_of s) Silent _ p (e ∙ sym (running_named nodes s.registers n frames_in.0 b fits (λ t. t) x inside.outer s.masks.regions s.cleanups bound frames_in.3) ∙ ap (λ (c : List Closing). running nodes s.registers s.cleanups (within nodes s.registers inside.outer c (put_named x n (waiting nodes s.registers x b)))) (sym same)) go
+    pub named_step : (p : Progress)
+        → p ≡ running nodes (with_number x n s.registers) s.cleanups
+        (within nodes (with_number x n s.registers) inside.outer s.masks.regions (filled nodes (with_number x n s.registers) b))
+        →
+        ((k : Bool) → Row k (counts_of s) (in_frame nodes s.registers s.masks.regions f (Finished v)) Silent (counts_of s) (put_named x n (waiting nodes s.registers x b)))
+        → Step (counts_of s) (progress_of nodes s) Silent (counts_of s) p
+    named_step p e go =
+        given_step (counts_of s) Silent _ p
+        (e ∙ sym (running_named nodes s.registers n frames_in.0 b fits (λ t. t) x inside.outer s.masks.regions s.cleanups bound frames_in.3) ∙ ap (λ (c : List Closing). running nodes s.registers s.cleanups (within nodes s.registers inside.outer c (put_named x n (waiting nodes s.registers x b)))) (sym same)) go
 
-    pub named_sound : taken_off (f ∷ inside.outer) ≡ taken_off inside.outer → IsSound nodes (with_number x n s.registers) inside.outer s.masks s.cleanups (At b)
+    pub named_sound : taken_off (f ∷ inside.outer) ≡ taken_off inside.outer
+        → IsSound nodes (with_number x n s.registers) inside.outer s.masks s.cleanups (Eval b)
     named_sound e = record {
       tree = inside.given.sound.tree;
       bound = bound_under frames_in.0 x;
       fits = fits_named x n frames_in.0 s.registers nodes b bound fits;
-      place_in = bound.node;
+      focus_in = bound.node;
       frames_in = frames_up nodes frames_in.0 (bound_under frames_in.0 x) inside.outer (left_of s.cleanups) frames_in.3 (under_above x frames_in.0);
       closed = rw same at closed_in.1;
       room = rw (inside.frames, e) at inside.given.sound.room;
@@ -78,10 +91,11 @@ module _ (nodes : List Node) (s : Standing) (f : Frame) (v : Done) (inside : Sta
     }
 
 -- a result in no context, of a fiber that was not canceled: nothing closes the place, so the fiber is free
-pub result_is_free : (nodes : List Node) (s : Standing) (v : Done) → HasGiven nodes s v → s.frames ≡ [] → s.cleanups ≡ None → is_due nodes s ≡ false → must_cancel s.known (Finished v) ≡ false
-result_is_free nodes s v given no_frame runs free =
+pub result_is_free : (nodes : List Node) (s : Machine) (v : Done) → IsReturning nodes s v → s.frames ≡ [] → s.cleanups ≡ None
+    → must_cancel s.known (Finished v) ≡ false
+result_is_free nodes s v given no_frame runs =
     let shut : s.masks.regions ≡ [] = rw (no_frame, runs) at given.sound.closed in
-    rw (shut, given.place) at free
+    rw (shut, given.focus) at given.free
 
 -- what holds anyway holds on an error
 pub on_any_error : {T E P : Type 0} (r : Result T E) → P → OnErr r P
@@ -89,5 +103,6 @@ on_any_error (Ok x) p = tt
 on_any_error (Err e) p = p
 
 -- counts with as many masks
-pub counts_same : (s : Standing) (n : ℕ) → n ≡ s.masks.entries → ◌≡◌ {A = Counts} (record { masks = n; acquired = s.acquired; next = s.next; end = s.end; known = s.known }) (counts_of s)
+pub counts_same : (s : Machine) (n : ℕ) → n ≡ s.masks.entries
+    → ◌≡◌ {A = Counts} (record { masks = n; acquired = s.acquired; next = s.next; end = s.end; known = s.known }) (counts_of s)
 counts_same s n e = rw e refl

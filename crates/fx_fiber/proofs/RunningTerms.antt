@@ -1,9 +1,10 @@
 -- Of a fiber that began at a core term, what waits is core: only on the path to the leaf stand nodes that come into being as a term runs.
-use Rattle.std.proofs.Common.{List, [], ◌∷◌, ◌++◌}
-use Rattle.fx_term.specs.Term.{Term, Let, Handle, OnCancel, Bracket, Finished, Masked, Opened, Using, Releasing, Await}
-use Rattle.fx_term.specs.Scope.{IsCore}
-use Rattle.fx_fiber.specs.Path.{CleanUp, Finalizer, Release, clean_ups}
-use Rattle.fx_fiber.specs.Step.{Progress, Runs, Unwinds, CleansUp, HasEnded}
+use Rattle.std.proofs.Common.{[]}
+use Rattle.fx_term.specs.Term.{Term, Let, Handle, OnCancel, Bracket, Finished, Masked, Opened, InUse, InRelease, Await}
+use Rattle.fx_term.specs.Forms.{IsCore}
+use Rattle.fx_fiber.specs.Path.{Context, OnCancelIn, AcquireIn, MaskedIn, OpenedIn, InUseIn, InReleaseIn, plug, cleanups_with, cleanup_terms}
+use Rattle.fx_fiber.specs.Step.{Progress, AreAll, IsProgressOf}
+use Rattle.fx_fiber.proofs.Cleanups.{all_on_path}
 
 abbrev pub IsRunningTerm : Term → Type 0
 IsRunningTerm (Let x a b) = IsRunningTerm a × IsCore b
@@ -12,22 +13,15 @@ IsRunningTerm (OnCancel a f) = IsRunningTerm a × IsCore f
 IsRunningTerm (Bracket x a u r) = IsRunningTerm a × IsCore u × IsCore r
 IsRunningTerm (Masked r a) = IsRunningTerm a
 IsRunningTerm (Opened r a) = IsRunningTerm a
-IsRunningTerm (Using k a r) = IsRunningTerm a × IsCore r
-IsRunningTerm (Releasing k a v) = IsRunningTerm a
+IsRunningTerm (InUse k a r) = IsRunningTerm a × IsCore r
+IsRunningTerm (InRelease k a v) = IsRunningTerm a
 IsRunningTerm (Finished v) = Unit {0}
 IsRunningTerm (Await f) = Unit {0}
 IsRunningTerm t = IsCore t
 
-abbrev pub AreCore : List CleanUp → Type 0
-AreCore [] = Unit {0}
-AreCore (Finalizer f ∷ rest) = IsCore f × AreCore rest
-AreCore (Release k r ∷ rest) = IsCore r × AreCore rest
-
+-- what runs is such a term, and the clean-ups that are left are core
 abbrev pub IsRunningProgress : Progress → Type 0
-IsRunningProgress (Runs t) = IsRunningTerm t
-IsRunningProgress (Unwinds rest) = AreCore rest
-IsRunningProgress (CleansUp k t rest) = IsRunningTerm t × AreCore rest
-IsRunningProgress (HasEnded o) = Unit {0}
+IsRunningProgress p = IsProgressOf IsRunningTerm IsCore p
 
 pub core_runs : (t : Term) → IsCore t → IsRunningTerm t
 core_runs (Let y a b) h = (core_runs a h.0, h.1)
@@ -37,23 +31,23 @@ core_runs (Bracket y a u r) h = (core_runs a h.0, h.1, h.2)
 core_runs (Finished v) h = absurd h
 core_runs (Masked r a) h = absurd h
 core_runs (Opened r a) h = absurd h
-core_runs (Using k a r) h = absurd h
-core_runs (Releasing k a v) h = absurd h
+core_runs (InUse k a r) h = absurd h
+core_runs (InRelease k a v) h = absurd h
 core_runs (Await f) h = absurd h
 core_runs _ h = h
 
-core_append : (xs ys : List CleanUp) → AreCore xs → AreCore ys → AreCore (xs ++ ys)
-core_append [] ys h k = k
-core_append (Finalizer f ∷ xs) ys h k = (h.0, core_append xs ys h.1 k)
-core_append (Release n r ∷ xs) ys h k = (h.0, core_append xs ys h.1 k)
+-- the part of a context that runs is such a term, and so is the whole with another in its place
+pub running_inside : (f : Context) (a : Term) → IsRunningTerm (plug f a) → IsRunningTerm a × ((b : Term) → IsRunningTerm b → IsRunningTerm (plug f b))
+running_inside (AcquireIn x u r) a h = (h.0, λ b k. (k, h.1, h.2))
+running_inside (MaskedIn r) a h = (h, λ b k. k)
+running_inside (OpenedIn r) a h = (h, λ b k. k)
+running_inside (InReleaseIn i v) a h = (h, λ b k. k)
+running_inside _ a h = (h.0, λ b k. (k, h.1))
 
-pub clean_ups_core : (t : Term) → IsRunningTerm t → AreCore (clean_ups t)
-clean_ups_core (Let x a b) h = clean_ups_core a h.0
-clean_ups_core (Handle a x b) h = clean_ups_core a h.0
-clean_ups_core (OnCancel a f) h = core_append (clean_ups a) (Finalizer f ∷ []) (clean_ups_core a h.0) (h.1, tt)
-clean_ups_core (Bracket x a u r) h = clean_ups_core a h.0
-clean_ups_core (Masked r a) h = clean_ups_core a h
-clean_ups_core (Opened r a) h = clean_ups_core a h
-clean_ups_core (Using k a r) h = core_append (clean_ups a) (Release k r ∷ []) (clean_ups_core a h.0) (h.1, tt)
-clean_ups_core (Releasing k a v) h = clean_ups_core a h
-clean_ups_core _ h = tt
+core_part : (f : Context) (a : Term) → IsRunningTerm (plug f a) → IsRunningTerm a × AreAll IsCore (cleanups_with f [])
+core_part (OnCancelIn f) a h = (h.0, (h.1, tt))
+core_part (InUseIn k r) a h = (h.0, (h.1, tt))
+core_part f a h = ((running_inside f a h).0, tt)
+
+pub clean_ups_core : (t : Term) → IsRunningTerm t → AreAll IsCore (cleanup_terms t)
+clean_ups_core = all_on_path IsRunningTerm IsCore core_part

@@ -7,7 +7,8 @@ use Rattle.fx_fiber.specs.Step.{Progress, Runs, Step, row}
 use Rattle.fx_fiber.specs.Run.{first_counts, Leads}
 use Rattle.fx_fiber.specs.MaskLaws.{shown, CanShow}
 
-leads_append : (c : Counts) (p : Progress) (ls ms : List Label) (d e : Counts) (q r : Progress) → Leads c p ls d q → Leads d q ms e r → Leads c p (ls ++ ms) e r
+pub leads_append : (c : Counts) (p : Progress) (ls ms : List Label) (d e : Counts) (q r : Progress) → Leads c p ls d q → Leads d q ms e r
+    → Leads c p (ls ++ ms) e r
 leads_append c p [] ms d e q r h k = rw (← h.0, ← h.1) k
 leads_append c p (l ∷ ls) ms d e q r h k = (h.0, h.1, h.2, leads_append h.0 h.1 ls ms d e q r h.3 k)
 
@@ -37,7 +38,8 @@ and_then {c} {d} {e} {p} {q} {r} a b = record {
   shown_is = let f = a.shown_is in let g = b.shown_is in let h = shown_append a.labels b.labels in cc;
 }
 
-pub row_step : {k : Bool} {c d : Counts} {l : Label} {t u : Term} → must_cancel c.known t ≡ false → k ≡ not (is_open t) → Row k c t l d u → Step c (Runs t) l d (Runs u)
+pub row_step : {k : Bool} {c d : Counts} {l : Label} {t u : Term} → must_cancel c.known t ≡ false → k ≡ not (is_open t) → Row k c t l d u
+    → Step c (Runs t) l d (Runs u)
 row_step {c = c} {d = d} {l = l} {t = t} {u = u} free closed r = row free (subst (λ (k : Bool). Row k c t l d u) closed r)
 
 -- some run from here shows this
@@ -47,21 +49,26 @@ pub record HasRun (c : Counts) (p : Progress) (shows : List Label) : Type 0 wher
   pub reaches : Reaches c p shows counts progress
 
 -- what a label shows, and then the rest
-pub after : {c d : Counts} {p q : Progress} (l : Label) (ls : List Label) → Reaches c p (shown (l ∷ [])) d q → HasRun d q (shown ls) → HasRun c p (shown (l ∷ ls))
-after {c} {p = p} l ls first rest = subst (λ (shows : List Label). HasRun c p shows) (sym (shown_append (l ∷ []) ls)) (record { counts = rest.counts; progress = rest.progress; reaches = and_then first rest.reaches })
+pub after : {c d : Counts} {p q : Progress} (l : Label) (ls : List Label) → Reaches c p (shown (l ∷ [])) d q → HasRun d q (shown ls)
+    → HasRun c p (shown (l ∷ ls))
+after {c} {p = p} l ls first rest =
+    subst (λ (shows : List Label). HasRun c p shows) (sym (shown_append (l ∷ []) ls))
+    (record { counts = rest.counts; progress = rest.progress; reaches = and_then first rest.reaches })
 
 -- silent steps, and then the rest
 pub before : {c d : Counts} {p q : Progress} {ls : List Label} → Reaches c p [] d q → HasRun d q ls → HasRun c p ls
 before first rest = record { counts = rest.counts; progress = rest.progress; reaches = and_then first rest.reaches }
 
 -- a run from the beginning shows what is wanted
-pub can_show : {t : Term} {next end : ℕ} {ls ms : List Label} → ls ≡ ms → HasRun (first_counts (record { term = t; next = next; end = end })) (Runs t) ls → CanShow (record { term = t; next = next; end = end }) ms
+pub can_show : {t : Term} {next end : ℕ} {ls ms : List Label} → ls ≡ ms → HasRun (first_counts (record { term = t; next = next; end = end })) (Runs t) ls
+    → CanShow (record { term = t; next = next; end = end }) ms
 can_show e h = record { labels = h.reaches.labels; counts = h.counts; progress = h.progress; run = h.reaches.leads; shown_is = h.reaches.shown_is ∙ e }
 
 -- silent steps of the table, each the only one at a closed place
 pub data Enters : Counts → Term → Counts → Term → Type 0 where
   entered : {c : Counts} {t : Term} → Enters c t c t
-  enters : {c d e : Counts} {t u v : Term} → is_open t ≡ false → Row true c t Silent d u → ((l : Label) (d' : Counts) (u' : Term) → Row true c t l d' u' → (l ≡ Silent) × (d' ≡ d) × (u' ≡ u)) → Enters d u e v → Enters c t e v
+  enters : {c d e : Counts} {t u v : Term} → is_open t ≡ false → Row true c t Silent d u
+      → ((l : Label) (d' : Counts) (u' : Term) → Row true c t l d' u' → (l ≡ Silent) × (d' ≡ d) × (u' ≡ u)) → Enters d u e v → Enters c t e v
 
 pub closed_must : (known : Bool) (t : Term) → is_open t ≡ false → must_cancel known t ≡ false
 closed_must known t h = rw h refl
@@ -74,4 +81,5 @@ closed_row {c} {d} {l} {t} {u} h r = subst (λ (b : Bool). Row (not b) c t l d u
 
 pub enters_silently : {c d : Counts} {t u : Term} → Enters c t d u → Reaches c (Runs t) [] d (Runs u)
 enters_silently entered = rests
-enters_silently {c} (enters {d = d} {t = t} {u = u} closed r only rest) = and_then (steps {l = Silent} (row (closed_must c.known t closed) (rw closed r))) (enters_silently rest)
+enters_silently {c} (enters {d = d} {t = t} {u = u} closed r only rest) =
+    and_then (steps {l = Silent} (row (closed_must c.known t closed) (rw closed r))) (enters_silently rest)

@@ -1,41 +1,44 @@
 -- Cancellation, a request that is found, and unwinding.
-use Rattle.std.proofs.Common.{◌≡◌, ℕ, Bool, true, false, Option, Some, None, List, [], ◌∷◌, refl, arith}
+use Rattle.std.proofs.Common.{◌≡◌, ℕ, true, false, Option, Some, None, List, [], ◌∷◌, refl, arith}
 use Rattle.std.specs.Prelude.{◌&&◌, ◌||◌}
 use Rattle.fx_term.specs.declared.node.NodeId.{NodeId}
 use Rattle.fx_term.specs.declared.node.Node.{Node}
+use Rattle.fx_term.specs.declared.done.Done.{Done}
 use Rattle.fx_term.specs.declared.outcome.Outcome.{Outcome}
 use Rattle.fx_term.specs.declared.event.Event.TheVariants as event
-use Rattle.fx_mask.specs.Closing.{Closing, Seal, MasksView, is_none_closed}
-use Rattle.fx_mask.specs.Masks.{closed_by}
+use Rattle.fx_mask.specs.Closing.{Closing, Seal, is_none_closed}
+use Rattle.fx_mask.specs.Masks.{MasksView, closed_by}
 use Rattle.fx_frames.specs.declared.frame.Frame.{Frame}
-use Rattle.fx_fiber.specs.declared.standing.cleaning.Cleaning.{Cleaning}
+use Rattle.fx_fiber.specs.declared.machine.unwound.Unwound.{Unwound}
 use Rattle.fx_frames.specs.declared.cleanup.Cleanup.{Cleanup}
 use Rattle.fx_frames.specs.declared.cleanup.Cleanup.TheVariants as cleanup
 use Rattle.fx_frames.specs.Frames.{cleanups_of}
 use Rattle.fx_fiber.specs.Path.{is_canceled_form}
 use Rattle.fx_fiber.specs.Row.{Counts, Silent, Shows, known_canceled}
 use Rattle.fx_fiber.specs.Step.{Unwinds, Step, finalizer, release}
-use Rattle.fx_fiber.specs.declared.standing.place.Place.{Place}
-use Rattle.fx_fiber.specs.declared.standing.place.Place.TheVariants.{At, Gave, Turn, Unwinding, Ended}
-use Rattle.fx_fiber.specs.Standing.{inner, within, clean_ups_of, running, progress_at, closed_outside, AreCleanupsIn, AreFramesIn, AreClosedBy, IsNode, IsSound}
-use Rattle.fx_fiber.specs.Rule.{IsEntered, IsGoing}
+use Rattle.fx_fiber.specs.declared.machine.focus.Focus.{Focus}
+use Rattle.fx_fiber.specs.declared.machine.focus.Focus.TheVariants.{Eval, Return, Turn, Unwinding, Ended}
+use Rattle.fx_fiber.specs.declared.machine.Machine.{Machine}
+use Rattle.fx_fiber.specs.Machine.{inner, within, cleanup_terms_of, running, progress_at}
+use Rattle.fx_fiber.specs.Sound.{closed_outside, AreCleanupsIn, AreFramesIn, AreClosedBy, IsNode, IsSound}
+use Rattle.fx_fiber.specs.Methods.{IsEntered, IsGoing, ReturnsOut}
 use Rattle.fx_fiber.proofs.Contexts.{clean_up_is_closed}
 use Rattle.fx_fiber.proofs.Numbers.{cleanups_in}
 use Rattle.fx_fiber.proofs.Rules.{cancelled_step, seen_step}
-use Rattle.fx_fiber.proofs.Nodes.{leaf_of_place}
+use Rattle.fx_fiber.proofs.Nodes.{leaf_of_focus}
 
 -- the next clean-up is taken
-module _ (nodes : List Node) (ns : List ℕ) (fs : List Frame) (m : MasksView) (c next : Cleaning) (sound : IsSound nodes ns fs m (Some c) Unwinding) where
+module _ (nodes : List Node) (ns : List ℕ) (fs : List Frame) (m : MasksView) (c next : Unwound) (sound : IsSound nodes ns fs m (Some c) Unwinding) where
   module _ (taken : Cleanup) (is : c.left ≡ taken ∷ next.left) where
     clean_ups_in : AreCleanupsIn nodes sound.bound (taken ∷ next.left)
     clean_ups_in = rw (sound.between, is) at sound.frames_in
 
-    next_sound : (id : NodeId) → IsNode nodes clean_ups_in.0 id → IsSound nodes ns fs m (Some next) (At id)
+    next_sound : (id : NodeId) → IsNode nodes clean_ups_in.0 id → IsSound nodes ns fs m (Some next) (Eval id)
     next_sound id here = record {
       tree = sound.tree;
       bound = clean_ups_in.0;
       fits = let p = clean_ups_in.1 in let q = sound.fits in omega arith;
-      place_in = here;
+      focus_in = here;
       frames_in = of_none fs sound.between;
       closed = sound.closed;
       room = sound.room;
@@ -45,10 +48,10 @@ module _ (nodes : List Node) (ns : List ℕ) (fs : List Frame) (m : MasksView) (
         of_none : (no_frame : List Frame) → no_frame ≡ [] → AreFramesIn nodes clean_ups_in.0 no_frame next.left
         of_none no_frame e = rw e clean_ups_in.3
 
-  pub finalizer_sound : (f : NodeId) → c.left ≡ cleanup.Finalizer f ∷ next.left → IsSound nodes ns fs m (Some next) (At f)
+  pub finalizer_sound : (f : NodeId) → c.left ≡ cleanup.Finalizer f ∷ next.left → IsSound nodes ns fs m (Some next) (Eval f)
   finalizer_sound f is = next_sound (cleanup.Finalizer f) is f (clean_ups_in (cleanup.Finalizer f) is).2
 
-  pub release_sound : (k : ℕ) (r : NodeId) → c.left ≡ cleanup.Release k r ∷ next.left → IsSound nodes ns fs m (Some next) (At r)
+  pub release_sound : (k : ℕ) (r : NodeId) → c.left ≡ cleanup.Release k r ∷ next.left → IsSound nodes ns fs m (Some next) (Eval r)
   release_sound k r is = next_sound (cleanup.Release k r) is r (clean_ups_in (cleanup.Release k r) is).2
 
   pub unwound_sound : (o : Outcome) → next.left ≡ [] → IsSound nodes ns fs m (Some next) (Ended o)
@@ -56,7 +59,7 @@ module _ (nodes : List Node) (ns : List ℕ) (fs : List Frame) (m : MasksView) (
     tree = sound.tree;
     bound = sound.bound;
     fits = sound.fits;
-    place_in = tt;
+    focus_in = tt;
     frames_in = of_none fs sound.between;
     closed = sound.closed;
     room = sound.room;
@@ -66,14 +69,17 @@ module _ (nodes : List Node) (ns : List ℕ) (fs : List Frame) (m : MasksView) (
       of_none : (no_frame : List Frame) → no_frame ≡ [] → AreFramesIn nodes sound.bound no_frame next.left
       of_none no_frame e = rw (e, none) tt
 
-  pub finalizer_begins : (d : Counts) (f : NodeId) → c.left ≡ cleanup.Finalizer f ∷ next.left → next.resource ≡ None → Step d (progress_at nodes ns fs m.regions (Some c) Unwinding) Silent d (progress_at nodes ns fs m.regions (Some next) (At f))
+  pub finalizer_begins : (d : Counts) (f : NodeId) → c.left ≡ cleanup.Finalizer f ∷ next.left → next.resource ≡ None
+      → Step d (progress_at nodes ns fs m.regions (Some c) Unwinding) Silent d (progress_at nodes ns fs m.regions (Some next) (Eval f))
   finalizer_begins d f is resource = rw (is, resource, sound.between) finalizer
 
-  pub release_begins : (d : Counts) (k : ℕ) (r : NodeId) → c.left ≡ cleanup.Release k r ∷ next.left → next.resource ≡ Some k → Step d (progress_at nodes ns fs m.regions (Some c) Unwinding) (Shows (event.Begin k)) d (progress_at nodes ns fs m.regions (Some next) (At r))
+  pub release_begins : (d : Counts) (k : ℕ) (r : NodeId) → c.left ≡ cleanup.Release k r ∷ next.left → next.resource ≡ Some k
+      → Step d (progress_at nodes ns fs m.regions (Some c) Unwinding) (Shows (event.Begin k)) d (progress_at nodes ns fs m.regions (Some next) (Eval r))
   release_begins d k r is resource = rw (is, resource, sound.between) release
 
 -- an open place is in no clean-up, nor between two
-pub not_cleaning : (fs : List Frame) (cs : List Closing) (left : Option Cleaning) → AreClosedBy (closed_outside left) fs cs → is_none_closed cs ≡ true → left ≡ None
+pub not_cleaning : (fs : List Frame) (cs : List Closing) (left : Option Unwound) → AreClosedBy (closed_outside left) fs cs → is_none_closed cs ≡ true
+    → left ≡ None
 not_cleaning fs cs None closed shown = refl
 not_cleaning fs cs (Some left) closed shown = absurd (let shut = clean_up_is_closed fs cs left closed in cc)
 
@@ -82,38 +88,55 @@ none_closed [] h = refl
 none_closed (c ∷ cs) h = absurd (let no : false ≡ true = h in cc)
 
 -- a fiber at a leaf or a result, where nothing closes the place
-module _ (nodes : List Node) (ns : List ℕ) (fs : List Frame) (m : MasksView) (left : Option Cleaning) (place : Place) (sound : IsSound nodes ns fs m left place) (going : IsGoing place) (leaf : IsEntered nodes place) (opened : is_none_closed m.regions ≡ true) where
+module _ (nodes : List Node) (ns : List ℕ) (fs : List Frame) (m : MasksView) (left : Option Unwound) (focus : Focus)
+    (sound : IsSound nodes ns fs m left focus) (going : IsGoing focus) (leaf : IsEntered nodes focus) (opened : is_none_closed m.regions ≡ true) where
   no_clean_up : left ≡ None
   no_clean_up = not_cleaning fs m.regions left sound.closed opened
 
-  running_at : (q : Place) → place ≡ q → progress_at nodes ns fs m.regions left place ≡ running nodes ns left (within nodes ns fs m.regions (inner nodes ns place))
-  running_at (At id) e = rw e refl
-  running_at (Gave v) e = rw e refl
+  running_at : (q : Focus) → focus ≡ q
+      → progress_at nodes ns fs m.regions left focus ≡ running nodes ns left (within nodes ns fs m.regions (inner nodes ns focus))
+  running_at (Eval id) e = rw e refl
+  running_at (Return v) e = rw e refl
   running_at (Turn id turn) e = rw e refl
   running_at Unwinding e = absurd (rw (e, no_clean_up) at sound.between)
   running_at (Ended o) e = absurd (rw e at going)
 
   module _ (c : Counts) where
     -- the whole term is given up for the clean-ups of its contexts
-    pub cancelled_at : (is_none_closed m.regions && (c.known || is_canceled_form (inner nodes ns place))) ≡ true → Step c (progress_at nodes ns fs m.regions left place) (Shows event.Cancelled) c (Unwinds (clean_ups_of nodes ns (cleanups_of fs)))
-    cancelled_at due = rw (running_at place refl) (cancelled_step nodes ns fs m.regions (inner nodes ns place) (leaf_of_place nodes ns m.regions place sound.tree leaf) left c sound.closed due)
+    pub cancelled_at : (is_none_closed m.regions && (c.known || is_canceled_form (inner nodes ns focus))) ≡ true
+        → Step c (progress_at nodes ns fs m.regions left focus) (Shows event.Cancelled) c (Unwinds (cleanup_terms_of nodes ns (cleanups_of fs)))
+    cancelled_at due = rw (running_at focus refl)
+        (cancelled_step nodes ns fs m.regions (inner nodes ns focus) (leaf_of_focus nodes ns m.regions focus sound.tree leaf) left c sound.closed due)
 
-    pub seen_at : (is_none_closed m.regions && (c.known || is_canceled_form (inner nodes ns place))) ≡ false → Step c (progress_at nodes ns fs m.regions left place) (Shows event.Seen) (known_canceled c) (progress_at nodes ns fs m.regions left place)
-    seen_at free = rw (running_at place refl) (seen_step nodes ns fs m.regions (inner nodes ns place) (leaf_of_place nodes ns m.regions place sound.tree leaf) left c sound.closed opened free)
+    pub seen_at : (is_none_closed m.regions && (c.known || is_canceled_form (inner nodes ns focus))) ≡ false
+        → Step c (progress_at nodes ns fs m.regions left focus) (Shows event.Seen) (known_canceled c) (progress_at nodes ns fs m.regions left focus)
+    seen_at free = rw (running_at focus refl)
+        (seen_step nodes ns fs m.regions (inner nodes ns focus) (leaf_of_focus nodes ns m.regions focus sound.tree leaf) left c sound.closed opened free)
 
   pub cancelled_sound : IsSound nodes ns [] (closed_by Seal m) (Some (record { resource = None; left = cleanups_of fs })) Unwinding
   cancelled_sound = record {
     tree = sound.tree;
     bound = sound.bound;
     fits = sound.fits;
-    place_in = tt;
+    focus_in = tt;
     frames_in = cleanups_in nodes sound.bound fs (rw no_clean_up at sound.frames_in);
     closed = rw (none_closed m.regions opened) refl;
     room = omega arith;
     between = refl;
   }
 
--- the place of a fiber that must cancel is open
-pub due_opened : (a b : Bool) → (a && b) ≡ true → a ≡ true
-due_opened true b h = refl
-due_opened false b h = h
+-- a fiber with the result of a clean-up is sound between that and the next one
+pub between_sound : (nodes : List Node) (s : Machine) (v : Done) (c : Unwound) → ReturnsOut nodes s v → s.cleanups ≡ Some c
+    → IsSound nodes s.registers s.frames s.masks s.cleanups Unwinding
+between_sound nodes s v c out is =
+    let sound = out.given.sound in
+    record {
+      tree = sound.tree;
+      bound = sound.bound;
+      fits = sound.fits;
+      focus_in = tt;
+      frames_in = sound.frames_in;
+      closed = sound.closed;
+      room = sound.room;
+      between = rw is out.frames;
+    }

@@ -1,12 +1,12 @@
--- How a result leaves the masks and polls round it.
+-- How a result leaves the masks, polls and finalizers round it.
 use Rattle.std.proofs.Common.{◌≡◌, false, List, [], ◌∷◌, ◌∙◌}
 use Rattle.fx_term.specs.declared.done.Done.{Done}
 use Rattle.fx_term.specs.Term.{Finished}
 use Rattle.fx_mask.specs.Closing.{is_none_closed}
 use Rattle.fx_fiber.specs.Path.{is_open, must_cancel}
-use Rattle.fx_fiber.specs.Row.{Counts, Silent, masked_ends, opened_ends}
+use Rattle.fx_fiber.specs.Row.{Counts, Silent, masked_ends, opened_ends, oncancel_ends}
 use Rattle.fx_fiber.specs.Step.{Runs, row}
-use Rattle.fx_fiber.proofs.Wrapped.{Wrap, Closes, Opens, wrapped, closes, open_wrapped, row_wrapped}
+use Rattle.fx_fiber.proofs.Wrapped.{Wrap, Closes, Opens, Cleans, wrapped, closes, open_wrapped, row_wrapped}
 use Rattle.fx_fiber.proofs.ShownRuns.{Reaches, rests, steps, and_then, closed_must}
 
 -- each place inside one of them is closed
@@ -26,6 +26,7 @@ leaves_one : (c : Counts) (w : Wrap) (ws : List Wrap) (v : Done) → must_cancel
     → Reaches c (Runs (wrapped (w ∷ ws) (Finished v))) [] c (Runs (wrapped ws (Finished v)))
 leaves_one c (Closes r) ws v free = steps {l = Silent} (row free (row_wrapped ws masked_ends))
 leaves_one c (Opens r) ws v free = steps {l = Silent} (row free (row_wrapped ws opened_ends))
+leaves_one c (Cleans f) ws v free = steps {l = Silent} (row free (row_wrapped ws oncancel_ends))
 
 leaves_shut : (c : Counts) (ws : List Wrap) (v : Done) → AreShut ws → Reaches c (Runs (wrapped ws (Finished v))) [] c (Runs (Finished v))
 leaves_shut c [] v shut = rests
@@ -34,6 +35,7 @@ leaves_shut c (w ∷ ws) v shut =
     and_then (leaves_one c w ws v free) (leaves_shut c ws v shut.1)
 
 -- where the fiber may leave the innermost, it leaves all of them silently
-pub leaves_all : (c : Counts) (ws : List Wrap) (v : Done) → AreShutBelow ws → must_cancel c.known (wrapped ws (Finished v)) ≡ false → Reaches c (Runs (wrapped ws (Finished v))) [] c (Runs (Finished v))
+pub leaves_all : (c : Counts) (ws : List Wrap) (v : Done) → AreShutBelow ws → must_cancel c.known (wrapped ws (Finished v)) ≡ false
+    → Reaches c (Runs (wrapped ws (Finished v))) [] c (Runs (Finished v))
 leaves_all c [] v shut free = rests
 leaves_all c (w ∷ ws) v shut free = and_then (leaves_one c w ws v free) (leaves_shut c ws v shut)

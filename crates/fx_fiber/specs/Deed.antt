@@ -6,9 +6,10 @@ use Rattle.fx_term.specs.declared.outcome.Outcome.{Outcome}
 use Rattle.fx_term.specs.declared.event.Event.{Event}
 use Rattle.fx_term.specs.declared.event.Event.TheVariants as event
 use Rattle.fx_fiber.specs.Row.{Label, Silent, Shows, Learns, Starts}
-use Rattle.fx_fiber.specs.Begins.{beginning_of}
+use Rattle.fx_fiber.specs.Origin.{origin_of}
 
--- a fiber was started and began so; a cancellation was requested; the own request was seen; an element was put into a queue or taken out of it; a queue was found full or empty; a fiber was found to have ended so; the fiber ended so
+-- a fiber was started and began so; a cancellation was requested; the own request was seen; an element was put into a queue or taken out of it; a queue was
+-- found full or empty; a fiber was found to have ended so; the fiber ended so
 pub data Deed : Type 0 where
   Started : ℕ → Begin → Deed
   Requested : ℕ → Deed
@@ -36,7 +37,7 @@ abbrev pub AreDeedsOf : List Node → Label → List Deed → Type 0
 AreDeedsOf nodes Silent deeds = deeds ≡ []
 AreDeedsOf nodes (Shows e) deeds = deeds ≡ deeds_of_event e
 AreDeedsOf nodes (Learns f o e) deeds = deeds ≡ FoundEnded f o ∷ []
-AreDeedsOf nodes (Starts f b) deeds = (begin : Begin) × (beginning_of nodes begin ≡ b) × (deeds ≡ Started f begin ∷ [])
+AreDeedsOf nodes (Starts f b) deeds = (begin : Begin) × (origin_of nodes begin ≡ b) × (deeds ≡ Started f begin ∷ [])
 
 -- the deeds of steps with these labels
 abbrev pub AreDeeds : List Node → List Label → List Deed → Type 0

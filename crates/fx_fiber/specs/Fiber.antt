@@ -8,13 +8,15 @@ use Rattle.fx_frames.specs.declared.frame.Frame.{Frame}
 use Rattle.fx_fiber.specs.Row.{Counts, Label}
 use Rattle.fx_fiber.specs.Step.{Progress, HasEnded}
 use Rattle.fx_fiber.specs.Run.{IsRun, events}
-use Rattle.fx_fiber.specs.Begins.{beginning_of}
+use Rattle.fx_fiber.specs.Origin.{origin_of}
 use Rattle.fx_fiber.specs.Deed.{Deed, AreDeeds}
-use Rattle.fx_fiber.specs.Entries.{entries_left}
-use Rattle.fx_fiber.specs.declared.standing.place.Place.{Place}
-use Rattle.fx_fiber.specs.declared.standing.cleaning.Cleaning.{Cleaning}
-use Rattle.fx_fiber.specs.declared.standing.Standing.{Standing}
-use Rattle.fx_fiber.specs.Standing.{counts_of, progress_at, progress_of, IsSoundStanding}
+use Rattle.fx_fiber.specs.Calls.{Range, range_of}
+use Rattle.fx_fiber.specs.Work.{work_left}
+use Rattle.fx_fiber.specs.declared.machine.focus.Focus.{Focus}
+use Rattle.fx_fiber.specs.declared.machine.unwound.Unwound.{Unwound}
+use Rattle.fx_fiber.specs.declared.machine.Machine.{Machine}
+use Rattle.fx_fiber.specs.Machine.{counts_of, progress_at, progress_of}
+use Rattle.fx_fiber.specs.Sound.{IsSoundMachine}
 
 -- a fiber: its port, its trace, what it keeps beside its term, and where it stands
 pub record FiberView (P : Type 0) : Type 0 where
@@ -24,12 +26,12 @@ pub record FiberView (P : Type 0) : Type 0 where
   pub registers : List ℕ
   pub frames : List Frame
   pub closed : List Closing
-  pub cleanups : Option Cleaning
-  pub place : Place
+  pub cleanups : Option Unwound
+  pub focus : Focus
 
 -- how far it is
 abbrev pub progress : {P : Type 0} → List Node → FiberView P → Progress
-progress nodes f = progress_at nodes f.registers f.frames f.closed f.cleanups f.place
+progress nodes f = progress_at nodes f.registers f.frames f.closed f.cleanups f.focus
 
 abbrev pub has_ended : Progress → Bool
 has_ended (HasEnded o) = true
@@ -43,17 +45,21 @@ pub record IsUnchanged {P : Type 0} (nodes : List Node) (old new : FiberView P) 
   pub progress_is : progress nodes new ≡ progress nodes old
 
 -- the trace is that of a run from what the fiber began with, which leads to where it is, and the port agrees with the deeds of that run
-pub record IsLawful (nodes : List Node) (begin : Begin) (agrees : List Deed → Type 0) (trace : List Event) (counts : Counts) (progress : Progress) : Type 0 where
+pub record IsLawful (nodes : List Node) (begin : Begin) (agrees : List Deed → Type 0) (trace : List Event) (counts : Counts)
+    (progress : Progress) : Type 0 where
   pub labels : List Label
-  pub run : IsRun (beginning_of nodes begin) labels counts progress
+  pub run : IsRun (origin_of nodes begin) labels counts progress
   pub traced : events labels ≡ trace
   pub deeds : List Deed
   pub are_deeds : AreDeeds nodes labels deeds
   pub agreed : agrees deeds
 
--- what a fiber's parts keep: they are sound, lawful, its masks and resources can be counted, and its port knows whether it has ended
-pub record IsKept (nodes : List Node) (begin : Begin) (agrees : List Deed → Type 0) (finished : Bool) (trace : List Event) (s : Standing) : Type 0 where
-  pub sound : IsSoundStanding nodes s
+-- what a fiber's parts keep: they are sound, lawful, its masks and resources can be counted, and its port knows whether it has ended, and the numbers
+-- that are left
+pub record IsKept (nodes : List Node) (begin : Begin) (agrees : List Deed → Type 0) (finished : Bool) (rest : Range) (trace : List Event)
+    (s : Machine) : Type 0 where
+  pub sound : IsSoundMachine nodes s
   pub lawful : IsLawful nodes begin agrees trace (counts_of s) (progress_of nodes s)
-  pub countable : s.masks.entries + s.acquired + entries_left (progress_of nodes s) < 2 ^ 63
+  pub countable : s.masks.entries + s.acquired + work_left (progress_of nodes s) < 2 ^ 63
   pub ended : finished ≡ has_ended (progress_of nodes s)
+  pub numbers : rest ≡ range_of (counts_of s)

@@ -1,7 +1,8 @@
 -- Where the masks of a path are opened by their polls.
 use Rattle.std.specs.Prelude.{◌≡◌, ℕ, List, [], ◌∷◌, ◌++◌}
 use Rattle.fx_term.specs.declared.event.Event.TheVariants as event
-use Rattle.fx_term.specs.Term.{Term, Let, Handle, OnCancel, Bracket, Masked, Opened, Using, Releasing, Await}
+use Rattle.fx_term.specs.Term.{Term, Await}
+use Rattle.fx_fiber.specs.Path.{Context, AcquireIn, MaskedIn, OpenedIn, InReleaseIn, path, leaf}
 use Rattle.fx_fiber.specs.Row.{Counts, Label, Shows}
 use Rattle.fx_fiber.specs.Step.{Progress, Runs}
 use Rattle.fx_fiber.specs.Run.{Leads}
@@ -12,18 +13,25 @@ pub data Mark : Type 0 where
   Opens : ℕ → Mark
   Seals : Mark
 
+-- what a context says of masks, the path of contexts, and the leaf
+abbrev pub marks_of : Context → List Mark
+marks_of (AcquireIn x u r) = Seals ∷ []
+marks_of (MaskedIn r) = Closes r ∷ []
+marks_of (OpenedIn r) = Opens r ∷ []
+marks_of (InReleaseIn k v) = Seals ∷ []
+marks_of _ = []
+
+abbrev pub marks_along : List Context → List Mark
+marks_along [] = []
+marks_along (f ∷ fs) = marks_of f ++ marks_along fs
+
+abbrev pub marks_at : Term → List Mark
+marks_at (Await f) = Seals ∷ []
+marks_at _ = []
+
 -- what the path to the leaf says of masks, from the root
 abbrev pub marks : Term → List Mark
-marks (Let x a b) = marks a
-marks (Handle a x b) = marks a
-marks (OnCancel a f) = marks a
-marks (Bracket x a u r) = Seals ∷ marks a
-marks (Masked r a) = Closes r ∷ marks a
-marks (Opened r a) = Opens r ∷ marks a
-marks (Using k a r) = marks a
-marks (Releasing k a v) = Seals ∷ marks a
-marks (Await f) = Seals ∷ []
-marks _ = []
+marks t = marks_along (path t) ++ marks_at (leaf t)
 
 -- each mask has its poll further in, these pairs are nested, and there is no seal; a poll that opens nothing may stand anywhere
 pub data IsPaired : List Mark → Type 0 where

@@ -1,38 +1,43 @@
--- Where a running term stands: its leaf, the closed regions of the path to it, and the clean-ups of that path.
--- The leaf is found by going into the first part of `let`, `handle` and `oncancel`, the acquire part of `bracket`, and the insides of Masked, Opened, Using and Releasing.
-use Rattle.std.specs.Prelude.{ℕ, Bool, true, false, ◌&&◌, ◌||◌, List, [], ◌∷◌, ◌++◌}
-use Rattle.fx_term.specs.Term.{Term, Let, Handle, OnCancel, Bracket, Masked, Opened, Using, Releasing, Await, Canceled}
+-- Where a running term stands: the contexts round its leaf, what they close, and their clean-ups.
+use Rattle.std.specs.Prelude.{ℕ, Bool, true, false, ◌&&◌, ◌||◌, Option, List, [], ◌∷◌, ◌++◌}
+use Rattle.fx_term.specs.declared.done.Done.{Done}
+use Rattle.fx_term.specs.Term.{Term, Let, Handle, OnCancel, Bracket, Masked, Opened, InUse, InRelease, Await, Canceled}
 use Rattle.fx_mask.specs.Closing.{Closing, Region, Seal, without_region, is_none_closed}
 
--- the closed regions of the path to the leaf, the innermost first, inside those of the outer list
-abbrev pub closed_regions : List Closing → Term → List Closing
-closed_regions outer (Let x a b) = closed_regions outer a
-closed_regions outer (Handle a x b) = closed_regions outer a
-closed_regions outer (OnCancel a f) = closed_regions outer a
-closed_regions outer (Bracket x a u r) = closed_regions (Seal ∷ outer) a
-closed_regions outer (Masked r a) = closed_regions (Region r ∷ outer) a
-closed_regions outer (Opened r a) = closed_regions (without_region r outer) a
-closed_regions outer (Using k a r) = closed_regions outer a
-closed_regions outer (Releasing k a v) = closed_regions (Seal ∷ outer) a
-closed_regions outer (Await f) = Seal ∷ outer
-closed_regions outer _ = outer
+-- a node round the part of it that runs: the first part of `let`, `handle` and `oncancel`, the acquire part of `bracket`, or the inside of Masked, Opened,
+-- InUse or InRelease
+pub data Context : Type 0 where
+  LetIn : Option ℕ → Term → Context
+  HandleIn : Option ℕ → Term → Context
+  OnCancelIn : Term → Context
+  AcquireIn : Option ℕ → Term → Term → Context
+  MaskedIn : ℕ → Context
+  OpenedIn : ℕ → Context
+  InUseIn : ℕ → Term → Context
+  InReleaseIn : ℕ → Done → Context
 
--- a finalizer, or the release of a resource
-pub data CleanUp : Type 0 where
-  Finalizer : Term → CleanUp
-  Release : ℕ → Term → CleanUp
+-- the whole node, with this part in it
+abbrev pub plug : Context → Term → Term
+plug (LetIn x b) a = Let x a b
+plug (HandleIn x b) a = Handle a x b
+plug (OnCancelIn f) a = OnCancel a f
+plug (AcquireIn x u r) a = Bracket x a u r
+plug (MaskedIn r) a = Masked r a
+plug (OpenedIn r) a = Opened r a
+plug (InUseIn k r) a = InUse k a r
+plug (InReleaseIn k v) a = InRelease k a v
 
--- the clean-ups of the path to the leaf, from the inside out
-abbrev pub clean_ups : Term → List CleanUp
-clean_ups (Let x a b) = clean_ups a
-clean_ups (Handle a x b) = clean_ups a
-clean_ups (OnCancel a f) = clean_ups a ++ Finalizer f ∷ []
-clean_ups (Bracket x a u r) = clean_ups a
-clean_ups (Masked r a) = clean_ups a
-clean_ups (Opened r a) = clean_ups a
-clean_ups (Using k a r) = clean_ups a ++ Release k r ∷ []
-clean_ups (Releasing k a v) = clean_ups a
-clean_ups _ = []
+-- the contexts round the leaf, the outermost first
+abbrev pub path : Term → List Context
+path (Let x a b) = LetIn x b ∷ path a
+path (Handle a x b) = HandleIn x b ∷ path a
+path (OnCancel a f) = OnCancelIn f ∷ path a
+path (Bracket x a u r) = AcquireIn x u r ∷ path a
+path (Masked r a) = MaskedIn r ∷ path a
+path (Opened r a) = OpenedIn r ∷ path a
+path (InUse k a r) = InUseIn k r ∷ path a
+path (InRelease k a v) = InReleaseIn k v ∷ path a
+path _ = []
 
 -- the leaf
 abbrev pub leaf : Term → Term
@@ -42,9 +47,49 @@ leaf (OnCancel a f) = leaf a
 leaf (Bracket x a u r) = leaf a
 leaf (Masked r a) = leaf a
 leaf (Opened r a) = leaf a
-leaf (Using k a r) = leaf a
-leaf (Releasing k a v) = leaf a
+leaf (InUse k a r) = leaf a
+leaf (InRelease k a v) = leaf a
 leaf t = t
+
+-- what is closed inside a context, where this is closed outside
+abbrev pub closed_under : List Closing → Context → List Closing
+closed_under outer (AcquireIn x u r) = Seal ∷ outer
+closed_under outer (MaskedIn r) = Region r ∷ outer
+closed_under outer (OpenedIn r) = without_region r outer
+closed_under outer (InReleaseIn k v) = Seal ∷ outer
+closed_under outer _ = outer
+
+abbrev pub closed_along : List Closing → List Context → List Closing
+closed_along outer [] = outer
+closed_along outer (f ∷ fs) = closed_along (closed_under outer f) fs
+
+-- a fiber that awaits another is sealed
+abbrev pub closed_at : List Closing → Term → List Closing
+closed_at outer (Await f) = Seal ∷ outer
+closed_at outer _ = outer
+
+-- the closed regions at the leaf, the innermost first, inside those of the outer list
+abbrev pub closed_regions : List Closing → Term → List Closing
+closed_regions outer t = closed_at (closed_along outer (path t)) (leaf t)
+
+-- a finalizer, or the release of a resource
+pub data CleanupTerm : Type 0 where
+  Finalizer : Term → CleanupTerm
+  Release : ℕ → Term → CleanupTerm
+
+-- the clean-ups inside a context, and then its own
+abbrev pub cleanups_with : Context → List CleanupTerm → List CleanupTerm
+cleanups_with (OnCancelIn f) inside = inside ++ Finalizer f ∷ []
+cleanups_with (InUseIn k r) inside = inside ++ Release k r ∷ []
+cleanups_with _ inside = inside
+
+abbrev pub cleanups_along : List Context → List CleanupTerm
+cleanups_along [] = []
+cleanups_along (f ∷ fs) = cleanups_with f (cleanups_along fs)
+
+-- the clean-ups of the path to the leaf, from the inside out
+abbrev pub cleanup_terms : Term → List CleanupTerm
+cleanup_terms t = cleanups_along (path t)
 
 abbrev pub is_canceled_form : Term → Bool
 is_canceled_form Canceled = true

@@ -8,10 +8,14 @@ use Rattle.fx_term.specs.declared.outcome.Outcome.TheVariants.{Succeeded, Errore
 use Rattle.fx_term.specs.declared.outcome.Outcome.TheVariants as outcome
 use Rattle.fx_term.specs.declared.event.Event.{Event}
 use Rattle.fx_term.specs.declared.event.Event.TheVariants as event
-use Rattle.fx_term.specs.Term.{Term, Pure, Raise, Canceled, Cede, Let, Handle, If, For, Mask, Poll, OnCancel, Bracket, Start, Join, Cancel, First, Offer, TryOffer, Take, TryTake, Finished, Masked, Opened, Using, Releasing, Loop, Await, put, put_named}
+use Rattle.fx_term.specs.Term.{Term, Pure, Raise, Canceled, Cede, Let, Handle, If, For, Mask, Poll, OnCancel, Bracket, Start, Join, Cancel, First, Offer}
+use Rattle.fx_term.specs.Term.{TryOffer, Take, TryTake, Finished, Masked, Opened, InUse, InRelease, Loop, Await, put, put_named}
 use Rattle.fx_term.specs.Need.{need}
+use Rattle.fx_fiber.specs.Path.{Context, plug}
+use Rattle.fx_fiber.specs.Origin.{Origin, child_origin}
 
--- what a fiber keeps beside its term: how many masks it entered and how many brackets it acquired, the rest of its range of fiber numbers, and whether it is known to be canceled
+-- what a fiber keeps beside its term: how many masks it entered and how many brackets it acquired, the rest of its range of fiber numbers, and whether it is
+-- known to be canceled
 pub record Counts : Type 0 where
   pub masks : ℕ
   pub acquired : ℕ
@@ -19,18 +23,12 @@ pub record Counts : Type 0 where
   pub end : ℕ
   pub known : Bool
 
--- what a fiber begins with: its term and its range of fiber numbers, from `next` to below `end`
-pub record Beginning : Type 0 where
-  pub term : Term
-  pub next : ℕ
-  pub end : ℕ
-
 -- what a step shows of itself: nothing; an event; an event for which a fiber had to have ended, with that outcome; or the start of a fiber
 pub data Label : Type 0 where
   Silent : Label
   Shows : Event → Label
   Learns : ℕ → Outcome → Event → Label
-  Starts : ℕ → Beginning → Label
+  Starts : ℕ → Origin → Label
 
 -- the counts after a step of one of the four kinds that change them
 abbrev pub one_more_mask : Counts → Counts
@@ -45,10 +43,6 @@ numbers_taken n c = record c { next = c.next + n }
 abbrev pub known_canceled : Counts → Counts
 known_canceled c = record c { known = true }
 
--- the child's share of the range: its own number, and those that its term can use
-abbrev pub beginning_of_child : Counts → Term → Beginning
-beginning_of_child c a = record { term = a; next = c.next + 1; end = c.next + 1 + need a }
-
 abbrev pub part_after : Outcome → ℕ → Term → ℕ → Term → Term → Term
 part_after (Succeeded n) x a e b c = put x n a
 part_after (Errored n) x a e b c = put e n b
@@ -60,7 +54,7 @@ after_release (Err e) (Val n) = Err e
 after_release w v = v
 
 -- A rule of the table, at a position that is closed or not: from these counts and this term, with this label, to those counts and that term.
--- The first rows are those of a leaf, and of a leaf with its context; the last ones lead to the leaf.
+-- The first rows are those of a leaf, and of a result with its context; the last one is a row of the part of a context that runs.
 pub data Row (closed : Bool) (c : Counts) : Term → Label → Counts → Term → Type 0 where
   pure : {n : ℕ} → Row closed c (Pure (Number n)) Silent c (Finished (Val n))
   raise : {n : ℕ} → Row closed c (Raise (Number n)) Silent c (Finished (Err n))
@@ -80,11 +74,13 @@ pub data Row (closed : Bool) (c : Counts) : Term → Label → Counts → Term �
   masked_ends : {r : ℕ} {v : Done} → Row closed c (Masked r (Finished v)) Silent c (Finished v)
   opened_ends : {r : ℕ} {v : Done} → Row closed c (Opened r (Finished v)) Silent c (Finished v)
   oncancel_ends : {v : Done} {f : Term} → Row closed c (OnCancel (Finished v) f) Silent c (Finished v)
-  acquired : {x : Option ℕ} {n : ℕ} {u r : Term} → Row closed c (Bracket x (Finished (Val n)) u r) (Shows (event.Acquired c.acquired)) (one_more_acquired c) (Using c.acquired (put_named x n u) (put_named x n r))
+  acquired : {x : Option ℕ} {n : ℕ} {u r : Term}
+      → Row closed c (Bracket x (Finished (Val n)) u r) (Shows (event.Acquired c.acquired)) (one_more_acquired c)
+      (InUse c.acquired (put_named x n u) (put_named x n r))
   acquire_fails : {x : Option ℕ} {e : ℕ} {u r : Term} → Row closed c (Bracket x (Finished (Err e)) u r) Silent c (Finished (Err e))
-  used : {k : ℕ} {v : Done} {r : Term} → Row closed c (Using k (Finished v) r) (Shows (event.Begin k)) c (Releasing k r v)
-  released : {k : ℕ} {w v : Done} → Row closed c (Releasing k (Finished w) v) (Shows (event.End k)) c (Finished (after_release w v))
-  start : {h : ℕ} {a b : Term} → Row closed c (Start h a b) (Starts c.next (beginning_of_child c a)) (numbers_taken (1 + need a) c) (put h c.next b)
+  used : {k : ℕ} {v : Done} {r : Term} → Row closed c (InUse k (Finished v) r) (Shows (event.Begin k)) c (InRelease k r v)
+  released : {k : ℕ} {w v : Done} → Row closed c (InRelease k (Finished w) v) (Shows (event.End k)) c (Finished (after_release w v))
+  start : {h : ℕ} {a b : Term} → Row closed c (Start h a b) (Starts c.next (child_origin c.next a)) (numbers_taken (1 + need a) c) (put h c.next b)
   joined : {f : ℕ} {x e : ℕ} {a b d : Term} {o : Outcome} → Row closed c (Join (Number f) x a e b d) (Learns f o (event.Joined f o)) c (part_after o x a e b d)
   request : {f : ℕ} → Row closed c (Cancel (Number f)) (Shows (event.Request f)) c (Await f)
   awaited : {f : ℕ} {o : Outcome} → Row closed c (Await f) (Learns f o (event.Awaited f)) c (Finished (Val 0))
@@ -96,11 +92,4 @@ pub data Row (closed : Bool) (c : Counts) : Term → Label → Counts → Term �
   taken : {q n : ℕ} → Row closed c (Take q) (Shows (event.Got q n)) c (Finished (Val n))
   tried_take : {q n x : ℕ} {a b : Term} → Row closed c (TryTake q x a b) (Shows (event.Got q n)) c (put x n a)
   found_empty : {q x : ℕ} {a b : Term} → Row closed c (TryTake q x a b) (Shows (event.Empty q)) c b
-  in_let : {x : Option ℕ} {a a' b : Term} {l : Label} {d : Counts} → Row closed c a l d a' → Row closed c (Let x a b) l d (Let x a' b)
-  in_handle : {x : Option ℕ} {a a' b : Term} {l : Label} {d : Counts} → Row closed c a l d a' → Row closed c (Handle a x b) l d (Handle a' x b)
-  in_oncancel : {a a' f : Term} {l : Label} {d : Counts} → Row closed c a l d a' → Row closed c (OnCancel a f) l d (OnCancel a' f)
-  in_acquire : {x : Option ℕ} {a a' u r : Term} {l : Label} {d : Counts} → Row closed c a l d a' → Row closed c (Bracket x a u r) l d (Bracket x a' u r)
-  in_masked : {r : ℕ} {a a' : Term} {l : Label} {d : Counts} → Row closed c a l d a' → Row closed c (Masked r a) l d (Masked r a')
-  in_opened : {r : ℕ} {a a' : Term} {l : Label} {d : Counts} → Row closed c a l d a' → Row closed c (Opened r a) l d (Opened r a')
-  in_using : {k : ℕ} {a a' r : Term} {l : Label} {d : Counts} → Row closed c a l d a' → Row closed c (Using k a r) l d (Using k a' r)
-  in_releasing : {k : ℕ} {a a' : Term} {v : Done} {l : Label} {d : Counts} → Row closed c a l d a' → Row closed c (Releasing k a v) l d (Releasing k a' v)
+  inside : (f : Context) {t t' a a' : Term} {l : Label} {d : Counts} → t ≡ plug f a → t' ≡ plug f a' → Row closed c a l d a' → Row closed c t l d t'

@@ -1,4 +1,4 @@
-//! A fiber as a machine of its own, over any port to the world around it.
+//! A fiber as a machine of its own, over any port to the outside.
 //!
 //! A [`Fiber`] stands inside contexts that it has entered, with a number for each name in scope. The
 //! acquire part and the release of a bracket are sealed inside, and so is each clean-up: no poll opens
@@ -10,7 +10,7 @@
 //! 3. Where nothing closes the place and the fiber is known to be canceled, or is at `canceled`, its
 //!    term is given up for its clean-ups: `cancelled`.
 //! 4. Else, where nothing closes the place, the port is asked whether the fiber is requested; a
-//!    request that is found is known from then on: `seen`.
+//!    request that is seen is known from then on: `seen`.
 //! 5. Else the table makes the rule of that place:
 //!
 //! | inside all contexts | the innermost context | rule |
@@ -27,12 +27,15 @@
 //! | a value or an error | the use of a bracket; its release | `used`; `released` |
 //! | a value or an error of a clean-up | none | `finalizer_ends`; `release_ends` |
 //!
+//! Each rule is made by one method of its name, in the file of its forms. But `unwinds` makes the three
+//! rules `finalizer`, `release` and `unwound`; and a turn of a loop stands in a `let` without a name, so
+//! that its end is `let_value` or `let_error`, made by `turn_value` and `turn_error`.
+//!
 //! The answer of a step is [`Stepped::Gave`] exactly where its rule is `cede`, and [`Stepped::Waits`]
 //! exactly where it made none. A fiber that waits at an open place looks in each step, so a request is
-//! found there; where something closes the place it waits for good.
+//! seen there; where something closes the place it waits for good.
 //!
-//! What follows from the rules alone, for every run, are the laws of [`resource_laws`],
-//! [`cancellation_laws`] and [`mask_laws`].
+//! What follows from the rules alone, for every run, are the [`laws`].
 //!
 //! What never happens: a row of the table at an open place before a look in that step; an event that
 //! is made and not in the trace; a change where memory runs out or the fiber waits; a call to the
@@ -40,12 +43,10 @@
 #![tactic(auto)]
 
 mod begin;
-pub mod cancellation_laws;
 mod fiber;
-pub mod mask_laws;
+pub mod laws;
+mod machine;
 mod port;
-pub mod resource_laws;
-mod standing;
 mod stepped;
 
 pub use begin::main_begin;

@@ -1,14 +1,14 @@
-//! What a fiber reaches of the world.
+//! What a fiber reaches of the outside.
 ghost use Rattle.std.specs.Prelude.{◌≡◌, ℕ, Bool, true, false, List, ◌++◌, ◌∷◌, []};
 ghost use Rattle.std.specs.Bool.{OnTrue, OnFalse};
 ghost use Rattle.fx_term.specs.declared.node.Node.{Node};
 ghost use Rattle.fx_term.specs.declared.begin.Begin.{Begin};
-ghost use Rattle.fx_term.specs.declared.outcome.Outcome.{Outcome};
 ghost use Rattle.fx_fiber.specs.Deed.{Deed, Saw, Ended};
+ghost use Rattle.fx_fiber.specs.Calls.{PortCalls, Range};
 
 use fx_term::Outcome;
 
-/// The port of one fiber: the calls by which the fiber reaches the world around it. Its type names
+/// The port of one fiber: the calls by which the fiber reaches the outside. Its type names
 /// the one code that its fibers run. Contracts know a call by its relation, and by the deed that it
 /// adds to those that the port agrees with; the deeds are stored nowhere.
 pub trait Port: Sized {
@@ -27,30 +27,32 @@ pub trait Port: Sized {
     // the end was told
     ghost has_finished: { Self → Bool };
 
-    // the port knows exactly these deeds of its fiber, in this order
+    // the numbers that are left for the fibers that it starts
+    ghost rest: { Self → Range };
+
+    // what the port says of the deeds of its fiber: that of no deed is asked where a fiber is made, and each call keeps it by its deed
     ghost agrees: { Self → List Deed → Type 0 };
 
-    // a look: before, its answer, and after
-    ghost looks: { Self → Self.Shared → Bool → Self → Self.Shared → Type 0 };
-
-    // the telling of an end: before, the outcome, and after
-    ghost finishes: { Self → Self.Shared → Outcome → Self → Self.Shared → Type 0 };
+    // what each call does
+    ghost calls: { PortCalls Self Self.Shared };
 
     /// Whether the fiber's cancellation is requested.
     fn look(&mut self, shared: &mut Self::Shared) -> bool
-        ensures told { looks self.old shared.old result self.new shared.new }
+        ensures told { calls.looks self.old shared.old result self.new shared.new }
         ensures number { number self.new ≡ number self.old }
         ensures beginning { beginning self.new ≡ beginning self.old }
+        ensures rest { rest self.new ≡ rest self.old }
         ensures finished { has_finished self.new ≡ has_finished self.old }
         ensures deed { OnTrue result ((deeds : List Deed) → agrees self.old deeds → agrees self.new (deeds ++ Saw ∷ [])) }
         ensures unchanged { OnFalse result ((self.new ≡ self.old) × (shared.new ≡ shared.old)) };
 
-    /// Tells the world how the fiber ended.
+    /// Tells the outside how the fiber ended.
     fn finish(&mut self, shared: &mut Self::Shared, outcome: Outcome)
         requires going { has_finished self.old ≡ false }
-        ensures told { finishes self.old shared.old outcome self.new shared.new }
+        ensures told { calls.finishes self.old shared.old outcome self.new shared.new }
         ensures number { number self.new ≡ number self.old }
         ensures beginning { beginning self.new ≡ beginning self.old }
+        ensures rest { rest self.new ≡ rest self.old }
         ensures finished { has_finished self.new ≡ true }
         ensures deed { (deeds : List Deed) → agrees self.old deeds → agrees self.new (deeds ++ Ended outcome ∷ []) };
 }

@@ -26,7 +26,7 @@ impl Model for Frames {
 impl Frames {
     ghost use Rattle.fx_frames.specs.declared.frame.Frame.{Frame};
 
-    /// No contexts.
+    /// No contexts. Only `push` takes memory.
     pub fn new(alloc: Global) -> Frames
         ensures { result ≡ [] }
     {
@@ -35,7 +35,7 @@ impl Frames {
         }
     }
 
-    /// Enters a context.
+    /// Enters a context, which is the innermost from then on.
     pub fn push(&mut self, frame: Frame) -> Result<(), Memory>
         ensures ok { OnOk result (self.new ≡ frame ∷ self.old) }
         ensures err { OnErr result (self.new ≡ self.old) }

@@ -1,4 +1,4 @@
--- What closes a place, and what masks are seen as.
+-- What closes a place.
 use Rattle.std.specs.Prelude.{ℕ, Bool, true, false, if◌then◌else◌, ◌==◌, List, [], ◌∷◌}
 
 -- what closes a position: the region of a mask, by the number of its entry, or a seal, which nothing takes off
@@ -15,9 +15,3 @@ without_region r (Region s ∷ outer) = if s == r then outer else Region s ∷ o
 abbrev pub is_none_closed : List Closing → Bool
 is_none_closed [] = true
 is_none_closed (c ∷ cs) = false
-
--- what closes a place, the innermost first, how many regions were ever entered, and how many are opened
-pub record MasksView : Type 0 where
-  pub regions : List Closing
-  pub entries : ℕ
-  pub opened : ℕ

@@ -1,6 +1,12 @@
--- How masks change.
-use Rattle.std.specs.Prelude.{◌≡◌, ℕ, ◌+◌, ◌∷◌}
-use Rattle.fx_mask.specs.Closing.{Closing, Region, MasksView}
+-- What masks are seen as, and how they change.
+use Rattle.std.specs.Prelude.{◌≡◌, ℕ, ◌+◌, List, ◌∷◌}
+use Rattle.fx_mask.specs.Closing.{Closing, Region}
+
+-- what closes a place, the innermost first, how many regions were ever entered, and how many are opened
+pub record MasksView : Type 0 where
+  pub regions : List Closing
+  pub entries : ℕ
+  pub opened : ℕ
 
 -- with one more that closes the place, as the innermost
 abbrev pub closed_by : Closing → MasksView → MasksView

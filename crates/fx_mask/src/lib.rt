@@ -13,7 +13,9 @@
 //! | `open`, of any other region | all that did | the same | the same |
 //! | `reclose` | that region, and all that did | the same | one less |
 //!
-//! 1. The number of a region is that of the entries before it, so no two regions have the same.
+//! 1. The number of a region is that of the entries before it, so no two entries give the same.
+//!    `reclose` closes whatever region it is given: that it is one that was opened, the last one first,
+//!    is for the caller to see to.
 //! 2. A region is opened only while it is the innermost: a poll opens no mask inside or outside its own.
 //! 3. Nothing opens a seal.
 //! 4. There is room for each opened region to be closed again, so `reclose` needs no memory.

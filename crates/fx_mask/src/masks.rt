@@ -30,7 +30,7 @@ pub struct Masks {
 
 impl Model for Masks {
     ghost use Rattle.std.specs.Prelude.{◌+◌, ◌≤◌, vec_len, vec_capacity};
-    ghost use Rattle.fx_mask.specs.Closing.{MasksView};
+    ghost use Rattle.fx_mask.specs.Masks.{MasksView};
     ghost use Rattle.fx_mask.specs.View.{closings_of};
 
     ghost Value = { MasksView };
@@ -81,7 +81,7 @@ impl Masks {
         Ok(region)
     }
 
-    /// Closes the place by a seal.
+    /// Closes the place by a seal, which no poll opens.
     pub fn seal(&mut self) -> Result<(), Memory>
         ensures ok { OnOk result (self.new ≡ closed_by closing.Seal self.old) }
         ensures err { OnErr result (self.new ≡ self.old) }

@@ -19,13 +19,18 @@ module _ {X Y : Type 0} (P : Y → Type 0) where
   pub all_from_map : (f : X → Y) (xs : List X) → All P (map f xs) → All (λ x. P (f x)) xs
   all_from_map f xs h k d lt = subst P (get_or-map f xs k d (f d) lt) (h k (f d) (omega (arith, length-map xs f)))
 
+  pub all_map : (f : X → Y) (xs : List X) → All (λ x. P (f x)) xs → All P (map f xs)
+  all_map f [] h = All-nil P
+  all_map f (x ∷ xs) h = All-cons P (f x) (map f xs) (All-head (λ y. P (f y)) x xs h) (all_map f xs (All-tail (λ y. P (f y)) x xs h))
+
   pub all_flat_map : (f : X → List Y) (xs : List X) → All (λ x. All P (f x)) xs → All P (flat_map f xs)
   all_flat_map f [] h = All-nil P
   all_flat_map f (x ∷ xs) h = All-append P (f x) (flat_map f xs) (All-head (λ y. All P (f y)) x xs h) (all_flat_map f xs (All-tail (λ y. All P (f y)) x xs h))
 
   pub all_from_flat_map : (f : X → List Y) (xs : List X) → All P (flat_map f xs) → All (λ x. All P (f x)) xs
   all_from_flat_map f [] h = All-nil (λ y. All P (f y))
-  all_from_flat_map f (x ∷ xs) h = All-cons (λ y. All P (f y)) x xs (all_front P (f x) (flat_map f xs) h) (all_from_flat_map f xs (all_back P (f x) (flat_map f xs) h))
+  all_from_flat_map f (x ∷ xs) h =
+      All-cons (λ y. All P (f y)) x xs (all_front P (f x) (flat_map f xs) h) (all_from_flat_map f xs (all_back P (f x) (flat_map f xs) h))
 
 pub flat_map_same : {X Y : Type 0} (f g : X → List Y) (xs : List X) → All (λ x. f x ≡ g x) xs → flat_map f xs ≡ flat_map g xs
 flat_map_same f g [] h = refl

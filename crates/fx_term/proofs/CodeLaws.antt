@@ -6,14 +6,16 @@ use Rattle.fx_term.specs.declared.node.Node.{Node}
 use Rattle.fx_term.specs.declared.code.CodeFault.{CodeFault}
 use Rattle.fx_term.specs.declared.code.CodeFault.TheVariants.{Memory}
 use Rattle.fx_term.specs.Tree.{IsOneTree}
-use Rattle.fx_term.specs.Spots.{Spot, spots, IsWellPlaced}
+use Rattle.fx_term.specs.Walk.{Spot, spots}
+use Rattle.fx_term.specs.WellPlaced.{IsWellPlaced}
 use Rattle.fx_term.specs.Code.{IsCode, IsFault, no_node, too_many, stray, orphan, slot, kind, limit}
 use Rattle.fx_term.proofs.AllParts.{all_middle}
 use Rattle.fx_term.proofs.SpotLaws.{root_right, root_placed}
 use Rattle.fx_term.proofs.TreeLaws.{forest_take}
 
 placed_there : (nodes : List Node) (before after : List Spot) (s : Spot) → IsCode nodes → spots nodes ≡ before ++ s ∷ after → IsWellPlaced nodes s
-placed_there nodes before after s code split = all_middle (IsWellPlaced nodes) before s after (subst (All (IsWellPlaced nodes)) split (root_placed nodes code.tree.forest.before code.scope code.turns))
+placed_there nodes before after s code split =
+    all_middle (IsWellPlaced nodes) before s after (subst (All (IsWellPlaced nodes)) split (root_placed nodes code.tree.forest.before code.scope code.turns))
 
 -- a code has no fault
 pub no_fault_of_code : (nodes : List Node) (fault : CodeFault) → IsFault nodes fault → IsCode nodes → ⊥

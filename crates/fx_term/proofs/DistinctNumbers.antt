@@ -13,7 +13,9 @@ front_passes P (x ∷ xs) ys h = (h.0, front_passes P xs ys h.1)
 pub distinct_front : (xs ys : List ℕ) → IsDistinct nat_eq (xs ++ ys) → IsDistinct nat_eq xs
 unfolding IsDistinct
 distinct_front [] ys h = tt
-distinct_front (x ∷ xs) ys h = IsDistinct-cons nat_eq x xs (front_passes (λ y. nat_eq x y ≡ false) xs ys (IsDistinct-head nat_eq x (xs ++ ys) h)) (distinct_front xs ys (IsDistinct-tail nat_eq x (xs ++ ys) h))
+distinct_front (x ∷ xs) ys h =
+    IsDistinct-cons nat_eq x xs (front_passes (λ y. nat_eq x y ≡ false) xs ys (IsDistinct-head nat_eq x (xs ++ ys) h))
+    (distinct_front xs ys (IsDistinct-tail nat_eq x (xs ++ ys) h))
 
 -- a number that stands in the list cannot follow it
 pub distinct_push_absurd : (xs : List ℕ) (y : ℕ) → list_any (nat_eq y) xs ≡ true → IsDistinct nat_eq (xs ++ y ∷ []) → ⊥

@@ -8,7 +8,8 @@ use Rattle.fx_term.specs.declared.node.Node.{Node}
 use Rattle.fx_term.specs.declared.code.CodeFault.{CodeFault}
 use Rattle.fx_term.specs.declared.code.CodeFault.TheVariants.{Child, Slot, Kind, Limit}
 use Rattle.fx_term.specs.Tree.{all_children, IsForest, IsOneTree}
-use Rattle.fx_term.specs.Spots.{Spot, spots, HasRightSlots, HasRightKinds, HasRightTurns, IsWellPlaced}
+use Rattle.fx_term.specs.Walk.{Spot, spots}
+use Rattle.fx_term.specs.WellPlaced.{HasRightSlots, HasRightKinds, HasRightTurns, IsWellPlaced}
 use Rattle.fx_term.specs.Code.{IsFault, node_id, no_node, too_many, stray, orphan, slot, kind, limit}
 use Rattle.fx_term.proofs.AllParts.{all_middle}
 use Rattle.fx_term.proofs.TreeLaws.{length_positive, forest_take}
@@ -24,11 +25,14 @@ same_orphan : (xs : List ℕ) (i j : ℕ) → (Contains xs i → ⊥) → ((k : 
 same_orphan xs i j at before = elim (cases_lt i j) [ inl lt ↦ absurd (at (before i lt)) | inr le ↦ le ]
 
 -- the first element of which something does not hold
-same_first : {X : Type 0} (P : X → Type 0) (before after : List X) (x : X) (sooner later : List X) (y : X) → before ++ x ∷ after ≡ sooner ++ y ∷ later → All P before → All P sooner → (P x → ⊥) → (P y → ⊥) → x ≡ y
+same_first : {X : Type 0} (P : X → Type 0) (before after : List X) (x : X) (sooner later : List X) (y : X) → before ++ x ∷ after ≡ sooner ++ y ∷ later
+    → All P before → All P sooner → (P x → ⊥) → (P y → ⊥) → x ≡ y
 same_first P [] after x [] later y e h k at also = cc
 same_first P [] after x (z ∷ sooner) later y e h k at also = let same : z ≡ x = cc in absurd (at (subst P same (All-head P z sooner k)))
 same_first P (z ∷ before) after x [] later y e h k at also = let same : z ≡ y = cc in absurd (also (subst P same (All-head P z before h)))
-same_first P (z ∷ before) after x (w ∷ sooner) later y e h k at also = let rest : before ++ x ∷ after ≡ sooner ++ y ∷ later = cc in same_first P before after x sooner later y rest (All-tail P z before h) (All-tail P w sooner k) at also
+same_first P (z ∷ before) after x (w ∷ sooner) later y e h k at also =
+    let rest : before ++ x ∷ after ≡ sooner ++ y ∷ later = cc in
+    same_first P before after x sooner later y rest (All-tail P z before h) (All-tail P w sooner k) at also
 
 child_same : (i j : ℕ) → i ≤ j → j ≤ i → ◌≡◌ {A = CodeFault} (Child (node_id i)) (Child (node_id j))
 child_same i j le ge = let same : i ≡ j = omega arith in cc
@@ -53,7 +57,8 @@ Passes nodes OfPlaces = All (IsWellPlaced nodes) (spots nodes)
 data IsSpotFault (nodes : List Node) (s : Spot) : CodeFault → Type 0 where
   of_slots : (HasRightSlots s.kinds (slice_get nodes s.id) → ⊥) → IsSpotFault nodes s (Slot (node_id s.id))
   of_kinds : HasRightSlots s.kinds (slice_get nodes s.id) → (HasRightKinds s.kinds (slice_get nodes s.id) → ⊥) → IsSpotFault nodes s (Kind (node_id s.id))
-  of_turns : HasRightSlots s.kinds (slice_get nodes s.id) → HasRightKinds s.kinds (slice_get nodes s.id) → (HasRightTurns s.turns (slice_get nodes s.id) → ⊥) → IsSpotFault nodes s (Limit (node_id s.id))
+  of_turns : HasRightSlots s.kinds (slice_get nodes s.id) → HasRightKinds s.kinds (slice_get nodes s.id) → (HasRightTurns s.turns (slice_get nodes s.id) → ⊥)
+      → IsSpotFault nodes s (Limit (node_id s.id))
 
 not_placed : (nodes : List Node) (s : Spot) (f : CodeFault) → IsSpotFault nodes s f → IsWellPlaced nodes s → ⊥
 not_placed nodes s f (of_slots at) placed = at placed.slots
@@ -75,15 +80,19 @@ one_at_spot nodes s f g (of_turns right of_kind at) (of_turns right2 of_kind2 al
 data Answers (nodes : List Node) : Test → CodeFault → Type 0 where
   by_count : Answers nodes OfCount (Child (node_id 0))
   by_children : (id : ℕ) → IsForest (take id nodes) → (IsForest (take (suc id) nodes) → ⊥) → Answers nodes OfChildren (Child (node_id id))
-  by_parents : (id : ℕ) → ((k : ℕ) → k < id → Contains (all_children nodes) k) → (Contains (all_children nodes) id → ⊥) → Answers nodes OfParents (Child (node_id id))
-  by_places : (before after : List Spot) (s : Spot) (f : CodeFault) → spots nodes ≡ before ++ s ∷ after → All (IsWellPlaced nodes) before → IsSpotFault nodes s f → Answers nodes OfPlaces f
+  by_parents : (id : ℕ) → ((k : ℕ) → k < id → Contains (all_children nodes) k) → (Contains (all_children nodes) id → ⊥)
+      → Answers nodes OfParents (Child (node_id id))
+  by_places : (before after : List Spot) (s : Spot) (f : CodeFault) → spots nodes ≡ before ++ s ∷ after → All (IsWellPlaced nodes) before
+      → IsSpotFault nodes s f → Answers nodes OfPlaces f
 
 one_answer : (nodes : List Node) (t : Test) (f g : CodeFault) → Answers nodes t f → Answers nodes t g → f ≡ g
 one_answer nodes t f g by_count by_count = refl
 one_answer nodes t f g (by_children i front at) (by_children j also at2) = child_same i j (same_stray nodes j i at2 front) (same_stray nodes i j at also)
-one_answer nodes t f g (by_parents i front at) (by_parents j also at2) = child_same i j (same_orphan (all_children nodes) j i at2 front) (same_orphan (all_children nodes) i j at also)
+one_answer nodes t f g (by_parents i front at) (by_parents j also at2) =
+    child_same i j (same_orphan (all_children nodes) j i at2 front) (same_orphan (all_children nodes) i j at also)
 one_answer nodes t f g (by_places before after s f2 split placed at) (by_places sooner later r g2 split2 placed2 at2) =
-    let same = same_first (IsWellPlaced nodes) before after s sooner later r (sym split ∙ split2) placed placed2 (not_placed nodes s f at) (not_placed nodes r g at2) in
+    let same = same_first (IsWellPlaced nodes) before after s sooner later r (sym split ∙ split2) placed placed2 (not_placed nodes s f at)
+    (not_placed nodes r g at2) in
     one_at_spot nodes s f g at (subst (λ (q : Spot). IsSpotFault nodes q g) (sym same) at2)
 
 -- a fault is the answer of the first test that fails
@@ -104,12 +113,22 @@ module _ (nodes : List Node) where
   passes_children some fits forest = All-push (Passes nodes) (OfCount ∷ []) OfChildren (passes_count some fits) forest
 
   passes_parents : length nodes < 2 ^ 32 → IsOneTree nodes → All (Passes nodes) (OfCount ∷ OfChildren ∷ OfParents ∷ [])
-  passes_parents fits tree = All-push (Passes nodes) (OfCount ∷ OfChildren ∷ []) OfParents (passes_children (length_positive nodes tree.some_node) fits tree.forest) tree
+  passes_parents fits tree =
+      All-push (Passes nodes) (OfCount ∷ OfChildren ∷ []) OfParents (passes_children (length_positive nodes tree.some_node) fits tree.forest) tree
 
   count_answered : (Passes nodes OfCount → ⊥) → IsAnswered nodes (Child (node_id 0))
-  count_answered fails = record { test = OfCount; before = []; after = OfChildren ∷ OfParents ∷ OfPlaces ∷ []; split = refl; passed = All-nil (Passes nodes); fails = fails; answer = by_count }
+  count_answered fails = record {
+    test = OfCount;
+    before = [];
+    after = OfChildren ∷ OfParents ∷ OfPlaces ∷ [];
+    split = refl;
+    passed = All-nil (Passes nodes);
+    fails = fails;
+    answer = by_count;
+  }
 
-  spot_answered : (before after : List Spot) (s : Spot) (f : CodeFault) → length nodes < 2 ^ 32 → IsOneTree nodes → spots nodes ≡ before ++ s ∷ after → All (IsWellPlaced nodes) before → IsSpotFault nodes s f → IsAnswered nodes f
+  spot_answered : (before after : List Spot) (s : Spot) (f : CodeFault) → length nodes < 2 ^ 32 → IsOneTree nodes → spots nodes ≡ before ++ s ∷ after
+      → All (IsWellPlaced nodes) before → IsSpotFault nodes s f → IsAnswered nodes f
   spot_answered before after s f fits tree split placed at = record {
     test = OfPlaces;
     before = OfCount ∷ OfChildren ∷ OfParents ∷ [];

@@ -5,7 +5,8 @@ use Rattle.std.proofs.lemmas.Bool.{ltb-true, ltb-false, lt-ltb, eqb-true, eqb-fa
 use Rattle.std.proofs.lemmas.Bool.Decides.{nat_tests}
 use Rattle.fx_term.specs.declared.node.Arg.{Arg}
 use Rattle.fx_term.specs.declared.node.Arg.TheVariants.{Number, Slot}
-use Rattle.fx_term.specs.Term.{Term, Pure, Raise, Let, Handle, If, For, Mask, Poll, OnCancel, Bracket, Start, Join, Cancel, First, Offer, TryOffer, TryTake, Masked, Opened, Using, Releasing, Loop, put_arg, put}
+use Rattle.fx_term.specs.Term.{Term, Pure, Raise, Let, Handle, If, For, Mask, Poll, OnCancel, Bracket, Start, Join, Cancel}
+use Rattle.fx_term.specs.Term.{First, Offer, TryOffer, TryTake, Masked, Opened, InUse, InRelease, Loop, put_arg, put}
 use Rattle.fx_term.specs.Fill.{fill_arg, lower, fill, AgreeBelow}
 use Rattle.fx_term.specs.Scope.{IsArgBelow, HasLevels}
 
@@ -44,9 +45,13 @@ fill_agree e ns ms (Mask x a) h = let q = fill_agree (lower e x) ns ms a (agree_
 fill_agree e ns ms (Poll v a) h = let o = fill_arg_agree e ns ms v h in let p = fill_agree e ns ms a h in cc
 fill_agree e ns ms (OnCancel a b) h = let p = fill_agree e ns ms a h in let q = fill_agree e ns ms b h in cc
 fill_agree e ns ms (Bracket None a b c) h = let p = fill_agree e ns ms a h in let q = fill_agree e ns ms b h in let r = fill_agree e ns ms c h in cc
-fill_agree e ns ms (Bracket (Some x) a b c) h = let k = agree_lower e x ns ms h in let p = fill_agree e ns ms a h in let q = fill_agree (lower e x) ns ms b k in let r = fill_agree (lower e x) ns ms c k in cc
+fill_agree e ns ms (Bracket (Some x) a b c) h =
+    let k = agree_lower e x ns ms h in let p = fill_agree e ns ms a h in let q = fill_agree (lower e x) ns ms b k in let r = fill_agree (lower e x) ns ms c k in
+    cc
 fill_agree e ns ms (Start x a b) h = let p = fill_agree e ns ms a h in let q = fill_agree (lower e x) ns ms b (agree_lower e x ns ms h) in cc
-fill_agree e ns ms (Join v x a y b c) h = let o = fill_arg_agree e ns ms v h in let p = fill_agree (lower e x) ns ms a (agree_lower e x ns ms h) in let q = fill_agree (lower e y) ns ms b (agree_lower e y ns ms h) in let r = fill_agree e ns ms c h in cc
+fill_agree e ns ms (Join v x a y b c) h =
+    let o = fill_arg_agree e ns ms v h in let p = fill_agree (lower e x) ns ms a (agree_lower e x ns ms h) in
+    let q = fill_agree (lower e y) ns ms b (agree_lower e y ns ms h) in let r = fill_agree e ns ms c h in cc
 fill_agree e ns ms (Cancel v) h = let o = fill_arg_agree e ns ms v h in cc
 fill_agree e ns ms (First v w) h = let o = fill_arg_agree e ns ms v h in let p = fill_arg_agree e ns ms w h in cc
 fill_agree e ns ms (Offer k v) h = let o = fill_arg_agree e ns ms v h in cc
@@ -54,8 +59,8 @@ fill_agree e ns ms (TryOffer k v) h = let o = fill_arg_agree e ns ms v h in cc
 fill_agree e ns ms (TryTake k x a b) h = let p = fill_agree (lower e x) ns ms a (agree_lower e x ns ms h) in let q = fill_agree e ns ms b h in cc
 fill_agree e ns ms (Masked k a) h = let p = fill_agree e ns ms a h in cc
 fill_agree e ns ms (Opened k a) h = let p = fill_agree e ns ms a h in cc
-fill_agree e ns ms (Using k a b) h = let p = fill_agree e ns ms a h in let q = fill_agree e ns ms b h in cc
-fill_agree e ns ms (Releasing k a v) h = let p = fill_agree e ns ms a h in cc
+fill_agree e ns ms (InUse k a b) h = let p = fill_agree e ns ms a h in let q = fill_agree e ns ms b h in cc
+fill_agree e ns ms (InRelease k a v) h = let p = fill_agree e ns ms a h in cc
 fill_agree e ns ms (Loop x k c a) h = let q = fill_agree (lower e x) ns ms a (agree_lower e x ns ms h) in cc
 fill_agree e ns ms _ h = refl
 
@@ -85,7 +90,8 @@ fill_scope d l ns (OnCancel a b) s h = let p = fill_scope d l ns a s.0 h in let 
 fill_scope d l ns (Bracket None a b c) s h = let p = fill_scope d l ns a s.0 h in let q = fill_scope d l ns b s.2 h in let r = fill_scope d l ns c s.3 h in cc
 fill_scope d l ns (Bracket (Some x) a b c) s h = let p = fill_scope d l ns a s.0 h in let q = under d l x ns b s.1 h in let r = under d l x ns c s.1 h in cc
 fill_scope d l ns (Start x a b) s h = let p = fill_scope d l ns a s.0 h in let q = under d l x ns b s.1 h in cc
-fill_scope d l ns (Join v x a y b c) s h = let o = fill_arg_scope d l ns v s.0 h in let p = under d l x ns a s.1 h in let q = under d l y ns b s.3 h in let r = fill_scope d l ns c s.5 h in cc
+fill_scope d l ns (Join v x a y b c) s h =
+    let o = fill_arg_scope d l ns v s.0 h in let p = under d l x ns a s.1 h in let q = under d l y ns b s.3 h in let r = fill_scope d l ns c s.5 h in cc
 fill_scope d l ns (Cancel v) s h = let o = fill_arg_scope d l ns v s h in cc
 fill_scope d l ns (First v w) s h = let o = fill_arg_scope d l ns v s.0 h in let p = fill_arg_scope d l ns w s.1 h in cc
 fill_scope d l ns (Offer k v) s h = let o = fill_arg_scope d l ns v s h in cc
@@ -93,8 +99,8 @@ fill_scope d l ns (TryOffer k v) s h = let o = fill_arg_scope d l ns v s h in cc
 fill_scope d l ns (TryTake k x a b) s h = let p = under d l x ns a s.0 h in let q = fill_scope d l ns b s.2 h in cc
 fill_scope d l ns (Masked k a) s h = absurd s
 fill_scope d l ns (Opened k a) s h = absurd s
-fill_scope d l ns (Using k a b) s h = absurd s
-fill_scope d l ns (Releasing k a v) s h = absurd s
+fill_scope d l ns (InUse k a b) s h = absurd s
+fill_scope d l ns (InRelease k a v) s h = absurd s
 fill_scope d l ns (Loop x k c a) s h = absurd s
 fill_scope d l ns _ s h = refl
 
@@ -122,7 +128,8 @@ module _ (x n : ℕ) (ns ms : List ℕ) (below : AgreeBelow x ns ms) (at : slice
   lower_suc_x : (d y : ℕ) → y ≡ d → suc x ≤ d → lower (suc x) y ≡ suc x
   lower_suc_x d y e h = lower_above (suc x) y (omega arith)
 
-  put_under : (d y : ℕ) (t : Term) → y ≡ d → suc x ≤ d → put x n (fill x ns t) ≡ fill (suc x) ms t → put x n (fill (lower x y) ns t) ≡ fill (lower (suc x) y) ms t
+  put_under : (d y : ℕ) (t : Term) → y ≡ d → suc x ≤ d → put x n (fill x ns t) ≡ fill (suc x) ms t
+      → put x n (fill (lower x y) ns t) ≡ fill (lower (suc x) y) ms t
   put_under d y t e h p = rw (lower_x d y e h, lower_suc_x d y e h) p
 
   -- a number put for the first name above those that are filled fills that name too
@@ -156,7 +163,7 @@ module _ (x n : ℕ) (ns ms : List ℕ) (below : AgreeBelow x ns ms) (at : slice
   put_fill d (TryTake k y a b) s h = let p = put_under d y a s.0 h (put_fill (suc d) a s.1 (omega arith)) in let q = put_fill d b s.2 h in cc
   put_fill d (Masked k a) s h = absurd s
   put_fill d (Opened k a) s h = absurd s
-  put_fill d (Using k a b) s h = absurd s
-  put_fill d (Releasing k a v) s h = absurd s
+  put_fill d (InUse k a b) s h = absurd s
+  put_fill d (InRelease k a v) s h = absurd s
   put_fill d (Loop y k c a) s h = absurd s
   put_fill d _ s h = refl

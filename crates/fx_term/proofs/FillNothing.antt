@@ -4,7 +4,8 @@ use Rattle.std.specs.Prelude.{nat_lt}
 use Rattle.std.proofs.lemmas.Bool.Decides.{nat_tests}
 use Rattle.fx_term.specs.declared.node.Arg.{Arg}
 use Rattle.fx_term.specs.declared.node.Arg.TheVariants.{Number, Slot}
-use Rattle.fx_term.specs.Term.{Term, Pure, Raise, Let, Handle, If, For, Mask, Poll, OnCancel, Bracket, Start, Join, Cancel, First, Offer, TryOffer, TryTake, Masked, Opened, Using, Releasing, Loop}
+use Rattle.fx_term.specs.Term.{Term, Pure, Raise, Let, Handle, If, For, Mask, Poll, OnCancel, Bracket, Start, Join}
+use Rattle.fx_term.specs.Term.{Cancel, First, Offer, TryOffer, TryTake, Masked, Opened, InUse, InRelease, Loop}
 use Rattle.fx_term.specs.Fill.{fill_arg, lower, fill}
 use Rattle.fx_term.proofs.FillLaws.{lower_above}
 
@@ -34,7 +35,8 @@ fill_none ns (OnCancel a b) = let p = fill_none ns a in let q = fill_none ns b i
 fill_none ns (Bracket None a b c) = let p = fill_none ns a in let q = fill_none ns b in let r = fill_none ns c in cc
 fill_none ns (Bracket (Some x) a b c) = let p = fill_none ns a in let q = under_none ns x b (fill_none ns b) in let r = under_none ns x c (fill_none ns c) in cc
 fill_none ns (Start x a b) = let p = fill_none ns a in let q = under_none ns x b (fill_none ns b) in cc
-fill_none ns (Join v x a y b c) = let o = fill_arg_none ns v in let p = under_none ns x a (fill_none ns a) in let q = under_none ns y b (fill_none ns b) in let r = fill_none ns c in cc
+fill_none ns (Join v x a y b c) =
+    let o = fill_arg_none ns v in let p = under_none ns x a (fill_none ns a) in let q = under_none ns y b (fill_none ns b) in let r = fill_none ns c in cc
 fill_none ns (Cancel v) = let o = fill_arg_none ns v in cc
 fill_none ns (First v w) = let o = fill_arg_none ns v in let p = fill_arg_none ns w in cc
 fill_none ns (Offer k v) = let o = fill_arg_none ns v in cc
@@ -42,7 +44,7 @@ fill_none ns (TryOffer k v) = let o = fill_arg_none ns v in cc
 fill_none ns (TryTake k x a b) = let p = under_none ns x a (fill_none ns a) in let q = fill_none ns b in cc
 fill_none ns (Masked k a) = let p = fill_none ns a in cc
 fill_none ns (Opened k a) = let p = fill_none ns a in cc
-fill_none ns (Using k a b) = let p = fill_none ns a in let q = fill_none ns b in cc
-fill_none ns (Releasing k a v) = let p = fill_none ns a in cc
+fill_none ns (InUse k a b) = let p = fill_none ns a in let q = fill_none ns b in cc
+fill_none ns (InRelease k a v) = let p = fill_none ns a in cc
 fill_none ns (Loop x k c a) = let p = under_none ns x a (fill_none ns a) in cc
 fill_none ns _ = refl

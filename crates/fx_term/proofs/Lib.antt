@@ -1,3 +1,5 @@
+pub mod PresentLaws
+pub mod SignatureLaws
 pub mod AllParts
 pub mod CodeLaws
 pub mod DistinctNumbers
@@ -5,17 +7,16 @@ pub mod FaultLaws
 pub mod FillLaws
 pub mod NodeTerms
 pub mod PartLaws
-pub mod PlaceLaws
+pub mod PendingLaws
 pub mod ScopeLaws
 pub mod RegisterLaws
 pub mod SpotLaws
 pub mod SpotsToCome
-pub mod TakenLaws
+pub mod ChildrenLaws
 pub mod TermNeeds
 pub mod TermSizes
-pub mod TurnLaws
 pub mod TreeLaws
-pub mod EntriesLaws
-pub mod EntriesOfCode
 pub mod SumBelow
 pub mod FillNothing
+pub mod NameUses
+pub mod CoreTerms

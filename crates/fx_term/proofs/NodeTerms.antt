@@ -2,23 +2,21 @@
 use Rattle.std.proofs.Common.{◌≡◌, ℕ, zero, suc, ◌+◌, ◌<◌, Option, Some, None, List, [], ◌∷◌, ◌++◌, length, refl, sym, ◌∙◌, arith, subst, inl, inr}
 use Rattle.std.specs.Prelude.{slice_get, All}
 use Rattle.std.proofs.lemmas.Bool.{cases_lt}
+use Rattle.std.proofs.lemmas.List.Elements.{recursion_from_All}
 use Rattle.fx_term.specs.declared.node.Node.{Node}
-use Rattle.fx_term.specs.declared.node.Node.TheVariants as node
+use Rattle.fx_term.specs.declared.code.signature.Part.{Part}
+use Rattle.fx_term.specs.Signature.{parts}
 use Rattle.fx_term.specs.Term.{Term}
 use Rattle.fx_term.specs.Meaning.{assemble, read, term_of}
 use Rattle.fx_term.specs.Tree.{children, ChildrenComeFirst}
+use Rattle.fx_term.proofs.AllParts.{all_from_map}
+use Rattle.fx_term.proofs.SignatureLaws.{node_same}
 
 -- a node's term depends on the terms of its children alone
 pub assemble_same : (n : Node) (f g : ℕ → Term) → All (λ c. f c ≡ g c) (children n) → assemble (Some n) f ≡ assemble (Some n) g
-assemble_same (node.Let x a b) f g h = let p = h 0 0 (omega arith) in let q = h 1 0 (omega arith) in cc
-assemble_same (node.Handle a x b) f g h = let p = h 0 0 (omega arith) in let q = h 1 0 (omega arith) in cc
-assemble_same (node.If v a b) f g h = let p = h 0 0 (omega arith) in let q = h 1 0 (omega arith) in cc
-assemble_same (node.For i c a) f g h = let p = h 0 0 (omega arith) in cc
-assemble_same (node.Mask p a) f g h = let q = h 0 0 (omega arith) in cc
-assemble_same (node.Poll p a) f g h = let q = h 0 0 (omega arith) in cc
-assemble_same (node.OnCancel a b) f g h = let p = h 0 0 (omega arith) in let q = h 1 0 (omega arith) in cc
-assemble_same (node.Bracket x a b c) f g h = let p = h 0 0 (omega arith) in let q = h 1 0 (omega arith) in let r = h 2 0 (omega arith) in cc
-assemble_same _ f g h = refl
+assemble_same n f g h =
+    node_same n f g (recursion_from_All (λ (p : Part). f p.node.0 ≡ g p.node.0) (parts n)
+    (all_from_map (λ c. f c ≡ g c) (λ (p : Part). p.node.0) (parts n) h))
 
 -- what holds of each number below holds of each child
 below_children : (P : ℕ → Type 0) (id : ℕ) (cs : List ℕ) → All (λ c. c < id) cs → ((j : ℕ) → j < id → P j) → All P cs
@@ -32,14 +30,18 @@ module _ (nodes : List Node) (tree : ChildrenComeFirst nodes) where
   read_same (suc k) zero id p q = absurd (omega arith)
   read_same (suc k) (suc m) id p q = by_node (slice_get nodes id) refl (λ j h. read_same k m j (omega arith) (omega arith))
     where
-      by_node : (o : Option Node) → slice_get nodes id ≡ o → ((j : ℕ) → j < id → read k nodes j ≡ read m nodes j) → assemble o (read k nodes) ≡ assemble o (read m nodes)
+      by_node : (o : Option Node) → slice_get nodes id ≡ o → ((j : ℕ) → j < id → read k nodes j ≡ read m nodes j)
+          → assemble o (read k nodes) ≡ assemble o (read m nodes)
       by_node None e same = refl
-      by_node (Some n) e same = assemble_same n (read k nodes) (read m nodes) (below_children (λ j. read k nodes j ≡ read m nodes j) id (children n) (tree id n e) same)
+      by_node (Some n) e same =
+          assemble_same n (read k nodes) (read m nodes) (below_children (λ j. read k nodes j ≡ read m nodes j) id (children n) (tree id n e) same)
 
   -- a node's term is made of its children's
   pub term_of_node : (id : ℕ) (n : Node) → slice_get nodes id ≡ Some n → term_of nodes id ≡ assemble (Some n) (term_of nodes)
   unfolding term_of read
-  term_of_node id n e = rw e (assemble_same n (read id nodes) (term_of nodes) (below_children (λ j. read id nodes j ≡ read (suc j) nodes j) id (children n) (tree id n e) (λ j h. read_same id (suc j) j h (omega arith))))
+  term_of_node id n e =
+      rw e (assemble_same n (read id nodes) (term_of nodes)
+      (below_children (λ j. read id nodes j ≡ read (suc j) nodes j) id (children n) (tree id n e) (λ j h. read_same id (suc j) j h (omega arith))))
 
 -- reading a list with one more element at its end
 pub get_before : {X : Type 0} (xs : List X) (y : X) (i : ℕ) → i < length xs → slice_get (xs ++ y ∷ []) i ≡ slice_get xs i
@@ -67,9 +69,12 @@ module _ (xs : List Node) (y : Node) (tree : ChildrenComeFirst xs) where
   read_push zero id h = refl
   read_push (suc k) id h = rw (get_before xs y id h) (by_node (slice_get xs id) refl (λ j p. read_push k j p))
     where
-      by_node : (o : Option Node) → slice_get xs id ≡ o → ((j : ℕ) → j < length xs → read k (xs ++ y ∷ []) j ≡ read k xs j) → assemble o (read k (xs ++ y ∷ [])) ≡ assemble o (read k xs)
+      by_node : (o : Option Node) → slice_get xs id ≡ o → ((j : ℕ) → j < length xs → read k (xs ++ y ∷ []) j ≡ read k xs j)
+          → assemble o (read k (xs ++ y ∷ [])) ≡ assemble o (read k xs)
       by_node None e same = refl
-      by_node (Some n) e same = assemble_same n (read k (xs ++ y ∷ [])) (read k xs) (below_children (λ j. read k (xs ++ y ∷ []) j ≡ read k xs j) id (children n) (tree id n e) (λ j p. same j (omega arith)))
+      by_node (Some n) e same =
+          assemble_same n (read k (xs ++ y ∷ [])) (read k xs)
+          (below_children (λ j. read k (xs ++ y ∷ []) j ≡ read k xs j) id (children n) (tree id n e) (λ j p. same j (omega arith)))
 
   -- the nodes before keep their terms
   pub term_before : (id : ℕ) → id < length xs → term_of (xs ++ y ∷ []) id ≡ term_of xs id

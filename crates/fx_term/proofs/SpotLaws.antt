@@ -7,24 +7,28 @@ use Rattle.fx_term.specs.declared.node.Node.{Node}
 use Rattle.fx_term.specs.Scope.{IsInScope}
 use Rattle.fx_term.specs.Meaning.{assemble, read, term_of, root_term}
 use Rattle.fx_term.specs.Tree.{ChildrenComeFirst}
-use Rattle.fx_term.specs.Turns.{turns_inside, HasFewTurns}
-use Rattle.fx_term.specs.Spots.{Spot, parts, walk, spots_from, spots, IsWellPlaced}
-use Rattle.fx_term.proofs.AllParts.{all_from_map, all_flat_map, all_from_flat_map, flat_map_same}
+use Rattle.fx_term.specs.Turns.{HasFewTurns}
+use Rattle.fx_term.specs.Signature.{parts}
+use Rattle.fx_term.specs.declared.code.signature.Part.{Part}
+use Rattle.fx_term.specs.Walk.{Spot, spot_of, spots_below, walk, spots_from, spots}
+use Rattle.fx_term.specs.WellPlaced.{IsWellPlaced}
+use Rattle.fx_term.proofs.AllParts.{all_map, all_from_map, all_flat_map, all_from_flat_map, flat_map_same}
 use Rattle.fx_term.proofs.NodeTerms.{term_of_node}
-use Rattle.fx_term.proofs.PartLaws.{part_ids, in_scope_node, right_slots, right_kinds, scope_of_parts}
-use Rattle.fx_term.proofs.TurnLaws.{few_turns_node, right_turns, turns_of_parts}
+use Rattle.fx_term.proofs.PartLaws.{in_scope_node, right_slots, right_kinds, scope_of_parts, few_turns_node, right_turns, turns_of_parts}
 
 -- the parts of the node at a spot
 abbrev pub parts_at : List Node → Spot → List Spot
-parts_at nodes s = parts (slice_get nodes s.id) s.kinds (turns_inside (slice_get nodes s.id) s.turns)
+parts_at nodes s = spots_below (slice_get nodes s.id) s.kinds s.turns
 
 module _ (nodes : List Node) (tree : ChildrenComeFirst nodes) where
   pub parts_before : (s : Spot) → All (λ (part : Spot). part.id < s.id) (parts_at nodes s)
   parts_before s = by_node (slice_get nodes s.id) refl
     where
-      by_node : (o : Option Node) → slice_get nodes s.id ≡ o → All (λ (part : Spot). part.id < s.id) (parts o s.kinds (turns_inside o s.turns))
+      by_node : (o : Option Node) → slice_get nodes s.id ≡ o → All (λ (part : Spot). part.id < s.id) (spots_below o s.kinds s.turns)
       by_node None e = All-nil (λ (part : Spot). part.id < s.id)
-      by_node (Some n) e = all_from_map (λ c. c < s.id) (λ (part : Spot). part.id) (parts (Some n) s.kinds (turns_inside (Some n) s.turns)) (subst (All (λ c. c < s.id)) (sym (part_ids n s.kinds (turns_inside (Some n) s.turns))) (tree s.id n e))
+      by_node (Some n) e =
+          all_map (λ (part : Spot). part.id < s.id) (spot_of s.kinds s.turns) (parts n)
+          (all_from_map (λ c. c < s.id) (λ (p : Part). p.node.0) (parts n) (tree s.id n e))
 
   -- a walk is the same at each depth above the node's number
   walk_same : (k m : ℕ) (s : Spot) → s.id < k → s.id < m → walk k nodes s ≡ walk m nodes s
@@ -33,14 +37,16 @@ module _ (nodes : List Node) (tree : ChildrenComeFirst nodes) where
   walk_same (suc k) zero s p q = absurd (omega arith)
   walk_same (suc k) (suc m) s p q =
       ap (λ (rest : List Spot). s ∷ rest) (flat_map_same (walk k nodes) (walk m nodes) (parts_at nodes s)
-      (All-weaker (λ (part : Spot). part.id < s.id) (λ (part : Spot). walk k nodes part ≡ walk m nodes part) (λ part h. walk_same k m part (omega arith) (omega arith)) (parts_at nodes s) (parts_before s)))
+      (All-weaker (λ (part : Spot). part.id < s.id) (λ (part : Spot). walk k nodes part ≡ walk m nodes part)
+      (λ part h. walk_same k m part (omega arith) (omega arith)) (parts_at nodes s) (parts_before s)))
 
   -- a node comes first, and then what stands below its parts
   pub spots_at : (s : Spot) → spots_from nodes s ≡ s ∷ flat_map (spots_from nodes) (parts_at nodes s)
   unfolding spots_from walk
   spots_at s =
       ap (λ (rest : List Spot). s ∷ rest) (flat_map_same (walk s.id nodes) (spots_from nodes) (parts_at nodes s)
-      (All-weaker (λ (part : Spot). part.id < s.id) (λ (part : Spot). walk s.id nodes part ≡ spots_from nodes part) (λ part h. walk_same s.id (suc part.id) part h (omega arith)) (parts_at nodes s) (parts_before s)))
+      (All-weaker (λ (part : Spot). part.id < s.id) (λ (part : Spot). walk s.id nodes part ≡ spots_from nodes part)
+      (λ part h. walk_same s.id (suc part.id) part h (omega arith)) (parts_at nodes s) (parts_before s)))
 
   term_at : (id : ℕ) → term_of nodes id ≡ assemble (slice_get nodes id) (term_of nodes)
   unfolding term_of read
@@ -59,8 +65,10 @@ module _ (nodes : List Node) (tree : ChildrenComeFirst nodes) where
   -- where a node is well placed and the terms of its parts are right, its term is
   right_up : (s : Spot) → IsWellPlaced nodes s → All (IsTermRight nodes) (parts_at nodes s) → IsTermRight nodes s
   right_up s placed below = record {
-    scope = subst (IsInScope s.kinds) (sym (term_at nodes tree s.id)) (in_scope_node (slice_get nodes s.id) s.kinds (turns_inside (slice_get nodes s.id) s.turns) (term_of nodes) placed.slots placed.kinds (λ i d h. (below i d h).scope));
-    turns = subst (HasFewTurns s.turns) (sym (term_at nodes tree s.id)) (few_turns_node (slice_get nodes s.id) s.kinds s.turns (term_of nodes) placed.turns (λ i d h. (below i d h).turns));
+    scope = subst (IsInScope s.kinds) (sym (term_at nodes tree s.id))
+        (in_scope_node s.kinds s.turns (term_of nodes) (slice_get nodes s.id) placed.slots placed.kinds (λ i d h. (below i d h).scope));
+    turns = subst (HasFewTurns s.turns) (sym (term_at nodes tree s.id))
+        (few_turns_node s.kinds s.turns (term_of nodes) (slice_get nodes s.id) placed.turns (λ i d h. (below i d h).turns));
   }
 
   -- the term as that of its node
@@ -73,16 +81,16 @@ module _ (nodes : List Node) (tree : ChildrenComeFirst nodes) where
   -- where a node's term is right, the node is well placed
   right_here : (s : Spot) → IsTermRight nodes s → IsWellPlaced nodes s
   right_here s right = record {
-    slots = right_slots (slice_get nodes s.id) s.kinds (term_of nodes) (scope_of_node s right);
-    kinds = right_kinds (slice_get nodes s.id) s.kinds (term_of nodes) (scope_of_node s right);
-    turns = right_turns (slice_get nodes s.id) s.turns (term_of nodes) (turns_of_node s right);
+    slots = right_slots s.kinds s.turns (term_of nodes) (slice_get nodes s.id) (scope_of_node s right);
+    kinds = right_kinds s.kinds s.turns (term_of nodes) (slice_get nodes s.id) (scope_of_node s right);
+    turns = right_turns s.kinds s.turns (term_of nodes) (slice_get nodes s.id) (turns_of_node s right);
   }
 
   -- and the terms of its parts are right
   right_down : (s : Spot) → IsTermRight nodes s → All (IsTermRight nodes) (parts_at nodes s)
   right_down s right i d h = record {
-    scope = scope_of_parts (slice_get nodes s.id) s.kinds (turns_inside (slice_get nodes s.id) s.turns) (term_of nodes) (scope_of_node s right) i d h;
-    turns = turns_of_parts (slice_get nodes s.id) s.kinds s.turns (term_of nodes) (turns_of_node s right) i d h;
+    scope = scope_of_parts s.kinds s.turns (term_of nodes) (slice_get nodes s.id) (scope_of_node s right) i d h;
+    turns = turns_of_parts s.kinds s.turns (term_of nodes) (slice_get nodes s.id) (turns_of_node s right) i d h;
   }
 
   -- where all is well placed, the term is right

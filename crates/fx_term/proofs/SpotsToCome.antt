@@ -1,29 +1,28 @@
 -- What a walk has looked at, and what is still to come.
-use Rattle.std.proofs.Common.{◌≡◌, ◌≢◌, ◌-◌, ◌^◌, ◌<◌, ◌≤◌, Option, None, Some, List, [], ◌∷◌, ◌++◌, length, get_or, map, reverse, refl, sym, ◌∙◌, ap, subst, arith, append_assoc}
+use Rattle.std.proofs.Common.{◌≡◌, ◌≢◌, ◌-◌, ◌^◌, ◌<◌, ◌≤◌, Option, None, Some, List, [], ◌∷◌, ◌++◌, length}
+use Rattle.std.proofs.Common.{get_or, map, reverse, refl, sym, ◌∙◌, ap, subst, arith, append_assoc}
 use Rattle.std.specs.Prelude.{All, slice_get}
 use Rattle.std.specs.List.{flat_map}
 use Rattle.std.proofs.lemmas.List.{append-nil, map_push, reverse-append, reverse-reverse}
 use Rattle.std.proofs.lemmas.List.Concat.{flat_map-append}
 use Rattle.std.proofs.lemmas.List.Elements.{All-nil, All-cons, All-push, All-append}
 use Rattle.std.proofs.lemmas.Option.{slice_get-get_or}
-use Rattle.fx_term.specs.declared.kinds.NameKind.{NameKind}
+use Rattle.fx_term.specs.declared.name_kind.NameKind.{NameKind}
 use Rattle.fx_term.specs.declared.node.Node.{Node}
-use Rattle.fx_term.specs.declared.walk.Place.{Place}
+use Rattle.fx_term.specs.declared.code.walk.Pending.{Pending}
 use Rattle.fx_term.specs.declared.code.CodeFault.TheVariants as fault
 use Rattle.fx_term.specs.Tree.{IsOneTree}
-use Rattle.fx_term.specs.Scope.{Kind}
-use Rattle.fx_term.specs.Kinds.{kind_of}
-use Rattle.fx_term.specs.Turns.{turns_inside}
-use Rattle.fx_term.specs.Spots.{Spot, parts, spots_from, spots, HasRightSlots, HasRightKinds, HasRightTurns, IsWellPlaced}
-use Rattle.fx_term.specs.Place.{path_to, spot_at, AreNested, ArePushed}
+use Rattle.fx_term.specs.Walk.{Spot, spots_below, spots_from, spots}
+use Rattle.fx_term.specs.WellPlaced.{HasRightSlots, HasRightKinds, HasRightTurns, IsWellPlaced}
+use Rattle.fx_term.specs.Pending.{path_to, spot_at, AreNested, ArePushed}
 use Rattle.fx_term.specs.Code.{IsFault, slot, kind, limit}
 use Rattle.fx_term.proofs.AllParts.{all_front, all_middle, all_reverse}
-use Rattle.fx_term.proofs.PlaceLaws.{path_reaches, nested_last, nested_more, spots_kept}
+use Rattle.fx_term.proofs.PendingLaws.{path_reaches, nested_last, nested_more, spots_kept}
 use Rattle.fx_term.proofs.SpotLaws.{parts_before, spots_at}
 use Rattle.fx_term.proofs.TreeLaws.{length_positive}
 
--- the spots below a stack of places, of which the last is looked at first
-unfoldable pub spots_to_come : List Node → List NameKind → List Place → List Spot
+-- the spots at and below a stack of pending nodes, of which the last is looked at first
+unfoldable pub spots_to_come : List Node → List NameKind → List Pending → List Spot
 spots_to_come nodes path stack = flat_map (spots_from nodes) (reverse (map (spot_at path) stack))
 
 -- the spot's node is there
@@ -31,7 +30,7 @@ abbrev pub IsNear : List Node → Spot → Type 0
 IsNear nodes s = s.id < length nodes
 
 -- the spots looked at are well placed, and those below the stack follow them
-pub record IsWalked (nodes : List Node) (path : List NameKind) (stack : List Place) : Type 0 where
+pub record IsWalked (nodes : List Node) (path : List NameKind) (stack : List Pending) : Type 0 where
   pub before : List Spot
   pub split : spots nodes ≡ before ++ spots_to_come nodes path stack
   pub placed : All (IsWellPlaced nodes) before
@@ -39,20 +38,24 @@ pub record IsWalked (nodes : List Node) (path : List NameKind) (stack : List Pla
   pub nested : AreNested 0 stack (length path)
 
 -- where the walk begins
-unfoldable pub root_place : List Node → Place
-root_place nodes = record { node = record { 0 = length nodes - 1 }; outer = 0; own = None; turns = 1 }
+unfoldable pub root_pending : List Node → Pending
+root_pending nodes = record { node = record { 0 = length nodes - 1 }; outer = 0; own = None; turns = 1 }
 
-come_pop : (nodes : List Node) (path : List NameKind) (rest : List Place) (p : Place) → spots_to_come nodes path (rest ++ p ∷ []) ≡ spots_from nodes (spot_at path p) ++ spots_to_come nodes path rest
+come_pop : (nodes : List Node) (path : List NameKind) (rest : List Pending) (p : Pending)
+    → spots_to_come nodes path (rest ++ p ∷ []) ≡ spots_from nodes (spot_at path p) ++ spots_to_come nodes path rest
 unfolding spots_to_come
 come_pop nodes path rest p =
     ap (λ xs. flat_map (spots_from nodes) (reverse xs)) (map_push (spot_at path) rest p)
     ∙ ap (flat_map (spots_from nodes)) (reverse-append (map (spot_at path) rest) (spot_at path p ∷ []))
 
-come_push : (nodes : List Node) (path : List NameKind) (rest new : List Place) (ps : List Spot) → map (spot_at path) new ≡ map (spot_at path) rest ++ reverse ps → spots_to_come nodes path new ≡ flat_map (spots_from nodes) ps ++ spots_to_come nodes path rest
+come_push : (nodes : List Node) (path : List NameKind) (rest new : List Pending) (ps : List Spot)
+    → map (spot_at path) new ≡ map (spot_at path) rest ++ reverse ps
+    → spots_to_come nodes path new ≡ flat_map (spots_from nodes) ps ++ spots_to_come nodes path rest
 unfolding spots_to_come
 come_push nodes path rest new ps e =
     ap (λ xs. flat_map (spots_from nodes) (reverse xs)) e
-    ∙ ap (flat_map (spots_from nodes)) (reverse-append (map (spot_at path) rest) (reverse ps) ∙ ap (λ xs. xs ++ reverse (map (spot_at path) rest)) (reverse-reverse ps))
+    ∙ ap (flat_map (spots_from nodes)) (reverse-append (map (spot_at path) rest) (reverse ps)
+    ∙ ap (λ xs. xs ++ reverse (map (spot_at path) rest)) (reverse-reverse ps))
     ∙ flat_map-append (spots_from nodes) ps (reverse (map (spot_at path) rest))
 
 come_nothing : (nodes : List Node) (path : List NameKind) → spots_to_come nodes path [] ≡ []
@@ -60,45 +63,51 @@ unfolding spots_to_come
 come_nothing nodes path = refl
 
 -- the spots to come are the same along another path to them
-come_kept : (nodes : List Node) (path other : List NameKind) (rest : List Place) → map (spot_at other) rest ≡ map (spot_at path) rest → spots_to_come nodes other rest ≡ spots_to_come nodes path rest
+come_kept : (nodes : List Node) (path other : List NameKind) (rest : List Pending) → map (spot_at other) rest ≡ map (spot_at path) rest
+    → spots_to_come nodes other rest ≡ spots_to_come nodes path rest
 unfolding spots_to_come
 come_kept nodes path other rest e = ap (λ xs. flat_map (spots_from nodes) (reverse xs)) e
 
 -- at the start the root is to come
-walked_root : (nodes : List Node) → nodes ≢ [] → IsWalked nodes [] (root_place nodes ∷ [])
-unfolding root_place
+walked_root : (nodes : List Node) → nodes ≢ [] → IsWalked nodes [] (root_pending nodes ∷ [])
+unfolding root_pending
 walked_root nodes some =
-    let come = come_pop nodes [] [] (root_place nodes) ∙ ap (λ xs. spots_from nodes (spot_at [] (root_place nodes)) ++ xs) (come_nothing nodes []) ∙ append-nil (spots nodes) in
+    let come = come_pop nodes [] [] (root_pending nodes) ∙ ap (λ xs. spots_from nodes (spot_at [] (root_pending nodes)) ++ xs) (come_nothing nodes [])
+    ∙ append-nil (spots nodes) in
     let positive = length_positive nodes some in
     record {
       before = [];
       split = sym come;
       placed = All-nil (IsWellPlaced nodes);
-      near = All-cons (IsNear nodes) (spot_at [] (root_place nodes)) [] (omega arith) (All-nil (IsNear nodes));
+      near = All-cons (IsNear nodes) (spot_at [] (root_pending nodes)) [] (omega arith) (All-nil (IsNear nodes));
       nested = (omega arith, omega arith);
     }
 
-pub walked_none : (nodes : List Node) (path : List NameKind) (stack : List Place) → nodes ≢ [] → path ≡ [] → stack ≡ [] ++ root_place nodes ∷ [] → IsWalked nodes path stack
-walked_none nodes path stack some none e = subst (λ (xs : List NameKind). IsWalked nodes xs stack) (sym none) (subst (IsWalked nodes []) (sym e) (walked_root nodes some))
+pub walked_none : (nodes : List Node) (path : List NameKind) (stack : List Pending) → nodes ≢ [] → path ≡ [] → stack ≡ [] ++ root_pending nodes ∷ []
+    → IsWalked nodes path stack
+walked_none nodes path stack some none e =
+    subst (λ (xs : List NameKind). IsWalked nodes xs stack) (sym none) (subst (IsWalked nodes []) (sym e) (walked_root nodes some))
 
 -- at the end all spots were looked at
-pub walked_all : (nodes : List Node) (path : List NameKind) (stack : List Place) → IsWalked nodes path stack → stack ≡ [] → All (IsWellPlaced nodes) (spots nodes)
+pub walked_all : (nodes : List Node) (path : List NameKind) (stack : List Pending) → IsWalked nodes path stack → stack ≡ []
+    → All (IsWellPlaced nodes) (spots nodes)
 walked_all nodes path stack walked e =
     let none = ap (spots_to_come nodes path) e ∙ come_nothing nodes path in
     let whole = walked.split ∙ ap (λ xs. walked.before ++ xs) none ∙ append-nil walked.before in
     subst (All (IsWellPlaced nodes)) (sym whole) walked.placed
 
--- one look, at the last place of the stack
-module _ (nodes : List Node) (tree : IsOneTree nodes) (path : List NameKind) (stack : List Place) (walked : IsWalked nodes path stack) (rest : List Place) (p : Place) (popped : stack ≡ rest ++ p ∷ []) (d : Node) where
+-- one look, at the last pending node of the stack
+module _ (nodes : List Node) (tree : IsOneTree nodes) (path : List NameKind) (stack : List Pending) (walked : IsWalked nodes path stack) (rest : List Pending)
+    (p : Pending) (popped : stack ≡ rest ++ p ∷ []) (d : Node) where
   spots_popped : All (IsNear nodes) (map (spot_at path) rest ++ spot_at path p ∷ [])
   spots_popped = subst (All (IsNear nodes)) (ap (map (spot_at path)) popped ∙ map_push (spot_at path) rest p) walked.near
 
-  -- the place has a node
-  pub place_near : p.node.0 < length nodes
-  place_near = all_middle (IsNear nodes) (map (spot_at path) rest) (spot_at path p) [] spots_popped
+  -- the pending node is there
+  pub pending_near : p.node.0 < length nodes
+  pending_near = all_middle (IsNear nodes) (map (spot_at path) rest) (spot_at path p) [] spots_popped
 
   node_there : slice_get nodes p.node.0 ≡ Some (get_or nodes p.node.0 d)
-  node_there = slice_get-get_or nodes p.node.0 d place_near
+  node_there = slice_get-get_or nodes p.node.0 d pending_near
 
   nested_popped : AreNested 0 rest p.outer × p.outer ≤ length path
   nested_popped = nested_last 0 rest p (length path) (subst (λ xs. AreNested 0 xs (length path)) popped walked.nested)
@@ -109,44 +118,46 @@ module _ (nodes : List Node) (tree : IsOneTree nodes) (path : List NameKind) (st
     node_here = Some (get_or nodes p.node.0 d)
 
     abbrev parts_here : List Spot
-    parts_here = parts node_here (map kind_of here) (turns_inside node_here p.turns)
+    parts_here = spots_below node_here here p.turns
 
     come_next : spots_to_come nodes path stack ≡ spot_at path p ∷ (flat_map (spots_from nodes) parts_here ++ spots_to_come nodes path rest)
     come_next = ap (spots_to_come nodes path) popped ∙ come_pop nodes path rest p
         ∙ ap (λ xs. xs ++ spots_to_come nodes path rest) (spots_at nodes tree.forest.before (spot_at path p))
-        ∙ ap (λ o. spot_at path p ∷ (flat_map (spots_from nodes) (parts o (map kind_of (path_to path p)) (turns_inside o p.turns)) ++ spots_to_come nodes path rest)) node_there
-        ∙ ap (λ xs. spot_at path p ∷ (flat_map (spots_from nodes) (parts node_here (map kind_of xs) (turns_inside node_here p.turns)) ++ spots_to_come nodes path rest)) (sym entered)
+        ∙ ap (λ o. spot_at path p ∷ (flat_map (spots_from nodes) (spots_below o (path_to path p) p.turns) ++ spots_to_come nodes path rest)) node_there
+        ∙ ap (λ xs. spot_at path p ∷ (flat_map (spots_from nodes) (spots_below node_here xs p.turns) ++ spots_to_come nodes path rest)) (sym entered)
 
     split_next : spots nodes ≡ walked.before ++ spot_at path p ∷ (flat_map (spots_from nodes) parts_here ++ spots_to_come nodes path rest)
     split_next = walked.split ∙ ap (λ xs. walked.before ++ xs) come_next
 
     -- what is known of the node, of the spot that is looked at
-    right_there : (Right : List Kind → Option Node → Type 0) → Right (map kind_of here) node_here → Right (map kind_of (path_to path p)) (slice_get nodes p.node.0)
-    right_there Right h = subst (λ o. Right (map kind_of (path_to path p)) o) (sym node_there) (subst (λ xs. Right (map kind_of xs) node_here) entered h)
+    right_there : (Right : List NameKind → Option Node → Type 0) → Right here node_here → Right (path_to path p) (slice_get nodes p.node.0)
+    right_there Right h = subst (λ o. Right (path_to path p) o) (sym node_there) (subst (λ xs. Right xs node_here) entered h)
 
-    right_here : (Right : List Kind → Option Node → Type 0) → Right (map kind_of (path_to path p)) (slice_get nodes p.node.0) → Right (map kind_of here) node_here
-    right_here Right h = subst (λ xs. Right (map kind_of xs) node_here) (sym entered) (subst (λ o. Right (map kind_of (path_to path p)) o) node_there h)
+    right_here : (Right : List NameKind → Option Node → Type 0) → Right (path_to path p) (slice_get nodes p.node.0) → Right here node_here
+    right_here Right h = subst (λ xs. Right xs node_here) (sym entered) (subst (λ o. Right (path_to path p) o) node_there h)
 
-    abbrev HasTurns : List Kind → Option Node → Type 0
+    abbrev HasTurns : List NameKind → Option Node → Type 0
     HasTurns kinds o = HasRightTurns p.turns o
 
-    pub wrong_slot : length nodes < 2 ^ 32 → (HasRightSlots (map kind_of here) (Some (get_or nodes p.node.0 d)) → ⊥) → IsFault nodes (fault.Slot p.node)
+    pub wrong_slot : length nodes < 2 ^ 32 → (HasRightSlots here (Some (get_or nodes p.node.0 d)) → ⊥) → IsFault nodes (fault.Slot p.node)
     wrong_slot fits wrong =
         slot walked.before (flat_map (spots_from nodes) parts_here ++ spots_to_come nodes path rest) (spot_at path p) fits tree split_next walked.placed
         (λ right. wrong (right_here HasRightSlots right))
 
-    pub wrong_kind : length nodes < 2 ^ 32 → HasRightSlots (map kind_of here) (Some (get_or nodes p.node.0 d)) → (HasRightKinds (map kind_of here) (Some (get_or nodes p.node.0 d)) → ⊥) → IsFault nodes (fault.Kind p.node)
+    pub wrong_kind : length nodes < 2 ^ 32 → HasRightSlots here (Some (get_or nodes p.node.0 d)) → (HasRightKinds here (Some (get_or nodes p.node.0 d)) → ⊥)
+        → IsFault nodes (fault.Kind p.node)
     wrong_kind fits right wrong =
         kind walked.before (flat_map (spots_from nodes) parts_here ++ spots_to_come nodes path rest) (spot_at path p) fits tree split_next walked.placed
         (right_there HasRightSlots right) (λ of_kind. wrong (right_here HasRightKinds of_kind))
 
-    pub too_many_turns : length nodes < 2 ^ 32 → HasRightSlots (map kind_of here) (Some (get_or nodes p.node.0 d)) → HasRightKinds (map kind_of here) (Some (get_or nodes p.node.0 d)) → (HasRightTurns p.turns (Some (get_or nodes p.node.0 d)) → ⊥) → IsFault nodes (fault.Limit p.node)
+    pub too_many_turns : length nodes < 2 ^ 32 → HasRightSlots here (Some (get_or nodes p.node.0 d)) → HasRightKinds here (Some (get_or nodes p.node.0 d))
+        → (HasRightTurns p.turns (Some (get_or nodes p.node.0 d)) → ⊥) → IsFault nodes (fault.Limit p.node)
     too_many_turns fits right of_kind wrong =
         limit walked.before (flat_map (spots_from nodes) parts_here ++ spots_to_come nodes path rest) (spot_at path p) fits tree split_next walked.placed
         (right_there HasRightSlots right) (right_there HasRightKinds of_kind) (λ few. wrong (right_here HasTurns few))
 
     -- its parts are pushed
-    module _ (new : List Place) (pushed : ArePushed here (parts (Some (get_or nodes p.node.0 d)) (map kind_of here) (turns_inside (Some (get_or nodes p.node.0 d)) p.turns)) rest new) where
+    module _ (new : List Pending) (pushed : ArePushed here (spots_below (Some (get_or nodes p.node.0 d)) here p.turns) rest new) where
       spots_rest : map (spot_at here) rest ≡ map (spot_at path) rest
       spots_rest = ap (λ xs. map (spot_at xs) rest) entered ∙ spots_kept path p 0 rest nested_popped.0 nested_popped.1
 
@@ -160,8 +171,9 @@ module _ (nodes : List Node) (tree : IsOneTree nodes) (path : List NameKind) (st
 
       near_parts : All (IsNear nodes) parts_here
       near_parts i s h =
-          let before : (get_or parts_here i s).id < p.node.0 = right_here (λ kinds o. All (λ (part : Spot). part.id < p.node.0) (parts o kinds (turns_inside o p.turns))) (parts_before nodes tree.forest.before (spot_at path p)) i s h in
-          let near = place_near in
+          let AreBefore = λ (kinds : List NameKind) (o : Option Node). All (λ (part : Spot). part.id < p.node.0) (spots_below o kinds p.turns) in
+          let before : (get_or parts_here i s).id < p.node.0 = right_here AreBefore (parts_before nodes tree.forest.before (spot_at path p)) i s h in
+          let near = pending_near in
           omega arith
 
       near_new : All (IsNear nodes) (map (spot_at here) rest ++ reverse parts_here)
@@ -171,13 +183,17 @@ module _ (nodes : List Node) (tree : IsOneTree nodes) (path : List NameKind) (st
           (all_reverse (IsNear nodes) parts_here near_parts)
 
       nested_rest : AreNested 0 rest (length here)
-      nested_rest = nested_more 0 rest p.outer (length here) nested_popped.0 (subst (λ xs. p.outer ≤ length xs) (sym entered) (path_reaches path p nested_popped.1))
+      nested_rest =
+          nested_more 0 rest p.outer (length here) nested_popped.0 (subst (λ xs. p.outer ≤ length xs) (sym entered) (path_reaches path p nested_popped.1))
 
-      pub walked_more : HasRightSlots (map kind_of here) (Some (get_or nodes p.node.0 d)) → HasRightKinds (map kind_of here) (Some (get_or nodes p.node.0 d)) → HasRightTurns p.turns (Some (get_or nodes p.node.0 d)) → IsWalked nodes here new
+      pub walked_more : HasRightSlots here (Some (get_or nodes p.node.0 d)) → HasRightKinds here (Some (get_or nodes p.node.0 d))
+          → HasRightTurns p.turns (Some (get_or nodes p.node.0 d)) → IsWalked nodes here new
       walked_more right of_kind few = record {
         before = walked.before ++ spot_at path p ∷ [];
         split = walked.split ∙ ap (λ xs. walked.before ++ xs) come_then ∙ sym (append_assoc walked.before (spot_at path p ∷ []) (spots_to_come nodes here new));
-        placed = All-push (IsWellPlaced nodes) walked.before (spot_at path p) walked.placed (record { slots = right_there HasRightSlots right; kinds = right_there HasRightKinds of_kind; turns = right_there HasTurns few });
+        placed =
+            All-push (IsWellPlaced nodes) walked.before (spot_at path p) walked.placed
+            (record { slots = right_there HasRightSlots right; kinds = right_there HasRightKinds of_kind; turns = right_there HasTurns few });
         near = subst (All (IsNear nodes)) (sym pushed.spots) near_new;
         nested = pushed.nested nested_rest;
       }

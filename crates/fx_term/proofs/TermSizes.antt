@@ -6,7 +6,7 @@ use Rattle.std.proofs.lemmas.List.Elements.{All-nil, All-append, All-weaker}
 use Rattle.std.proofs.lemmas.List.Sums.{sum_by-append}
 use Rattle.fx_term.specs.declared.node.Node.{Node}
 use Rattle.fx_term.specs.declared.node.Node.TheVariants as node
-use Rattle.fx_term.specs.Term.{Term, Let, Handle, If, For, Mask, Poll, OnCancel, Bracket, Start, Join, TryTake, Masked, Opened, Using, Releasing, Loop}
+use Rattle.fx_term.specs.Term.{Term, Let, Handle, If, For, Mask, Poll, OnCancel, Bracket, Start, Join, TryTake, Masked, Opened, InUse, InRelease, Loop}
 use Rattle.fx_term.specs.Meaning.{assemble, term_of, root_term}
 use Rattle.fx_term.specs.Tree.{children, all_children, IsForest}
 use Rattle.fx_term.proofs.NodeTerms.{term_of_node, get_past}
@@ -26,8 +26,8 @@ size (Join f x a e b c) = 1 + size a + size b + size c
 size (TryTake q x a b) = 1 + size a + size b
 size (Masked r a) = 1 + size a
 size (Opened r a) = 1 + size a
-size (Using k a r) = 1 + size a + size r
-size (Releasing k a v) = 1 + size a
+size (InUse k a r) = 1 + size a + size r
+size (InRelease k a v) = 1 + size a
 size (Loop i k n a) = 1 + size a
 size _ = 1
 
@@ -37,7 +37,8 @@ node_size (node.Pure a) f = omega arith
 node_size _ f = omega arith
 
 -- the sums of the nodes' shares, where a node's share is at most one more than its children's
-shares : (nodes : List Node) (f g : ℕ → ℕ) → ((id : ℕ) (n : Node) → slice_get nodes id ≡ Some n → f id ≤ 1 + sum_by g (children n)) → sum_below f (length nodes) ≤ length nodes + sum_by g (all_children nodes)
+shares : (nodes : List Node) (f g : ℕ → ℕ) → ((id : ℕ) (n : Node) → slice_get nodes id ≡ Some n → f id ≤ 1 + sum_by g (children n))
+    → sum_below f (length nodes) ≤ length nodes + sum_by g (all_children nodes)
 shares [] f g h = omega arith
 shares (n ∷ nodes) f g h =
     let here = h 0 n refl in
@@ -46,7 +47,8 @@ shares (n ∷ nodes) f g h =
     omega arith
 
 -- each child stands before the last node
-children_below : (nodes : List Node) (k : ℕ) → ((id : ℕ) (n : Node) → slice_get nodes id ≡ Some n → All (λ c. c < k) (children n)) → All (λ c. c < k) (all_children nodes)
+children_below : (nodes : List Node) (k : ℕ) → ((id : ℕ) (n : Node) → slice_get nodes id ≡ Some n → All (λ c. c < k) (children n))
+    → All (λ c. c < k) (all_children nodes)
 children_below [] k h = All-nil (λ c. c < k)
 children_below (n ∷ nodes) k h = All-append (λ c. c < k) (children n) (all_children nodes) (h 0 n refl) (children_below nodes k (λ id m e. h (suc id) m e))
 
@@ -66,7 +68,8 @@ module _ (nodes : List Node) (forest : IsForest nodes) where
   last_size k e =
       let all : sum_below size_at (length nodes) ≤ length nodes + sum_by size_at (all_children nodes) = shares nodes size_at size_at at_node in
       let at : length nodes - 1 ≡ k = omega arith in
-      let below : sum_by size_at (all_children nodes) ≤ sum_below size_at k = rw at at (sum_by_distinct size_at (length nodes - 1) (all_children nodes) forest.once before_last) in
+      let below : sum_by size_at (all_children nodes) ≤ sum_below size_at k = rw at at
+      (sum_by_distinct size_at (length nodes - 1) (all_children nodes) forest.once before_last) in
       let more = sum_below_more size_at k in
       let whole : sum_below size_at (length nodes) ≡ sum_below size_at (suc k) = ap (sum_below size_at) e in
       rw at (omega arith)

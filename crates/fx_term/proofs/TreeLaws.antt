@@ -1,12 +1,13 @@
 -- Forests, node by node.
-use Rattle.std.proofs.Common.{◌≡◌, ◌≢◌, ℕ, zero, suc, ◌+◌, ◌<◌, nat_eq, Bool, true, false, Some, List, [], ◌∷◌, ◌++◌, length, get_or, take, drop, add-one, refl, sym, ◌∙◌, ap, subst, arith}
+use Rattle.std.proofs.Common.{◌≡◌, ◌≢◌, ℕ, zero, suc, ◌+◌, ◌<◌, nat_eq, Bool, true, false, Some, List, [], ◌∷◌}
+use Rattle.std.proofs.Common.{◌++◌, length, get_or, take, drop, add-one, refl, sym, ◌∙◌, ap, subst, arith}
 use Rattle.std.specs.Prelude.{slice_get}
 use Rattle.std.specs.List.{IsDistinct}
 use Rattle.std.proofs.lemmas.List.{append-nil, take-append-drop, take_more, length-take-le}
 use Rattle.std.proofs.lemmas.List.Concat.{flat_map-append}
 use Rattle.fx_term.specs.declared.node.Node.{Node}
 use Rattle.fx_term.specs.Tree.{children, all_children, IsForest}
-use Rattle.fx_term.specs.Taken.{AreMarks, MayFollow, TakesChildren}
+use Rattle.fx_term.specs.Children.{AreMarks, MayFollow, TakesChildren}
 use Rattle.fx_term.proofs.DistinctNumbers.{distinct_front}
 use Rattle.fx_term.proofs.NodeTerms.{get_last, children_first_push}
 
@@ -50,7 +51,8 @@ pub forest_take : (count : ℕ) (nodes : List Node) → IsForest nodes → IsFor
 forest_take count nodes forest = forest_front (take count nodes) (drop count nodes) (subst IsForest (sym (take-append-drop count nodes)) forest)
 
 -- the first nodes and one more, whose children are marked
-module _ (nodes : List Node) (id : ℕ) (d : Node) (old new : List Bool) (within : id < length nodes) (forest : IsForest (take id nodes)) (marks : AreMarks (all_children (take id nodes)) old) where
+module _ (nodes : List Node) (id : ℕ) (d : Node) (old new : List Bool) (within : id < length nodes) (forest : IsForest (take id nodes))
+    (marks : AreMarks (all_children (take id nodes)) old) where
   more : take (id + 1) nodes ≡ take id nodes ++ get_or nodes id d ∷ []
   more = take_more nodes id d within
 

@@ -1,5 +1,5 @@
 -- Which lists of nodes are a code, and the first fault of one that is none.
-use Rattle.std.specs.Prelude.{◌≡◌, ℕ, suc, ◌+◌, ◌^◌, ◌<◌, ◌≤◌, List, [], ◌∷◌, ◌++◌, length, slice_get, take, All, Contains}
+use Rattle.std.specs.Prelude.{◌≡◌, ◌⊎◌, ℕ, suc, ◌+◌, ◌^◌, ◌<◌, ◌≤◌, List, [], ◌∷◌, ◌++◌, length, slice_get, take, All, Contains}
 use Rattle.fx_term.specs.declared.node.NodeId.{NodeId}
 use Rattle.fx_term.specs.declared.node.Node.{Node}
 use Rattle.fx_term.specs.declared.code.CodeFault.{CodeFault}
@@ -8,7 +8,8 @@ use Rattle.fx_term.specs.Scope.{IsInScope}
 use Rattle.fx_term.specs.Meaning.{root_term}
 use Rattle.fx_term.specs.Turns.{HasFewTurns}
 use Rattle.fx_term.specs.Tree.{all_children, IsForest, IsOneTree}
-use Rattle.fx_term.specs.Spots.{Spot, spots, HasRightSlots, HasRightKinds, HasRightTurns, IsWellPlaced}
+use Rattle.fx_term.specs.Walk.{Spot, spots}
+use Rattle.fx_term.specs.WellPlaced.{HasRightSlots, HasRightKinds, HasRightTurns, IsWellPlaced}
 
 -- one tree whose term stands in no binder's scope, and whose loops have few turns
 pub record IsCode (nodes : List Node) : Type 0 where
@@ -25,15 +26,25 @@ pub data IsFault (nodes : List Node) : CodeFault → Type 0 where
   no_node : length nodes ≡ 0 → IsFault nodes (Child (node_id 0))
   too_many : 2 ^ 32 ≤ length nodes → IsFault nodes (Child (node_id 0))
   -- a child of this node does not stand before it, or is a child already; no node before has such a child
-  stray : {id : ℕ} → length nodes < 2 ^ 32 → id < length nodes → IsForest (take id nodes) → (IsForest (take (suc id) nodes) → ⊥) → IsFault nodes (Child (node_id id))
+  stray : {id : ℕ} → length nodes < 2 ^ 32 → id < length nodes → IsForest (take id nodes) → (IsForest (take (suc id) nodes) → ⊥)
+      → IsFault nodes (Child (node_id id))
   -- this node is not the last, and nobody's child; each node before is somebody's
-  orphan : {id : ℕ} → length nodes < 2 ^ 32 → IsForest nodes → id + 1 < length nodes → ((j : ℕ) → j < id → Contains (all_children nodes) j) → (Contains (all_children nodes) id → ⊥) → IsFault nodes (Child (node_id id))
+  orphan : {id : ℕ} → length nodes < 2 ^ 32 → IsForest nodes → id + 1 < length nodes → ((j : ℕ) → j < id → Contains (all_children nodes) j)
+      → (Contains (all_children nodes) id → ⊥) → IsFault nodes (Child (node_id id))
   -- from the root down, this node is the first that is not well placed, and a slot of it is wrong
-  slot : (before after : List Spot) (s : Spot) → length nodes < 2 ^ 32 → IsOneTree nodes → spots nodes ≡ before ++ s ∷ after → All (IsWellPlaced nodes) before → (HasRightSlots s.kinds (slice_get nodes s.id) → ⊥) → IsFault nodes (Slot (node_id s.id))
+  slot : (before after : List Spot) (s : Spot) → length nodes < 2 ^ 32 → IsOneTree nodes → spots nodes ≡ before ++ s ∷ after → All (IsWellPlaced nodes) before
+      → (HasRightSlots s.kinds (slice_get nodes s.id) → ⊥) → IsFault nodes (Slot (node_id s.id))
   -- from the root down, this node is the first that is not well placed, and its slots are right
-  kind : (before after : List Spot) (s : Spot) → length nodes < 2 ^ 32 → IsOneTree nodes → spots nodes ≡ before ++ s ∷ after → All (IsWellPlaced nodes) before → HasRightSlots s.kinds (slice_get nodes s.id) → (HasRightKinds s.kinds (slice_get nodes s.id) → ⊥) → IsFault nodes (Kind (node_id s.id))
+  kind : (before after : List Spot) (s : Spot) → length nodes < 2 ^ 32 → IsOneTree nodes → spots nodes ≡ before ++ s ∷ after → All (IsWellPlaced nodes) before
+      → HasRightSlots s.kinds (slice_get nodes s.id) → (HasRightKinds s.kinds (slice_get nodes s.id) → ⊥) → IsFault nodes (Kind (node_id s.id))
   -- from the root down, this node is the first that is not well placed; its slots are right, and its names are of the right kinds
-  limit : (before after : List Spot) (s : Spot) → length nodes < 2 ^ 32 → IsOneTree nodes → spots nodes ≡ before ++ s ∷ after → All (IsWellPlaced nodes) before → HasRightSlots s.kinds (slice_get nodes s.id) → HasRightKinds s.kinds (slice_get nodes s.id) → (HasRightTurns s.turns (slice_get nodes s.id) → ⊥) → IsFault nodes (Limit (node_id s.id))
+  limit : (before after : List Spot) (s : Spot) → length nodes < 2 ^ 32 → IsOneTree nodes → spots nodes ≡ before ++ s ∷ after → All (IsWellPlaced nodes) before
+      → HasRightSlots s.kinds (slice_get nodes s.id) → HasRightKinds s.kinds (slice_get nodes s.id) → (HasRightTurns s.turns (slice_get nodes s.id) → ⊥)
+      → IsFault nodes (Limit (node_id s.id))
+
+-- want of memory, or the first fault of the nodes
+abbrev pub IsRefusal : List Node → CodeFault → Type 0
+IsRefusal nodes fault = (fault ≡ Memory) ⊎ IsFault nodes fault
 
 -- the number of a fault
 abbrev pub fault_number : CodeFault → ℕ

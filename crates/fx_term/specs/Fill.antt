@@ -2,7 +2,8 @@
 use Rattle.std.specs.Prelude.{◌≡◌, ℕ, ◌<◌, if◌then◌else◌, nat_lt, Option, Some, None, List, slice_index}
 use Rattle.fx_term.specs.declared.node.Arg.{Arg}
 use Rattle.fx_term.specs.declared.node.Arg.TheVariants.{Number, Slot}
-use Rattle.fx_term.specs.Term.{Term, Pure, Raise, Canceled, Never, Cede, Let, Handle, If, For, Mask, Poll, OnCancel, Bracket, Start, Join, Cancel, First, Offer, TryOffer, Take, TryTake, Finished, Masked, Opened, Using, Releasing, Loop, Await}
+use Rattle.fx_term.specs.Term.{Term, Pure, Raise, Canceled, Never, Cede, Let, Handle, If, For, Mask, Poll, OnCancel, Bracket, Start, Join}
+use Rattle.fx_term.specs.Term.{Cancel, First, Offer, TryOffer, Take, TryTake, Finished, Masked, Opened, InUse, InRelease, Loop, Await}
 
 -- the argument with the numbers of a list for the names below the bound
 abbrev pub fill_arg : ℕ → List ℕ → Arg → Arg
@@ -43,8 +44,8 @@ fill b ns (TryTake q x t u) = TryTake q x (fill (lower b x) ns t) (fill b ns u)
 fill b ns (Finished v) = Finished v
 fill b ns (Masked r t) = Masked r (fill b ns t)
 fill b ns (Opened r t) = Opened r (fill b ns t)
-fill b ns (Using k t r) = Using k (fill b ns t) (fill b ns r)
-fill b ns (Releasing k t v) = Releasing k (fill b ns t) v
+fill b ns (InUse k t r) = InUse k (fill b ns t) (fill b ns r)
+fill b ns (InRelease k t v) = InRelease k (fill b ns t) v
 fill b ns (Loop i k c t) = Loop i k c (fill (lower b i) ns t)
 fill b ns (Await f) = Await f
 

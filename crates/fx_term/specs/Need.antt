@@ -1,6 +1,6 @@
 -- How many fiber numbers a term can use.
 use Rattle.std.specs.Prelude.{ℕ, ◌+◌, ◌-◌, ◌*◌, max}
-use Rattle.fx_term.specs.Term.{Term, Let, Handle, If, For, Mask, Poll, OnCancel, Bracket, Start, Join, TryTake, Masked, Opened, Using, Releasing, Loop}
+use Rattle.fx_term.specs.Term.{Term, Let, Handle, If, For, Mask, Poll, OnCancel, Bracket, Start, Join, TryTake, Masked, Opened, InUse, InRelease, Loop}
 
 -- how many fiber numbers the term can use
 abbrev pub need : Term → ℕ
@@ -17,7 +17,7 @@ need (Join f x a e b c) = max (need a) (max (need b) (need c))
 need (TryTake q x a b) = max (need a) (need b)
 need (Masked r a) = need a
 need (Opened r a) = need a
-need (Using k a r) = need a + need r
-need (Releasing k a v) = need a
+need (InUse k a r) = need a + need r
+need (InRelease k a v) = need a
 need (Loop i k n a) = (n - k) * need a
 need _ = 0

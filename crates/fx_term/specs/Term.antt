@@ -1,5 +1,6 @@
 -- Terms of the script language and running terms, and the number that takes the place of a name.
--- A name is the number of names in whose scope its binder stands. So no binder binds a name that is in scope, and a name keeps its number wherever its term is moved.
+-- A name is the number of names in whose scope its binder stands. So no binder binds a name that is in scope, and a name keeps its number wherever its term is
+-- moved.
 use Rattle.std.specs.Prelude.{ℕ, if◌then◌else◌, ◌==◌, Option, Some, None}
 use Rattle.fx_term.specs.declared.node.Arg.{Arg}
 use Rattle.fx_term.specs.declared.node.Arg.TheVariants.{Number, Slot}
@@ -31,8 +32,8 @@ pub data Term : Type 0 where
   Finished : Done → Term
   Masked : ℕ → Term → Term
   Opened : ℕ → Term → Term
-  Using : ℕ → Term → Term → Term
-  Releasing : ℕ → Term → Done → Term
+  InUse : ℕ → Term → Term → Term
+  InRelease : ℕ → Term → Done → Term
   Loop : ℕ → ℕ → ℕ → Term → Term
   Await : ℕ → Term
 
@@ -67,8 +68,8 @@ put x n (TryTake q y a b) = TryTake q y (put x n a) (put x n b)
 put x n (Finished v) = Finished v
 put x n (Masked r a) = Masked r (put x n a)
 put x n (Opened r a) = Opened r (put x n a)
-put x n (Using k a r) = Using k (put x n a) (put x n r)
-put x n (Releasing k a v) = Releasing k (put x n a) v
+put x n (InUse k a r) = InUse k (put x n a) (put x n r)
+put x n (InRelease k a v) = InRelease k (put x n a) v
 put x n (Loop y i c a) = Loop y i c (put x n a)
 put x n (Await f) = Await f
 

@@ -1,24 +1,12 @@
 -- Which lists of nodes are one tree.
-use Rattle.std.specs.Prelude.{◌≡◌, ◌≢◌, ℕ, ◌+◌, ◌<◌, nat_eq, Some, List, [], ◌∷◌, length, slice_get, All, Contains}
+use Rattle.std.specs.Prelude.{◌≡◌, ◌≢◌, ℕ, ◌+◌, ◌<◌, nat_eq, Some, List, [], length, map, slice_get, All, Contains}
 use Rattle.std.specs.List.{IsDistinct, flat_map}
 use Rattle.fx_term.specs.declared.node.Node.{Node}
-use Rattle.fx_term.specs.declared.node.Node.TheVariants as node
+use Rattle.fx_term.specs.Signature.{parts}
 
 -- the numbers of a node's children, in the order of the text
 abbrev pub children : Node → List ℕ
-children (node.Pure a) = []
-children (node.Raise a) = []
-children node.Canceled = []
-children node.Never = []
-children node.Cede = []
-children (node.Let x a b) = a.0 ∷ b.0 ∷ []
-children (node.Handle a x b) = a.0 ∷ b.0 ∷ []
-children (node.If v a b) = a.0 ∷ b.0 ∷ []
-children (node.For i c a) = a.0 ∷ []
-children (node.Mask p a) = a.0 ∷ []
-children (node.Poll p a) = a.0 ∷ []
-children (node.OnCancel a f) = a.0 ∷ f.0 ∷ []
-children (node.Bracket x a u r) = a.0 ∷ u.0 ∷ r.0 ∷ []
+children n = map (λ p. p.node.0) (parts n)
 
 -- the children of the nodes, node by node
 abbrev pub all_children : List Node → List ℕ

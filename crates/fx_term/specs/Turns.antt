@@ -1,7 +1,5 @@
 -- How often loops run what stands in them.
-use Rattle.std.specs.Prelude.{ℕ, ◌*◌, ◌≤◌, max, Option, Some}
-use Rattle.fx_term.specs.declared.node.Node.{Node}
-use Rattle.fx_term.specs.declared.node.Node.TheVariants as node
+use Rattle.std.specs.Prelude.{ℕ, ◌*◌, ◌≤◌, max, Option, None, Some}
 use Rattle.fx_term.specs.Term.{Term, Let, Handle, If, For, Mask, Poll, OnCancel, Bracket, Start, Join, TryTake}
 
 abbrev pub most_turns : ℕ
@@ -11,10 +9,15 @@ most_turns = 1000000
 abbrev pub turns_of_loop : ℕ → ℕ → ℕ
 turns_of_loop turns count = turns * max 1 count
 
--- the turns of the parts of a node
-abbrev pub turns_inside : Option Node → ℕ → ℕ
-turns_inside (Some (node.For i c a)) turns = turns_of_loop turns c
-turns_inside _ turns = turns
+-- the turns of a part of what is run so many times, where a loop of this count may repeat the part
+abbrev pub turns_inside : ℕ → Option ℕ → ℕ
+turns_inside turns None = turns
+turns_inside turns (Some count) = turns_of_loop turns count
+
+-- they are no more than the most turns, where a loop repeats the part
+abbrev pub HasFewInside : ℕ → Option ℕ → Type 0
+HasFewInside turns None = Unit {0}
+HasFewInside turns (Some count) = turns_of_loop turns count ≤ most_turns
 
 -- in a term that is run so many times, no loop's part has more than the most turns
 abbrev pub HasFewTurns : ℕ → Term → Type 0

@@ -1,13 +1,21 @@
 //! The checked code of a script.
-ghost use Rattle.std.specs.Prelude.{◌≡◌, ◌⊎◌, ◌+◌, ◌^◌, ◌<◌, Some, length, slice_get, IfOk, IfErr, OnOk, IsOkUnless, IsErrOf};
-ghost use Rattle.fx_term.specs.Code.{IsCode, IsFault};
+ghost use Rattle.std.specs.Prelude.{◌≡◌, ◌+◌, ◌^◌, ◌<◌, Some, length, slice_get, IfOk, IfErr, OnOk, IsOkUnless};
+ghost use Rattle.fx_term.specs.Code.{IsCode, IsFault, IsRefusal};
 
+mod children;
+mod scope;
+mod signature;
+mod tree;
+mod turns;
+mod walk;
+
+use crate::code::tree::check_tree;
+use crate::code::walk::check_names;
 use crate::node::{Node, NodeId};
-use crate::tree::check_tree;
-use crate::walk::check_names;
 use std::alloc::{AllocError, AllocFailed, Global};
 use std::marker::Model;
 use thiserror::Error;
+pub use turns::{MOST_TURNS, turns_of_loop};
 
 /// Why a list of nodes is no code: the first fault in the order of the tests.
 #[derive(Clone, Copy, PartialEq, Eq, Debug, Error)]
@@ -70,22 +78,25 @@ impl<T: Drop> From<AllocFailed<T>> for CodeFault {
     }
 }
 
-/// Tests that there is a node, and that a node's number fits in 32 bits.
+/// A node's number fits in 32 bits.
+const MOST_NODES: usize = u32::MAX as usize;
+
+/// Tests that there is a node, and that there are not too many.
 fn check_count(nodes: &[Node]) -> Result<(), CodeFault>
     ensures some_node { OnOk result (0 < length nodes.now) }
     ensures fits { OnOk result (length nodes.now < 2 ^ 32) }
     ensures fault { IfErr result (IsFault nodes.now) }
 {
-    if nodes.is_empty() || nodes.len() > u32::MAX as usize {
+    if nodes.is_empty() || nodes.len() > MOST_NODES {
         return Err(CodeFault::Child(NodeId(0)));
     }
     Ok(())
 }
 
-/// The tests in their order.
+/// The tests of a whole list, each of which may suppose what those before it found.
 fn check_nodes(alloc: Global, nodes: &[Node]) -> Result<(), CodeFault>
     ensures code { OnOk result (IsCode nodes.now) }
-    ensures fault { IfErr result (λ fault. (fault ≡ CodeFault.Memory) ⊎ IsFault nodes.now fault) }
+    ensures fault { IfErr result (IsRefusal nodes.now) }
 {
     check_count(nodes)?;
     check_tree(alloc, nodes)?;
@@ -115,15 +126,15 @@ impl Code {
     ghost use Rattle.fx_term.specs.declared.code.CodeFault.{CodeFault};
     ghost use Rattle.fx_term.specs.declared.code.CodeFault.TheVariants.{Memory};
 
-    /// The code of these nodes, of which the last is the root, for a script of so many queues.
-    /// Its answer is the first fault in the order of the tests. It takes time and memory in
-    /// proportion to the number of nodes.
+    /// The code of these nodes, of which the last is the root. Its answer is the first fault in the
+    /// order of the tests; a list has one such fault at most ([`laws`](crate::laws::faults)). It takes
+    /// time and memory in proportion to the number of nodes. `queues`, the number of the script's
+    /// queues, is read by nothing yet: no form names a queue so far.
     pub fn build(alloc: Global, nodes: Vec<Node>, queues: u8) -> Result<Code, CodeFault>
         ensures built { IfOk result (λ code. code ≡ nodes.items) }
         ensures code { OnOk result (IsCode nodes.items) }
         ensures accepts { IsCode nodes.items → IsOkUnless result CodeFault.Memory }
-        ensures first_fault { IfErr result (λ fault. (fault ≡ CodeFault.Memory) ⊎ IsFault nodes.items fault) }
-        ensures no_other_fault { (fault : CodeFault) → IsFault nodes.items fault → IsErrOf result fault ⊎ IsErrOf result CodeFault.Memory }
+        ensures first_fault { IfErr result (IsRefusal nodes.items) }
     {
         check_nodes(alloc, &nodes)?;
         Ok(Code { nodes })

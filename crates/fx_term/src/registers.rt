@@ -26,6 +26,7 @@ impl Model for Registers {
 }
 
 impl Registers {
+    /// Registers where no name is in scope. They take memory only as names are bound.
     pub fn new(alloc: Global) -> Registers
         ensures { result ≡ [] }
     {

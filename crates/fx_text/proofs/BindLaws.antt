@@ -6,47 +6,50 @@ use Rattle.fx_term.specs.declared.node.Node.{Node}
 use Rattle.fx_term.specs.Tree.{ChildrenComeFirst}
 use Rattle.fx_term.specs.Term.{Term}
 use Rattle.fx_term.specs.Meaning.{term_of}
+use Rattle.fx_text.specs.Limits.{term_spares, form_spares}
 use Rattle.fx_text.specs.declared.fault.ReadError.{ReadError}
 use Rattle.fx_text.specs.declared.fault.ReadError.TheVariants as errors
 use Rattle.fx_text.specs.declared.form.Form.TheVariants as form
-use Rattle.fx_term.specs.Scope.{OfValue}
+use Rattle.fx_term.specs.declared.name_kind.NameKind.TheVariants as kind
 use Rattle.fx_text.specs.declared.reader.Reader.{Reader}
 use Rattle.fx_text.specs.declared.reader.resources.Resource.{Resource as CodeResource}
 use Rattle.fx_text.specs.declared.scope.Bound.{Bound as CodeBound}
-use Rattle.fx_text.specs.declared.scope.NameKind.TheVariants as code
 use Rattle.fx_text.specs.Token.{next}
 use Rattle.fx_text.specs.Part.{is_closing}
-use Rattle.fx_text.specs.Place.{Place, Bound, slot, under}
+use Rattle.fx_text.specs.Scope.{Scope, Bound, slot, under}
 use Rattle.fx_text.specs.Group.{OfResource, OfResources, Resource, under_all}
 use Rattle.fx_text.specs.Shape.{Shape, ends, group, groups, using, shape, content}
-use Rattle.fx_text.specs.ScopeView.{view_bound, place}
+use Rattle.fx_text.specs.ScopeView.{view_bound, scope}
 use Rattle.fx_text.specs.Reading.{◌>>=◌, Read, binder_at, opening_at, closing_at, group_at, term_at, parts_at}
 use Rattle.fx_text.specs.Given.{Fails}
 use Rattle.fx_text.specs.Trees.{AllBelow, GrowsBy}
-use Rattle.fx_text.specs.ReaderState.{place_of, IsReady, Went, WentThrough}
+use Rattle.fx_text.specs.ReaderState.{scope_of, IsReady, Went, WentThrough}
 use Rattle.fx_text.specs.ResourceState.{resource_of, resources_of, roots_of, bounds_of, Binds, Nests}
 use Rattle.fx_text.proofs.GroupLaws.{group_is}
 use Rattle.fx_text.proofs.GroupsLaws.{parts_ended, parts_go_on}
 use Rattle.fx_text.proofs.ReaderLaws.{grows_none, grows_append, last_root}
+use Rattle.fx_text.proofs.ReadLaws.{same_scope}
 use Rattle.fx_text.proofs.ResourceLaws.{resources_push, resources_kept, roots_push}
 
--- ---- the place after resources
+-- ---- the scope after resources
 
-under_push : (names : List CodeBound) (turns : ℕ) (r : CodeResource) → place (names ++ bounds_of (r ∷ [])) turns ≡ under OfValue r.name.now (place names turns)
+under_push : (names : List CodeBound) (turns : ℕ) (r : CodeResource) → scope (names ++ bounds_of (r ∷ [])) turns ≡ under kind.Value r.name.now (scope names turns)
 under_push names turns r = ap (λ (l : List Bound). record { names = l; turns = turns }) (map-append view_bound names (bounds_of (r ∷ [])))
 
 -- in the scope of the names of resources
-pub place_after_all : (nodes : List Node) (rs : List CodeResource) (names : List CodeBound) (turns : ℕ) → place (names ++ bounds_of rs) turns ≡ under_all (resources_of nodes rs) (place names turns)
-place_after_all nodes [] names turns = ap (λ (l : List CodeBound). place l turns) (append-nil names)
-place_after_all nodes (r ∷ rs) names turns =
-    ap (λ (l : List CodeBound). place l turns) (sym (append_assoc names (bounds_of (r ∷ [])) (bounds_of rs)))
-    ∙ place_after_all nodes rs (names ++ bounds_of (r ∷ [])) turns
-    ∙ ap (λ (p : Place). under_all (resources_of nodes rs) p) (under_push names turns r)
+pub scope_after_all : (nodes : List Node) (rs : List CodeResource) (names : List CodeBound) (turns : ℕ)
+    → scope (names ++ bounds_of rs) turns ≡ under_all (resources_of nodes rs) (scope names turns)
+scope_after_all nodes [] names turns = ap (λ (l : List CodeBound). scope l turns) (append-nil names)
+scope_after_all nodes (r ∷ rs) names turns =
+    ap (λ (l : List CodeBound). scope l turns) (sym (append_assoc names (bounds_of (r ∷ [])) (bounds_of rs)))
+    ∙ scope_after_all nodes rs (names ++ bounds_of (r ∷ [])) turns
+    ∙ ap (λ (p : Scope). under_all (resources_of nodes rs) p) (under_push names turns r)
 
 -- what comes after can be read
-pub binds_ready : (old new : Reader) (rs : List CodeResource) (bytes rest : List ℕ) → IsReady old bytes → Binds old new rs bytes rest → IsReady new rest
+pub binds_ready : (old new : Reader) (rs : List CodeResource) (bytes rest : List ℕ) → IsReady 0 old bytes → Binds old new rs bytes rest → IsReady 0 new rest
 binds_ready old new rs bytes rest ready b =
-    let more : length new.names.items ≡ length old.names.items + length rs = ap length b.names ∙ length-append old.names.items (bounds_of rs) ∙ ap (λ (n : ℕ). length old.names.items + n) (length-map rs _) in
+    let more : length new.names.items ≡ length old.names.items + length rs = ap length b.names ∙ length-append old.names.items (bounds_of rs)
+    ∙ ap (λ (n : ℕ). length old.names.items + n) (length-map rs _) in
     record {
       tree = b.tree;
       names_fit = omega (arith, ready.names_fit, b.shorter);
@@ -62,104 +65,133 @@ abbrev pub all_of : List Resource → Shape OfResources
 all_of done = ends done
 
 -- one resource more, and those after it, up to the `)`
-abbrev pub more_after : List Resource → Place → Shape OfResources
-more_after done p = group OfResource p λ r. groups OfResource (under OfValue r.name p) λ rs. ends (done ++ r ∷ rs)
+abbrev pub more_after : List Resource → Scope → Shape OfResources
+more_after done p = group OfResource p λ r. groups OfResource (under kind.Value r.name p) λ rs. ends (done ++ r ∷ rs)
 
 -- any number more, up to the `)`
-abbrev pub others_after : List Resource → Place → Shape OfResources
+abbrev pub others_after : List Resource → Scope → Shape OfResources
 others_after done p = groups OfResource p λ rs. ends (done ++ rs)
 
-module _ (room : ℕ) (done : List Resource) (p : Place) (text : List ℕ) where
-  one_read : (r : Resource) (after : List ℕ) → group_at room OfResource p text ≡ Ok (r, after) → parts_at (group_at room) (more_after done p) text ≡ parts_at (group_at room) (others_after (done ++ r ∷ []) (under OfValue r.name p)) after
-  one_read r after e = rw e (ap (λ (go : List Resource → Shape OfResources). parts_at (group_at room) (groups OfResource (under OfValue r.name p) go) after) (λ i rs. ends (sym (append_assoc done (r ∷ []) rs) i)))
+module _ (room : ℕ) (done : List Resource) (p : Scope) (text : List ℕ) where
+  one_read : (r : Resource) (after : List ℕ) → group_at room OfResource p text ≡ Ok (r, after)
+      → parts_at (group_at room) (more_after done p) text ≡ parts_at (group_at room) (others_after (done ++ r ∷ []) (under kind.Value r.name p)) after
+  one_read r after e = rw e (ap (λ (go : List Resource → Shape OfResources). parts_at (group_at room) (groups OfResource (under kind.Value r.name p) go) after)
+      (λ i rs. ends (sym (append_assoc done (r ∷ []) rs) i)))
 
   one_more : is_closing (next text).token ≡ false → parts_at (group_at room) (others_after done p) text ≡ parts_at (group_at room) (more_after done p) text
   one_more at = parts_go_on room OfResource OfResources p (λ rs. ends (done ++ rs)) text at
 
   no_more : is_closing (next text).token ≡ true → parts_at (group_at room) (others_after done p) text ≡ parts_at (group_at room) (all_of done) text
-  no_more at = parts_ended room OfResource OfResources p (λ rs. ends (done ++ rs)) text at ∙ ap (λ (l : List Resource). parts_at (group_at room) (all_of l) text) (append-nil done)
+  no_more at = parts_ended room OfResource OfResources p (λ rs. ends (done ++ rs)) text at
+      ∙ ap (λ (l : List Resource). parts_at (group_at room) (all_of l) text) (append-nil done)
 
 -- the resources read so far, and what is still to come of the list
-pub record BindsSoFar (room : ℕ) (to_come : List Resource → Place → Shape OfResources) (old new : Reader) (rs : List CodeResource) (bytes rest : List ℕ) : Type 0 where
+pub record BindsSoFar (room : ℕ) (to_come : List Resource → Scope → Shape OfResources) (old new : Reader) (rs : List CodeResource)
+    (bytes rest : List ℕ) : Type 0 where
   pub binds : Binds old new rs bytes rest
   pub grows : GrowsBy old.nodes.items new.nodes.items (roots_of rs)
-  pub read : parts_at (group_at room) (content OfResources (place_of old)) bytes ≡ parts_at (group_at room) (to_come (resources_of new.nodes.items rs) (place_of new)) rest
+  pub read : parts_at (group_at room) (content OfResources (scope_of old)) bytes
+      ≡ parts_at (group_at room) (to_come (resources_of new.nodes.items rs) (scope_of new)) rest
 
-pub binds_none : (room : ℕ) (old : Reader) (rs : List CodeResource) (bytes : List ℕ) → rs ≡ [] → ChildrenComeFirst old.nodes.items → BindsSoFar room more_after old old rs bytes bytes
+pub binds_none : (room : ℕ) (old : Reader) (rs : List CodeResource) (bytes : List ℕ) → rs ≡ [] → ChildrenComeFirst old.nodes.items
+    → BindsSoFar room more_after old old rs bytes bytes
 binds_none room old rs bytes none tree = subst (λ (l : List CodeResource). BindsSoFar room more_after old old l bytes bytes) (sym none) (record {
-  binds = record { names = sym (append-nil old.names.items); turns = refl; tree = tree; keeps = record { longer = omega arith; same = λ id h. refl }; below = tt; paid = omega arith; shorter = omega arith };
+  binds = record {
+    names = sym (append-nil old.names.items);
+    turns = refl;
+    tree = tree;
+    keeps = record { longer = omega arith; same = λ id h. refl };
+    below = tt;
+    paid = omega arith;
+    shorter = omega arith;
+  };
   grows = grows_none old.nodes.items;
   read = refl;
 })
 
-below_push : (bound more : ℕ) (rs : List CodeResource) (r : CodeResource) → bound ≤ more → AllBelow bound (roots_of rs) → AllBelow more (r.acquire.0 ∷ r.release.0 ∷ []) → AllBelow more (roots_of (rs ++ r ∷ []))
+below_push : (bound more : ℕ) (rs : List CodeResource) (r : CodeResource) → bound ≤ more → AllBelow bound (roots_of rs)
+    → AllBelow more (r.acquire.0 ∷ r.release.0 ∷ []) → AllBelow more (roots_of (rs ++ r ∷ []))
 below_push bound more [] r le h k = k
 below_push bound more (q ∷ rs) r le h k = (let a = h.0 in omega arith, (let b = h.1.0 in omega arith, below_push bound more rs r le h.1.1 k))
 
 -- a resource was read, and its name came in scope
-pub binds_one : (room : ℕ) (old middle one new : Reader) (rs all : List CodeResource) (r : CodeResource) (bytes rest after : List ℕ) → BindsSoFar room more_after old middle rs bytes rest
-    → group_at room OfResource (place_of middle) rest ≡ Ok (resource_of one.nodes.items r, after) → WentThrough middle one (r.acquire ∷ r.release ∷ []) rest after
+pub binds_one : (room : ℕ) (old middle one new : Reader) (rs all : List CodeResource) (r : CodeResource) (bytes rest after : List ℕ)
+    → BindsSoFar room more_after old middle rs bytes rest
+    → group_at room OfResource (scope_of middle) rest ≡ Ok (resource_of one.nodes.items r, after)
+    → WentThrough middle one (r.acquire ∷ r.release ∷ []) rest after
     → GrowsBy middle.nodes.items one.nodes.items (r.acquire.0 ∷ r.release.0 ∷ []) → length after < length rest
-    → new.names.items ≡ one.names.items ++ record { name = r.name; kind = code.Value } ∷ [] → new.turns ≡ one.turns → new.nodes.items ≡ one.nodes.items → all ≡ rs ++ r ∷ []
+    → new.names.items ≡ one.names.items ++ record { name = r.name; kind = kind.Value } ∷ [] → new.turns ≡ one.turns → new.nodes.items ≡ one.nodes.items
+    → all ≡ rs ++ r ∷ []
     → BindsSoFar room others_after old new all bytes after
 binds_one room old middle one new rs all r bytes rest after h e w g lt names turns nodes pushed =
     let bound = bounds_of (r ∷ []) in
     let named : new.names.items ≡ middle.names.items ++ bound = names ∙ ap (λ (l : List CodeBound). l ++ bound) w.names in
-    let stands : place_of new ≡ under OfValue r.name.now (place_of middle) =
-    ap (λ (l : List CodeBound). place l new.turns) named
-    ∙ ap (λ (n : ℕ). place (middle.names.items ++ bound) n) (turns ∙ w.turns)
+    let stands : scope_of new ≡ under kind.Value r.name.now (scope_of middle) =
+    ap (λ (l : List CodeBound). scope l new.turns) named
+    ∙ ap (λ (n : ℕ). scope (middle.names.items ++ bound) n) (turns ∙ w.turns)
     ∙ under_push middle.names.items middle.turns r in
     let kept = resources_kept middle.nodes.items one.nodes.items rs w.keeps h.binds.below in
     let done : resources_of middle.nodes.items rs ++ resource_of one.nodes.items r ∷ [] ≡ resources_of new.nodes.items (rs ++ r ∷ []) =
-    ap (λ (l : List Resource). l ++ resource_of one.nodes.items r ∷ []) (sym kept) ∙ sym (resources_push one.nodes.items rs r) ∙ ap (λ (l : List Node). resources_of l (rs ++ r ∷ [])) (sym nodes) in
+    ap (λ (l : List Resource). l ++ resource_of one.nodes.items r ∷ []) (sym kept) ∙ sym (resources_push one.nodes.items rs r)
+    ∙ ap (λ (l : List Node). resources_of l (rs ++ r ∷ [])) (sym nodes) in
     subst (λ (l : List CodeResource). BindsSoFar room others_after old new l bytes after) (sym pushed) (record {
       binds = record {
-        names = named ∙ ap (λ (l : List CodeBound). l ++ bound) h.binds.names ∙ append_assoc old.names.items (bounds_of rs) bound ∙ ap (λ (l : List CodeBound). old.names.items ++ l) (sym (map-append _ rs (r ∷ [])));
+        names = named ∙ ap (λ (l : List CodeBound). l ++ bound) h.binds.names ∙ append_assoc old.names.items (bounds_of rs) bound
+            ∙ ap (λ (l : List CodeBound). old.names.items ++ l) (sym (map-append _ rs (r ∷ [])));
         turns = turns ∙ w.turns ∙ h.binds.turns;
         tree = rw nodes w.tree;
-        keeps = record { longer = rw nodes (let l = w.keeps.longer in let k = h.binds.keeps.longer in omega arith); same = λ id lt. rw nodes (w.keeps.same id (let k = h.binds.keeps.longer in omega arith) ∙ h.binds.keeps.same id lt) };
+        keeps = record {
+          longer = rw nodes (let l = w.keeps.longer in let k = h.binds.keeps.longer in omega arith);
+          same = λ id lt. rw nodes (w.keeps.same id (let k = h.binds.keeps.longer in omega arith) ∙ h.binds.keeps.same id lt);
+        };
         below = rw nodes (below_push (length middle.nodes.items) (length one.nodes.items) rs r w.keeps.longer h.binds.below w.below);
         paid = rw nodes (omega (arith, w.paid, h.binds.paid, length-append rs (r ∷ [])));
         shorter = omega (arith, lt, h.binds.shorter, length-append rs (r ∷ []));
       };
-      grows = rw (nodes, roots_push rs r) (grows_append old.nodes.items middle.nodes.items one.nodes.items (roots_of rs) (r.acquire.0 ∷ r.release.0 ∷ []) h.grows g);
+      grows = rw (nodes, roots_push rs r) (grows_append old.nodes.items middle.nodes.items one.nodes.items (roots_of rs) (r.acquire.0 ∷ r.release.0 ∷ [])
+          h.grows g);
       read = h.read ∙ one_read room _ _ rest (resource_of one.nodes.items r) after e
-          ∙ ap (λ (l : List Resource). parts_at (group_at room) (others_after l (under OfValue r.name.now (place_of middle))) after) done
-          ∙ ap (λ (p : Place). parts_at (group_at room) (others_after (resources_of new.nodes.items (rs ++ r ∷ [])) p) after) (sym stands);
+          ∙ ap (λ (l : List Resource). parts_at (group_at room) (others_after l (under kind.Value r.name.now (scope_of middle))) after) done
+          ∙ ap (λ (p : Scope). parts_at (group_at room) (others_after (resources_of new.nodes.items (rs ++ r ∷ [])) p) after) (sym stands);
     })
 
 -- before anything but the `)` there is one more
-pub binds_more : (room : ℕ) (old new : Reader) (rs : List CodeResource) (bytes rest : List ℕ) → is_closing (next rest).token ≡ false → BindsSoFar room others_after old new rs bytes rest → BindsSoFar room more_after old new rs bytes rest
+pub binds_more : (room : ℕ) (old new : Reader) (rs : List CodeResource) (bytes rest : List ℕ) → is_closing (next rest).token ≡ false
+    → BindsSoFar room others_after old new rs bytes rest → BindsSoFar room more_after old new rs bytes rest
 binds_more room old new rs bytes rest at h = record { binds = h.binds; grows = h.grows; read = h.read ∙ one_more room _ _ rest at }
 
 -- the fault of a resource is that of the list
-pub binds_fails : (room : ℕ) (old new : Reader) (rs : List CodeResource) (bytes rest : List ℕ) (e : ReadError) → BindsSoFar room more_after old new rs bytes rest → Fails e (group_at room OfResource (place_of new) rest) → Fails e (parts_at (group_at room) (content OfResources (place_of old)) bytes)
+pub binds_fails : (room : ℕ) (old new : Reader) (rs : List CodeResource) (bytes rest : List ℕ) (e : ReadError)
+    → BindsSoFar room more_after old new rs bytes rest → Fails e (group_at room OfResource (scope_of new) rest)
+    → Fails e (parts_at (group_at room) (content OfResources (scope_of old)) bytes)
 binds_fails room old new rs bytes rest errors.Memory h f = tt
 binds_fails room old new rs bytes rest (errors.Fault x) h f = h.read ∙ rw f refl
 
 -- ---- one
 
-same_place : (old new : Reader) → new.names.items ≡ old.names.items → new.turns ≡ old.turns → place_of new ≡ place_of old
-same_place old new names turns = cc
-
 -- a resource is a name, what acquires it, and what releases it in the scope of the name
-pub resource_read : (room : ℕ) (old one two : Reader) (r : CodeResource) (names : List CodeBound) (bytes inside named after before_end end : List ℕ) → 0 < room → opening_at bytes ≡ Ok (tt, inside)
-    → names ≡ old.names.items → binder_at (place names old.turns) inside ≡ Ok (r.name.now, named) → r.slot ≡ length old.names.items
-    → term_at (room - 1) (place_of old) named ≡ Ok (term_of one.nodes.items r.acquire.0, after) → Went 2 old one r.acquire.0 named after
-    → term_at (room - 1) (under OfValue r.name.now (place_of one)) after ≡ Ok (term_of two.nodes.items r.release.0, before_end) → Went 2 one two r.release.0 after before_end
-    → closing_at before_end ≡ Ok (tt, end) → group_at room OfResource (place_of old) bytes ≡ Ok (resource_of two.nodes.items r, end)
+pub resource_read : (room : ℕ) (old one two : Reader) (r : CodeResource) (names : List CodeBound) (bytes inside named after before_end end : List ℕ) → 0 < room
+    → opening_at bytes ≡ Ok (tt, inside)
+    → names ≡ old.names.items → binder_at (scope names old.turns) inside ≡ Ok (r.name.now, named) → r.slot ≡ length old.names.items
+    → term_at (room - 1) (scope_of old) named ≡ Ok (term_of one.nodes.items r.acquire.0, after) → Went term_spares old one r.acquire.0 named after
+    → term_at (room - 1) (under kind.Value r.name.now (scope_of one)) after ≡ Ok (term_of two.nodes.items r.release.0, before_end)
+    → Went term_spares one two r.release.0 after before_end
+    → closing_at before_end ≡ Ok (tt, end) → group_at room OfResource (scope_of old) bytes ≡ Ok (resource_of two.nodes.items r, end)
 resource_read room old one two r names bytes inside named after before_end end some opened same bound numbered first w second v closed =
-    let bound' : binder_at (place_of old) inside ≡ Ok (r.name.now, named) = subst (λ (l : List CodeBound). binder_at (place l old.turns) inside ≡ Ok (r.name.now, named)) same bound in
-    let second' : term_at (room - 1) (under OfValue r.name.now (place_of old)) after ≡ Ok (term_of two.nodes.items r.release.0, before_end) =
-    subst (λ (p : Place). term_at (room - 1) (under OfValue r.name.now p) after ≡ Ok (term_of two.nodes.items r.release.0, before_end)) (same_place old one w.names w.turns) second in
+    let bound' : binder_at (scope_of old) inside ≡ Ok (r.name.now, named) =
+    subst (λ (l : List CodeBound). binder_at (scope l old.turns) inside ≡ Ok (r.name.now, named)) same bound in
+    let second' : term_at (room - 1) (under kind.Value r.name.now (scope_of old)) after ≡ Ok (term_of two.nodes.items r.release.0, before_end) =
+    subst (λ (p : Scope). term_at (room - 1) (under kind.Value r.name.now p) after ≡ Ok (term_of two.nodes.items r.release.0, before_end))
+    (same_scope old one w.names w.turns) second in
     let kept : term_of two.nodes.items r.acquire.0 ≡ term_of one.nodes.items r.acquire.0 = v.keeps.same r.acquire.0 (omega (arith, w.last)) in
-    let numbered' : slot (place_of old) ≡ r.slot = length-map old.names.items view_bound ∙ sym numbered in
-    group_is room OfResource (place_of old) bytes some ∙ rw (opened, bound', first, second', closed, numbered', kept) refl
+    let numbered' : slot (scope_of old) ≡ r.slot = length-map old.names.items view_bound ∙ sym numbered in
+    group_is room OfResource (scope_of old) bytes some ∙ rw (opened, bound', first, second', closed, numbered', kept) refl
 
 -- ---- the list
 
 -- more bytes before, and fewer after
-pub binds_wider : (old new : Reader) (rs : List CodeResource) (bytes inside rest after : List ℕ) → Binds old new rs inside rest → length inside ≤ length bytes → length after ≤ length rest → Binds old new rs bytes after
+pub binds_wider : (old new : Reader) (rs : List CodeResource) (bytes inside rest after : List ℕ) → Binds old new rs inside rest → length inside ≤ length bytes
+    → length after ≤ length rest → Binds old new rs bytes after
 binds_wider old new rs bytes inside rest after b longer shorter = record {
   names = b.names;
   turns = b.turns;
@@ -170,7 +202,7 @@ binds_wider old new rs bytes inside rest after b longer shorter = record {
   shorter = omega (arith, b.shorter);
 }
 
-module _ (room : ℕ) (p : Place) (bytes inside : List ℕ) (some : 0 < room) (opened : opening_at bytes ≡ Ok (tt, inside)) where
+module _ (room : ℕ) (p : Scope) (bytes inside : List ℕ) (some : 0 < room) (opened : opening_at bytes ≡ Ok (tt, inside)) where
   list_is : group_at room OfResources p bytes ≡ parts_at (group_at (room - 1)) (content OfResources p) inside
   list_is = group_is room OfResources p bytes some ∙ rw opened refl
 
@@ -179,41 +211,52 @@ module _ (room : ℕ) (p : Place) (bytes inside : List ℕ) (some : 0 < room) (o
 
 -- the resources of a list
 pub record ListRead (room : ℕ) (old new : Reader) (rs : List CodeResource) (bytes rest : List ℕ) : Type 0 where
-  pub read : group_at room OfResources (place_of old) bytes ≡ Ok (resources_of new.nodes.items rs, rest)
+  pub read : group_at room OfResources (scope_of old) bytes ≡ Ok (resources_of new.nodes.items rs, rest)
   pub binds : Binds old new rs bytes rest
   pub grows : GrowsBy old.nodes.items new.nodes.items (roots_of rs)
 
-module _ (room : ℕ) (old new : Reader) (rs : List CodeResource) (bytes inside rest : List ℕ) (some : 0 < room) (opened : opening_at bytes ≡ Ok (tt, inside)) (at : is_closing (next rest).token ≡ true) (h : BindsSoFar (room - 1) others_after old new rs inside rest) where
-  all_is : group_at room OfResources (place_of old) bytes ≡ parts_at (group_at (room - 1)) (all_of (resources_of new.nodes.items rs)) rest
-  all_is = list_is room (place_of old) bytes inside some opened ∙ h.read ∙ no_more (room - 1) _ _ rest at
+module _ (room : ℕ) (old new : Reader) (rs : List CodeResource) (bytes inside rest : List ℕ) (some : 0 < room) (opened : opening_at bytes ≡ Ok (tt, inside))
+    (at : is_closing (next rest).token ≡ true) (h : BindsSoFar (room - 1) others_after old new rs inside rest) where
+  all_is : group_at room OfResources (scope_of old) bytes ≡ parts_at (group_at (room - 1)) (all_of (resources_of new.nodes.items rs)) rest
+  all_is = list_is room (scope_of old) bytes inside some opened ∙ h.read ∙ no_more (room - 1) _ _ rest at
 
-  pub list_unclosed : (e : ReadError) → Fails e (closing_at rest) → Fails e (group_at room OfResources (place_of old) bytes)
+  pub list_unclosed : (e : ReadError) → Fails e (closing_at rest) → Fails e (group_at room OfResources (scope_of old) bytes)
   list_unclosed errors.Memory f = tt
   list_unclosed (errors.Fault x) f = all_is ∙ rw f refl
 
-  pub list_read : (after : List ℕ) → closing_at rest ≡ Ok (tt, after) → length inside < length bytes → length after < length rest → ListRead room old new rs bytes after
-  list_read after close longer shorter = record { read = all_is ∙ rw close refl; binds = binds_wider old new rs bytes inside rest after h.binds (omega arith) (omega arith); grows = h.grows }
+  pub list_read : (after : List ℕ) → closing_at rest ≡ Ok (tt, after) → length inside < length bytes → length after < length rest
+      → ListRead room old new rs bytes after
+  list_read after close longer shorter = record {
+    read = all_is ∙ rw close refl;
+    binds = binds_wider old new rs bytes inside rest after h.binds (omega arith) (omega arith);
+    grows = h.grows;
+  }
 
 -- ---- the whole form
 
-module _ (room : ℕ) (old middle : Reader) (rs : List CodeResource) (bytes rest : List ℕ) (b : Binds old middle rs bytes rest) (read : group_at room OfResources (place_of old) bytes ≡ Ok (resources_of middle.nodes.items rs, rest)) where
+module _ (room : ℕ) (old middle : Reader) (rs : List CodeResource) (bytes rest : List ℕ) (b : Binds old middle rs bytes rest)
+    (read : group_at room OfResources (scope_of old) bytes ≡ Ok (resources_of middle.nodes.items rs, rest)) where
   -- what uses the resources is read where all their names are in scope
-  using_is : parts_at (group_at room) (shape form.Using (place_of old)) bytes ≡ (term_at room (place_of middle) rest >>= λ t. closing_at t.1 >>= λ c. Ok (using (resources_of middle.nodes.items rs) t.0, c.1))
-  using_is = rw read (ap (λ (p : Place). term_at room p rest >>= λ t. closing_at t.1 >>= λ c. Ok (using (resources_of middle.nodes.items rs) t.0, c.1)) (sym stands))
+  using_is : parts_at (group_at room) (shape form.Using (scope_of old)) bytes
+      ≡ (term_at room (scope_of middle) rest >>= λ t. closing_at t.1 >>= λ c. Ok (using (resources_of middle.nodes.items rs) t.0, c.1))
+  using_is = rw read (ap (λ (p : Scope). term_at room p rest >>= λ t. closing_at t.1 >>= λ c. Ok (using (resources_of middle.nodes.items rs) t.0, c.1))
+      (sym stands))
     where
-      stands : place_of middle ≡ under_all (resources_of middle.nodes.items rs) (place_of old)
-      stands = ap (λ (l : List CodeBound). place l middle.turns) b.names ∙ ap (λ (n : ℕ). place (old.names.items ++ bounds_of rs) n) b.turns ∙ place_after_all middle.nodes.items rs old.names.items old.turns
+      stands : scope_of middle ≡ under_all (resources_of middle.nodes.items rs) (scope_of old)
+      stands = ap (λ (l : List CodeBound). scope l middle.turns) b.names ∙ ap (λ (n : ℕ). scope (old.names.items ++ bounds_of rs) n) b.turns
+          ∙ scope_after_all middle.nodes.items rs old.names.items old.turns
 
-  pub unused : (e : ReadError) → Fails e (term_at room (place_of middle) rest) → Fails e (parts_at (group_at room) (shape form.Using (place_of old)) bytes)
+  pub unused : (e : ReadError) → Fails e (term_at room (scope_of middle) rest) → Fails e (parts_at (group_at room) (shape form.Using (scope_of old)) bytes)
   unused errors.Memory f = tt
   unused (errors.Fault x) f = using_is ∙ rw f refl
 
-  module _ (used : Term) (after : List ℕ) (one : term_at room (place_of middle) rest ≡ Ok (used, after)) where
-    pub using_unclosed : (e : ReadError) → Fails e (closing_at after) → Fails e (parts_at (group_at room) (shape form.Using (place_of old)) bytes)
+  module _ (used : Term) (after : List ℕ) (one : term_at room (scope_of middle) rest ≡ Ok (used, after)) where
+    pub using_unclosed : (e : ReadError) → Fails e (closing_at after) → Fails e (parts_at (group_at room) (shape form.Using (scope_of old)) bytes)
     using_unclosed errors.Memory f = tt
     using_unclosed (errors.Fault x) f = using_is ∙ rw (one, f) refl
 
-    using_read : (end : List ℕ) → closing_at after ≡ Ok (tt, end) → parts_at (group_at room) (shape form.Using (place_of old)) bytes ≡ Ok (using (resources_of middle.nodes.items rs) used, end)
+    using_read : (end : List ℕ) → closing_at after ≡ Ok (tt, end) → parts_at (group_at room) (shape form.Using (scope_of old)) bytes
+        ≡ Ok (using (resources_of middle.nodes.items rs) used, end)
     using_read end close = using_is ∙ rw (one, close) refl
 
 -- the names of the resources go out of scope after what uses them
@@ -222,27 +265,32 @@ pub record Leaves (names : ℕ) (old new : Reader) : Type 0 where
   pub turns : new.turns ≡ old.turns
   pub nodes : new.nodes.items ≡ old.nodes.items
 
-module _ (old one two three new : Reader) (rs : List CodeResource) (used root outside : ℕ) (bytes rest after end : List ℕ) (b : Binds old one rs bytes rest) (w : Went 2 one two used rest after)
+module _ (old one two three new : Reader) (rs : List CodeResource) (used root outside : ℕ) (bytes rest after end : List ℕ) (b : Binds old one rs bytes rest)
+    (w : Went term_spares one two used rest after)
     (n : Nests three new rs used root) (l : Leaves outside two three) (at : outside ≡ length old.names.items) (lt : length end < length after) where
-  pub using_went : GrowsBy old.nodes.items new.nodes.items (root ∷ []) → Went 0 old new root bytes end
+  pub using_went : GrowsBy old.nodes.items new.nodes.items (root ∷ []) → Went form_spares old new root bytes end
   using_went g =
       let longer : length two.nodes.items ≤ length new.nodes.items = omega (arith, n.more, ap length l.nodes) in
       record {
-        names = n.names ∙ l.names_left ∙ ap (λ (x : List CodeBound). take outside x) (w.names ∙ b.names) ∙ ap (λ (k : ℕ). take k (old.names.items ++ bounds_of rs)) at ∙ take-append_seam old.names.items (bounds_of rs);
+        names = n.names ∙ l.names_left ∙ ap (λ (x : List CodeBound). take outside x) (w.names ∙ b.names)
+            ∙ ap (λ (k : ℕ). take k (old.names.items ++ bounds_of rs)) at ∙ take-append_seam old.names.items (bounds_of rs);
         turns = n.turns ∙ l.turns ∙ w.turns ∙ b.turns;
         tree = n.tree;
         keeps = record {
           longer = let x = b.keeps.longer in let y = w.keeps.longer in omega arith;
-          same = λ id h. let x = b.keeps.longer in let y = w.keeps.longer in n.keeps.same id (omega (arith, ap length l.nodes)) ∙ ap (λ (ns : List Node). term_of ns id) l.nodes ∙ w.keeps.same id (omega arith) ∙ b.keeps.same id h;
+          same = λ id h. let x = b.keeps.longer in let y = w.keeps.longer in n.keeps.same id (omega (arith, ap length l.nodes))
+              ∙ ap (λ (ns : List Node). term_of ns id) l.nodes ∙ w.keeps.same id (omega arith) ∙ b.keeps.same id h;
         };
         last = last_root old.nodes.items new.nodes.items [] root g;
         paid = omega (arith, w.paid, b.paid, n.more, ap length l.nodes);
         shorter = omega (arith, w.shorter, b.shorter);
       }
 
-  pub using_means : (room : ℕ) → group_at room OfResources (place_of old) bytes ≡ Ok (resources_of one.nodes.items rs, rest) → term_at room (place_of one) rest ≡ Ok (term_of two.nodes.items used, after) → closing_at after ≡ Ok (tt, end)
-      → parts_at (group_at room) (shape form.Using (place_of old)) bytes ≡ Ok (term_of new.nodes.items root, end)
-  using_means room read term close = using_read room old one rs bytes rest b read (term_of two.nodes.items used) after term end close ∙ ap (λ (t : Term). Ok (t, end)) (sym means)
+  pub using_means : (room : ℕ) → group_at room OfResources (scope_of old) bytes ≡ Ok (resources_of one.nodes.items rs, rest)
+      → term_at room (scope_of one) rest ≡ Ok (term_of two.nodes.items used, after) → closing_at after ≡ Ok (tt, end)
+      → parts_at (group_at room) (shape form.Using (scope_of old)) bytes ≡ Ok (term_of new.nodes.items root, end)
+  using_means room read term close = using_read room old one rs bytes rest b read (term_of two.nodes.items used) after term end close
+      ∙ ap (λ (t : Term). Ok (t, end)) (sym means)
     where
       means : term_of new.nodes.items root ≡ using (resources_of one.nodes.items rs) (term_of two.nodes.items used)
       means = n.term
@@ -250,7 +298,8 @@ module _ (old one two three new : Reader) (rs : List CodeResource) (used root ou
           ∙ ap (λ (r : List Resource). using r (term_of two.nodes.items used)) (resources_kept one.nodes.items two.nodes.items rs w.keeps b.below)
 
 -- the roots of the resources have nodes when what uses them is read
-pub still_below : (old one two : Reader) (rs : List CodeResource) (used : ℕ) (bytes rest after : List ℕ) → Binds old one rs bytes rest → Went 2 one two used rest after → AllBelow (length two.nodes.items) (roots_of rs)
+pub still_below : (old one two : Reader) (rs : List CodeResource) (used : ℕ) (bytes rest after : List ℕ) → Binds old one rs bytes rest
+    → Went term_spares one two used rest after → AllBelow (length two.nodes.items) (roots_of rs)
 still_below old one two rs used bytes rest after b w = raise rs b.below
   where
     raise : (qs : List CodeResource) → AllBelow (length one.nodes.items) (roots_of qs) → AllBelow (length two.nodes.items) (roots_of qs)

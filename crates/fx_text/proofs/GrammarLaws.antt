@@ -2,11 +2,28 @@
 use Rattle.std.proofs.Common.{◌≡◌, ℕ, zero, suc, cond, Bool, true, false, Ok, List, [], ◌∷◌, ◌++◌, length, refl, sym, ap, ◌∙◌, subst, append_assoc}
 use Rattle.fx_text.specs.declared.fault.TextKind.TheVariants as kind
 use Rattle.fx_text.specs.Token.{Token, Open, Close, next}
-use Rattle.fx_text.specs.Place.{Place}
-use Rattle.fx_text.specs.Group.{Group, Content, place_after}
+use Rattle.fx_text.specs.Scope.{Scope}
+use Rattle.fx_text.specs.Group.{Group, Content, scope_after}
 use Rattle.fx_text.specs.Shape.{Shape, ends, word, value, count, name, binder, group, groups, content}
 use Rattle.fx_text.specs.Part.{opens, closes, is_closing, value_of, count_of, name_of, new_name, form_of}
-use Rattle.fx_text.specs.Reading.{◌>>=◌, Read, GroupReading, at_name, at_number, opening_at, closing_at, value_at, count_at, name_at, binder_at, form_at, groups_within, groups_at, parts_at, group_at}
+use Rattle.fx_text.specs.Reading.{
+  ◌>>=◌,
+  Read,
+  GroupReading,
+  at_name,
+  at_number,
+  opening_at,
+  closing_at,
+  value_at,
+  count_at,
+  name_at,
+  binder_at,
+  form_at,
+  groups_within,
+  groups_at,
+  parts_at,
+  group_at,
+}
 use Rattle.fx_text.specs.Grammar.{IsText, Spells, ends_so, word_so, value_so, count_so, name_so, binder_so, group_so, groups_end, groups_more}
 use Rattle.fx_text.proofs.PartLaws.{bind_ok, ok_pair, part_ok, part_again, opens_is, closes_is, closing_is}
 use Rattle.fx_text.proofs.GroupsLaws.{before, parts_ended, parts_go_on}
@@ -18,7 +35,7 @@ pub record IsSpelled {g : Group} (room : ℕ) (s : Shape g) (text : List ℕ) (x
   pub text_is : IsText text (tokens ++ others)
 
 -- the same for a group
-pub record IsGroup (room : ℕ) (h : Group) (p : Place) (text : List ℕ) (a : Content h) (others : List Token) : Type 0 where
+pub record IsGroup (room : ℕ) (h : Group) (p : Scope) (text : List ℕ) (a : Content h) (others : List Token) : Type 0 where
   pub left : ℕ
   pub inner : List Token
   pub has_room : room ≡ suc left
@@ -29,7 +46,11 @@ pub record IsGroup (room : ℕ) (h : Group) (p : Place) (text : List ℕ) (a : C
 
 one_more : {g : Group} {room : ℕ} {s : Shape g} {text : List ℕ} {x : Content g} {others ks : List Token} (k : Token) (rest : List ℕ)
     → Spells g room s (k ∷ ks) x → (next text).token ≡ k → (next text).rest ≡ rest → IsText rest (ks ++ others) → IsSpelled room s text x others
-one_more {others = others} {ks = ks} k rest d at after is = record { tokens = k ∷ ks; spells = d; text_is = (at, subst (λ (l : List ℕ). IsText l (ks ++ others)) (sym after) is) }
+one_more {others = others} {ks = ks} k rest d at after is = record {
+  tokens = k ∷ ks;
+  spells = d;
+  text_is = (at, subst (λ (l : List ℕ). IsText l (ks ++ others)) (sym after) is);
+}
 
 -- no shape is spelled by no tokens
 some_token : {g : Group} {room : ℕ} {s : Shape g} {ks : List Token} {x : Content g} → Spells g room s ks x → ks ≡ [] → ⊥
@@ -43,7 +64,7 @@ some_token (group_so left a inner ks has_room d1 d2 whole) e = absurd cc
 some_token (groups_end d) e = absurd cc
 some_token (groups_more d) e = some_token d e
 
-module _ {g : Group} {room : ℕ} (h : Group) (p : Place) (go : List (Content h) → Shape g) (text : List ℕ) (x : Content g) (others : List Token) where
+module _ {g : Group} {room : ℕ} (h : Group) (p : Scope) (go : List (Content h) → Shape g) (text : List ℕ) (x : Content g) (others : List Token) where
   -- no group comes before a `)`
   no_groups : is_closing (next text).token ≡ true → IsSpelled room (go []) text x others → IsSpelled room (groups h p go) text x others
   no_groups at r = by_tokens r.tokens r.spells r.text_is
@@ -55,13 +76,15 @@ module _ {g : Group} {room : ℕ} (h : Group) (p : Place) (go : List (Content h)
           record { tokens = Close ∷ ks; spells = groups_end (subst (λ (y : Token). Spells g room (go []) (y ∷ ks) x) same d); text_is = (is.0 ∙ same, is.1) }
 
   -- or one group, and then the others
-  some_groups : IsSpelled room (group h p λ a. groups h (place_after h a p) λ l. go (a ∷ l)) text x others → IsSpelled room (groups h p go) text x others
+  some_groups : IsSpelled room (group h p λ a. groups h (scope_after h a p) λ l. go (a ∷ l)) text x others → IsSpelled room (groups h p go) text x others
   some_groups r = record { tokens = r.tokens; spells = groups_more r.spells; text_is = r.text_is }
 
 module _ (room : ℕ) (each : GroupReading)
-    (is_group : (h : Group) (p : Place) (text : List ℕ) (a : Content h) (rest : List ℕ) (others : List Token) → each h p text ≡ Ok (a, rest) → IsText rest others → IsGroup room h p text a others) where
+    (is_group : (h : Group) (p : Scope) (text : List ℕ) (a : Content h) (rest : List ℕ) (others : List Token) → each h p text ≡ Ok (a, rest)
+    → IsText rest others → IsGroup room h p text a others) where
   -- a group, and then the other parts
-  one_group : {g : Group} (h : Group) (p : Place) (go : Content h → Shape g) (text : List ℕ) (a : Content h) (rest : List ℕ) (x : Content g) (others : List Token) → each h p text ≡ Ok (a, rest) → IsSpelled room (go a) rest x others → IsSpelled room (group h p go) text x others
+  one_group : {g : Group} (h : Group) (p : Scope) (go : Content h → Shape g) (text : List ℕ) (a : Content h) (rest : List ℕ) (x : Content g)
+      (others : List Token) → each h p text ≡ Ok (a, rest) → IsSpelled room (go a) rest x others → IsSpelled room (group h p go) text x others
   one_group h p go text a rest x others e r =
       let f = is_group h p text a rest (r.tokens ++ others) e r.text_is in
       record {
@@ -71,26 +94,33 @@ module _ (room : ℕ) (each : GroupReading)
       }
 
   -- groups, and then the other parts
-  all_groups : {g : Group} (most : ℕ) (h : Group) (p : Place) (go : List (Content h) → Shape g) (text : List ℕ) (xs : List (Content h)) (rest : List ℕ) (x : Content g) (others : List Token) → groups_within most each h p text ≡ Ok (xs, rest) → IsSpelled room (go xs) rest x others → IsSpelled room (groups h p go) text x others
+  all_groups : {g : Group} (most : ℕ) (h : Group) (p : Scope) (go : List (Content h)
+      → Shape g) (text : List ℕ) (xs : List (Content h)) (rest : List ℕ) (x : Content g) (others : List Token)
+      → groups_within most each h p text ≡ Ok (xs, rest) → IsSpelled room (go xs) rest x others → IsSpelled room (groups h p go) text x others
   unfolding groups_within
   all_groups zero h p go text xs rest x others e r = absurd cc
   all_groups {g} (suc most) h p go text xs rest x others e r = by_next (is_closing (next text).token) refl e (all_groups most h)
     where
-      by_next : (b : Bool) → is_closing (next text).token ≡ b → cond {A = Read (List (Content h))} b (Ok ([], text)) (each h p text >>= λ y. groups_within most each h (place_after h y.0 p) y.1 >>= before y.0) ≡ Ok (xs, rest)
-          → ((q : Place) (go : List (Content h) → Shape g) (left : List ℕ) (ys : List (Content h)) (end : List ℕ) (x : Content g) (others : List Token) → groups_within most each h q left ≡ Ok (ys, end) → IsSpelled room (go ys) end x others → IsSpelled room (groups h q go) left x others)
+      by_next : (b : Bool) → is_closing (next text).token ≡ b → cond {A = Read (List (Content h))} b (Ok ([], text))
+          (each h p text >>= λ y. groups_within most each h (scope_after h y.0 p) y.1 >>= before y.0) ≡ Ok (xs, rest)
+          → ((q : Scope) (go : List (Content h) → Shape g) (left : List ℕ) (ys : List (Content h)) (end : List ℕ) (x : Content g) (others : List Token)
+          → groups_within most each h q left ≡ Ok (ys, end) → IsSpelled room (go ys) end x others → IsSpelled room (groups h q go) left x others)
           → IsSpelled room (groups h p go) text x others
       by_next true at e fewer =
           let o = ok_pair [] xs text rest e in
-          no_groups h p go text x others at (subst (λ (l : List ℕ). IsSpelled room (go []) l x others) (sym o.1) (subst (λ (l : List (Content h)). IsSpelled room (go l) rest x others) (sym o.0) r))
+          no_groups h p go text x others at (subst (λ (l : List ℕ). IsSpelled room (go []) l x others) (sym o.1)
+          (subst (λ (l : List (Content h)). IsSpelled room (go l) rest x others) (sym o.0) r))
       by_next false at e fewer =
-          let b = bind_ok (each h p text) (λ y. groups_within most each h (place_after h y.0 p) y.1 >>= before y.0) (xs, rest) e in
-          let c = bind_ok (groups_within most each h (place_after h b.0.0 p) b.0.1) (before b.0.0) (xs, rest) b.2 in
+          let b = bind_ok (each h p text) (λ y. groups_within most each h (scope_after h y.0 p) y.1 >>= before y.0) (xs, rest) e in
+          let c = bind_ok (groups_within most each h (scope_after h b.0.0 p) b.0.1) (before b.0.0) (xs, rest) b.2 in
           let o = ok_pair (b.0.0 ∷ c.0.0) xs c.0.1 rest c.2 in
-          let r' = subst (λ (l : List ℕ). IsSpelled room (go (b.0.0 ∷ c.0.0)) l x others) (sym o.1) (subst (λ (l : List (Content h)). IsSpelled room (go l) rest x others) (sym o.0) r) in
-          let d = fewer (place_after h b.0.0 p) (λ l. go (b.0.0 ∷ l)) b.0.1 c.0.0 c.0.1 x others c.1 r' in
-          some_groups h p go text x others (one_group h p (λ a. groups h (place_after h a p) λ l. go (a ∷ l)) text b.0.0 b.0.1 x others b.1 d)
+          let r' = subst (λ (l : List ℕ). IsSpelled room (go (b.0.0 ∷ c.0.0)) l x others) (sym o.1)
+          (subst (λ (l : List (Content h)). IsSpelled room (go l) rest x others) (sym o.0) r) in
+          let d = fewer (scope_after h b.0.0 p) (λ l. go (b.0.0 ∷ l)) b.0.1 c.0.0 c.0.1 x others c.1 r' in
+          some_groups h p go text x others (one_group h p (λ a. groups h (scope_after h a p) λ l. go (a ∷ l)) text b.0.0 b.0.1 x others b.1 d)
 
-  pub parts_sound : {g : Group} (s : Shape g) (text : List ℕ) (x : Content g) (rest : List ℕ) (others : List Token) → parts_at each s text ≡ Ok (x, rest) → IsText rest others → IsSpelled room s text x others
+  pub parts_sound : {g : Group} (s : Shape g) (text : List ℕ) (x : Content g) (rest : List ℕ) (others : List Token) → parts_at each s text ≡ Ok (x, rest)
+      → IsText rest others → IsSpelled room s text x others
   unfolding closing_at value_at count_at name_at binder_at form_at
   parts_sound {g} (ends y) text x rest others e is =
       let b = bind_ok (closing_at text) (λ c. Ok (y, c.1)) (x, rest) e in
@@ -129,7 +159,8 @@ module _ (room : ℕ) (each : GroupReading)
       let b = bind_ok (groups_at each h p text) (λ c. parts_at each (go c.0) c.1) (x, rest) e in
       all_groups (length text) h p go text b.0.0 b.0.1 x others b.1 (parts_sound (go b.0.0) b.0.1 x rest others b.2 is)
 
-pub group_sound : (room : ℕ) (h : Group) (p : Place) (text : List ℕ) (a : Content h) (rest : List ℕ) (others : List Token) → group_at room h p text ≡ Ok (a, rest) → IsText rest others → IsGroup room h p text a others
+pub group_sound : (room : ℕ) (h : Group) (p : Scope) (text : List ℕ) (a : Content h) (rest : List ℕ) (others : List Token)
+    → group_at room h p text ≡ Ok (a, rest) → IsText rest others → IsGroup room h p text a others
 unfolding group_at opening_at
 group_sound zero h p text a rest others e is = absurd cc
 group_sound (suc room) h p text a rest others e is =
@@ -146,7 +177,8 @@ group_sound (suc room) h p text a rest others e is =
 
 -- ---- what is in the grammar is read
 
-group_again : (room : ℕ) (h : Group) (p : Place) (text : List ℕ) (a : Content h) (rest : List ℕ) → (next text).token ≡ Open → parts_at (group_at room) (content h p) (next text).rest ≡ Ok (a, rest) → group_at (suc room) h p text ≡ Ok (a, rest)
+group_again : (room : ℕ) (h : Group) (p : Scope) (text : List ℕ) (a : Content h) (rest : List ℕ) → (next text).token ≡ Open
+    → parts_at (group_at room) (content h p) (next text).rest ≡ Ok (a, rest) → group_at (suc room) h p text ≡ Ok (a, rest)
 unfolding group_at opening_at
 group_again room h p text a rest opened parts = rw (part_again opens (λ _. kind.Unwanted) text Open tt opened refl) parts
 
@@ -157,12 +189,18 @@ pub record IsRead {g : Group} (room : ℕ) (s : Shape g) (text : List ℕ) (x : 
   pub rest_is : IsText rest others
 
 -- a group begins with `(`
-group_opens : {g h : Group} {room : ℕ} {p : Place} {go : Content h → Shape g} {ks : List Token} {x : Content g} → Spells g room (group h p go) ks x → (text : List ℕ) (others : List Token) → IsText text (ks ++ others) → (next text).token ≡ Open
+group_opens : {g h : Group} {room : ℕ} {p : Scope} {go : Content h → Shape g} {ks : List Token} {x : Content g} → Spells g room (group h p go) ks x
+    → (text : List ℕ) (others : List Token) → IsText text (ks ++ others) → (next text).token ≡ Open
 group_opens (group_so left a inner ks has_room d1 d2 whole) text others is = is.0
 
-pub parts_complete : (g : Group) (room : ℕ) (s : Shape g) (ks : List Token) (x : Content g) → Spells g room s ks x → (text : List ℕ) (others : List Token) → IsText text (ks ++ others) → IsRead room s text x others
+pub parts_complete : (g : Group) (room : ℕ) (s : Shape g) (ks : List Token) (x : Content g) → Spells g room s ks x → (text : List ℕ) (others : List Token)
+    → IsText text (ks ++ others) → IsRead room s text x others
 unfolding closing_at value_at count_at name_at binder_at form_at
-parts_complete g room (ends x) _ _ ends_so text others is = record { rest = (next text).rest; read = rw (part_again closes (λ _. kind.Unwanted) text Close tt is.0 refl) refl; rest_is = is.1 }
+parts_complete g room (ends x) _ _ ends_so text others is = record {
+  rest = (next text).rest;
+  read = rw (part_again closes (λ _. kind.Unwanted) text Close tt is.0 refl) refl;
+  rest_is = is.1;
+}
 parts_complete g room (word go) _ x (word_so {k = k} {ks = ks} f e d) text others is =
     let r = parts_complete g room (go f) ks x d (next text).rest others is.1 in
     record { rest = r.rest; read = rw (part_again form_of (λ _. kind.Form) text k f is.0 e) r.read; rest_is = r.rest_is }
@@ -189,5 +227,5 @@ parts_complete g room (groups h p go) _ x (groups_end {ks = ks} d) text others i
     let r = parts_complete g room (go []) (Close ∷ ks) x d text others is in
     record { rest = r.rest; read = parts_ended room h g p go text (ap is_closing is.0) ∙ r.read; rest_is = r.rest_is }
 parts_complete g room (groups h p go) ks x (groups_more d) text others is =
-    let r = parts_complete g room (group h p λ a. groups h (place_after h a p) λ l. go (a ∷ l)) ks x d text others is in
+    let r = parts_complete g room (group h p λ a. groups h (scope_after h a p) λ l. go (a ∷ l)) ks x d text others is in
     record { rest = r.rest; read = parts_go_on room h g p go text (ap is_closing (group_opens d text others is)) ∙ r.read; rest_is = r.rest_is }

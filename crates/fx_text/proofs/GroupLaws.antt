@@ -1,33 +1,30 @@
 -- Reading a group, step by step.
-use Rattle.std.proofs.Common.{◌≡◌, ℕ, zero, suc, ◌-◌, ◌<◌, Result, List, refl, sym, subst, arith}
+use Rattle.std.proofs.Common.{◌≡◌, ℕ, zero, suc, ◌-◌, ◌<◌, List, refl, subst, arith}
 use Rattle.fx_text.specs.declared.fault.ReadError.{ReadError}
 use Rattle.fx_text.specs.declared.fault.ReadError.TheVariants as errors
-use Rattle.fx_text.specs.declared.form.Form.{Form}
-use Rattle.fx_term.specs.Term.{Term}
 use Rattle.fx_text.specs.Token.{next}
-use Rattle.fx_text.specs.Given.{Fails, Gives}
-use Rattle.fx_text.specs.Place.{Place}
+use Rattle.fx_text.specs.Given.{Fails}
+use Rattle.fx_text.specs.Scope.{Scope}
 use Rattle.fx_text.specs.Group.{Group, OfTerm}
 use Rattle.fx_text.specs.Shape.{shape, content}
-use Rattle.fx_text.specs.Reading.{◌>>=◌, GroupReading, kind_of, too_deep, opening_at, form_at, parts_at, group_at, term_at}
+use Rattle.fx_text.specs.Reading.{◌>>=◌, kind_of, too_deep, opening_at, form_at, parts_at, group_at, term_at}
 
 -- where a `(` may be open, a group is `(` and its parts
-pub group_is : (room : ℕ) (g : Group) (p : Place) (bytes : List ℕ) → 0 < room → group_at room g p bytes ≡ (opening_at bytes >>= λ o. parts_at (group_at (room - 1)) (content g p) o.1)
+pub group_is : (room : ℕ) (g : Group) (p : Scope) (bytes : List ℕ) → 0 < room
+    → group_at room g p bytes ≡ (opening_at bytes >>= λ o. parts_at (group_at (room - 1)) (content g p) o.1)
 unfolding group_at
 group_is zero g p bytes h = absurd (omega arith)
 group_is (suc k) g p bytes h = let e : suc k - 1 ≡ k = omega arith in rw e refl
 
 -- and a term is `(`, the word of a form and its parts
-pub term_is : (room : ℕ) (p : Place) (bytes : List ℕ) → 0 < room → term_at room p bytes ≡ (opening_at bytes >>= λ o. form_at o.1 >>= λ f. parts_at (group_at (room - 1)) (shape f.0 p) f.1)
+pub term_is : (room : ℕ) (p : Scope) (bytes : List ℕ) → 0 < room → term_at room p bytes
+    ≡ (opening_at bytes >>= λ o. form_at o.1 >>= λ f. parts_at (group_at (room - 1)) (shape f.0 p) f.1)
 term_is room p bytes h = group_is room OfTerm p bytes h
 
 -- where no `(` may be open, there is no group
-pub no_group : (room : ℕ) (g : Group) (p : Place) (bytes : List ℕ) (e : ReadError) → room ≡ 0 → errors.Fault (record { kind = kind_of (too_deep (next bytes).token) (next bytes).token; left = (next bytes).from }) ≡ e → Fails e (group_at room g p bytes)
+pub no_group : (room : ℕ) (g : Group) (p : Scope) (bytes : List ℕ) (e : ReadError) → room ≡ 0
+    → errors.Fault (record { kind = kind_of (too_deep (next bytes).token) (next bytes).token; left = (next bytes).from }) ≡ e
+    → Fails e (group_at room g p bytes)
 unfolding group_at
 no_group zero g p bytes e h is = subst (λ (x : ReadError). Fails x (group_at 0 g p bytes)) is refl
 no_group (suc room) g p bytes e h is = absurd (omega arith)
-
--- the parts of a form that has no group in it are read the same by each reading of groups
-pub no_group_in : {X : Type 0} (view : X → Term × List ℕ) (result : Result X ReadError) (room : ℕ) (p : Place) (bytes : List ℕ) (of f : Form) → of ≡ f
-    → ((each : GroupReading) → Gives view result (parts_at each (shape f p) bytes)) → Gives view result (parts_at (group_at room) (shape of p) bytes)
-no_group_in view result room p bytes of f e h = subst (λ (x : Form). Gives view result (parts_at (group_at room) (shape x p) bytes)) (sym e) (h (group_at room))

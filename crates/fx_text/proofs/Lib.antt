@@ -1,6 +1,7 @@
 mod Rows
 pub mod NumberLaws
 pub mod TokenLaws
+pub mod MappedLists
 pub mod ScopeLaws
 pub mod PartLaws
 pub mod GroupLaws
@@ -8,6 +9,9 @@ pub mod GroupsLaws
 pub mod TreeLaws
 pub mod ReaderLaws
 pub mod SequenceLaws
+pub mod ReadLaws
+pub mod MadeLaws
+pub mod HeadLaws
 pub mod ResourceLaws
 pub mod BindLaws
 pub mod ThroughLaws

@@ -1,5 +1,30 @@
 -- Reading a number digit by digit.
-use Rattle.std.proofs.Common.{◌≡◌, ℕ, suc, length, drop, get_or, drop-cons, subst, ◌+◌, ◌-◌, ◌*◌, ◌^◌, ◌<◌, ◌≤◌, Bool, true, false, cond, List, [], ◌∷◌, refl, sym, arith}
+use Rattle.std.proofs.Common.{
+  ◌≡◌,
+  ℕ,
+  suc,
+  length,
+  drop,
+  get_or,
+  drop-cons,
+  subst,
+  ◌+◌,
+  ◌-◌,
+  ◌*◌,
+  ◌^◌,
+  ◌<◌,
+  ◌≤◌,
+  Bool,
+  true,
+  false,
+  cond,
+  List,
+  [],
+  ◌∷◌,
+  refl,
+  sym,
+  arith,
+}
 use Rattle.std.specs.Prelude.{◌&&◌, nat_lt}
 use Rattle.std.specs.List.{list_all}
 use Rattle.std.proofs.lemmas.List.{drop_all}
@@ -27,7 +52,8 @@ by_digits true v h = let p : nat_lt v (2 ^ 64) ≡ false = le-ltb _ _ h in rw p 
 by_digits false v h = refl
 
 pub too_large : (word left : List ℕ) (d value : ℕ) → Rests word (d ∷ left) value → 2 ^ 64 ≤ 10 * value + (d - 48) → number word ≡ Misnumber
-too_large word left d value h big = by_digits (list_all is_digit word) (value_after 0 word) (let g = value_after_ge (10 * value + (d - 48)) left in let e = h.values in omega arith)
+too_large word left d value h big = by_digits (list_all is_digit word) (value_after 0 word) (let g = value_after_ge (10 * value + (d - 48)) left in
+    let e = h.values in omega arith)
 
 pub is_number : (word : List ℕ) (value : ℕ) → Rests word [] value → value < 2 ^ 64 → number word ≡ Number value
 is_number word value h lt =
@@ -36,8 +62,10 @@ is_number word value h lt =
     let r : nat_lt value (2 ^ 64) ≡ true = lt-ltb _ _ lt in
     rw (p, q, r) refl
 
-pub too_large_at : (word : List ℕ) (i value : ℕ) → i < length word → Rests word (drop i word) value → 2 ^ 64 ≤ 10 * value + (get_or word i 0 - 48) → number word ≡ Misnumber
-too_large_at word i value lt h big = too_large word (drop (suc i) word) (get_or word i 0) value (subst (λ (l : List ℕ). Rests word l value) (drop-cons word i 0 lt) h) big
+pub too_large_at : (word : List ℕ) (i value : ℕ) → i < length word → Rests word (drop i word) value → 2 ^ 64 ≤ 10 * value + (get_or word i 0 - 48)
+    → number word ≡ Misnumber
+too_large_at word i value lt h big = too_large word (drop (suc i) word) (get_or word i 0) value
+    (subst (λ (l : List ℕ). Rests word l value) (drop-cons word i 0 lt) h) big
 
 pub is_number_at : (word : List ℕ) (i value : ℕ) → length word ≤ i → Rests word (drop i word) value → value < 2 ^ 64 → number word ≡ Number value
 is_number_at word i value le h lt = is_number word value (subst (λ (l : List ℕ). Rests word l value) (drop_all i word le) h) lt

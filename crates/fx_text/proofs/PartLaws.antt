@@ -1,5 +1,28 @@
 -- Reading one part: what it means that a token was taken.
-use Rattle.std.proofs.Common.{◌≡◌, ℕ, ◌<◌, Bool, true, false, cond, Option, Some, None, Result, Ok, Err, List, length, codes, bytes_eq, refl, sym, ap, ◌∙◌, arith}
+use Rattle.std.proofs.Common.{
+  ◌≡◌,
+  ℕ,
+  ◌<◌,
+  Bool,
+  true,
+  false,
+  cond,
+  Option,
+  Some,
+  None,
+  Result,
+  Ok,
+  Err,
+  List,
+  length,
+  codes,
+  bytes_eq,
+  refl,
+  sym,
+  ap,
+  ◌∙◌,
+  arith,
+}
 use Rattle.std.proofs.lemmas.Slice.Eq.{bytes_eq-Decides}
 use Rattle.fx_text.specs.declared.fault.Fault.{Fault}
 use Rattle.fx_text.specs.declared.fault.TextKind.{TextKind}

@@ -17,8 +17,10 @@ all_below n (c ∷ cs) h (suc k) d lt = all_below n cs h.1 k d (omega arith)
 pub grows_none : (xs : List Node) → GrowsBy xs xs []
 grows_none xs = record { added = []; is = sym (append-nil xs); trees = empty }
 
-trees_append : (from middle : ℕ) (ns ms : List Node) (rs qs : List ℕ) → Trees from ns rs → middle ≡ from + length ns → Trees middle ms qs → Trees from (ns ++ ms) (rs ++ qs)
-trees_append from middle ns _ rs _ d at empty = subst (λ (l : List Node). Trees from l (rs ++ [])) (sym (append-nil ns)) (subst (λ (l : List ℕ). Trees from ns l) (sym (append-nil rs)) d)
+trees_append : (from middle : ℕ) (ns ms : List Node) (rs qs : List ℕ) → Trees from ns rs → middle ≡ from + length ns → Trees middle ms qs
+    → Trees from (ns ++ ms) (rs ++ qs)
+trees_append from middle ns _ rs _ d at empty = subst (λ (l : List Node). Trees from l (rs ++ [])) (sym (append-nil ns))
+    (subst (λ (l : List ℕ). Trees from ns l) (sym (append-nil rs)) d)
 trees_append from middle ns ms rs qs d at (more before below others parts n d1 d2 order whole roots) = more (ns ++ before) below (rs ++ others) parts n
     (trees_append from middle ns before rs others d at d1)
     (subst (λ (i : ℕ). Trees i below parts) (omega (arith, length-append ns before)) d2)
@@ -47,7 +49,8 @@ same_front : (rs qs : List ℕ) (r q : ℕ) → rs ++ r ∷ [] ≡ qs ++ q ∷ [
 same_front [] [] r q e = (refl, cc)
 same_front [] (x ∷ qs) r q e = absurd (let h = ap length e in omega (arith, length-append qs (q ∷ [])))
 same_front (x ∷ rs) [] r q e = absurd (let h = ap length e in omega (arith, length-append rs (r ∷ [])))
-same_front (x ∷ rs) (y ∷ qs) r q e = let h : rs ++ r ∷ [] ≡ qs ++ q ∷ [] = cc in let k = same_front rs qs r q h in let f = k.0 in let g : x ≡ y = cc in (cc, k.1)
+same_front (x ∷ rs) (y ∷ qs) r q e = let h : rs ++ r ∷ [] ≡ qs ++ q ∷ [] = cc in let k = same_front rs qs r q h in let f = k.0 in let g : x ≡ y = cc in
+    (cc, k.1)
 
 last_tree : (from : ℕ) (all : List Node) (some rs : List ℕ) (r : ℕ) → Trees from all some → some ≡ rs ++ r ∷ [] → LastTree from all rs r
 last_tree from _ _ rs r empty e = absurd (let h = ap length e in omega (arith, length-append rs (r ∷ [])))
@@ -74,7 +77,11 @@ grew_before_last a c rs r g =
     record {
       middle = a ++ l.before;
       firsts = record { added = l.before; is = refl; trees = l.firsts };
-      lasts = record { added = l.tree; is = g.is ∙ ap (λ (x : List Node). a ++ x) l.is ∙ sym (append_assoc a l.before l.tree); trees = subst (λ (i : ℕ). Trees i l.tree (r ∷ [])) (sym (length-append a l.before)) l.last };
+      lasts = record {
+        added = l.tree;
+        is = g.is ∙ ap (λ (x : List Node). a ++ x) l.is ∙ sym (append_assoc a l.before l.tree);
+        trees = subst (λ (i : ℕ). Trees i l.tree (r ∷ [])) (sym (length-append a l.before)) l.last;
+      };
     }
 
 pub grew_before_two : (a c : List Node) (rs : List ℕ) (q r : ℕ) → GrowsBy a c (rs ++ q ∷ r ∷ []) → GrewBefore a c rs (q ∷ r ∷ [])
@@ -94,14 +101,17 @@ pub last_root : (a c : List Node) (rs : List ℕ) (r : ℕ) → GrowsBy a c (rs 
 last_root a c rs r g = let l = last_tree (length a) g.added (rs ++ r ∷ []) rs r g.trees refl in omega (arith, l.root, ap length g.is, length-append a g.added)
 
 -- the trees of a node's children, and then the node
-grows_node : (a b : List Node) (n : Node) (root : ℕ) (parts : List ℕ) → root ≡ length b → IsPermutation parts (children n) → GrowsBy a b parts → GrowsBy a (b ++ n ∷ []) (root ∷ [])
+grows_node : (a b : List Node) (n : Node) (root : ℕ) (parts : List ℕ) → root ≡ length b → IsPermutation parts (children n) → GrowsBy a b parts
+    → GrowsBy a (b ++ n ∷ []) (root ∷ [])
 grows_node a b n root parts at order g = record {
   added = g.added ++ n ∷ [];
   is = ap (λ (l : List Node). l ++ n ∷ []) g.is ∙ append_assoc a g.added (n ∷ []);
-  trees = more [] g.added [] parts n empty (subst (λ (i : ℕ). Trees i g.added parts) (omega arith) g.trees) order refl (ap (λ (i : ℕ). i ∷ []) (omega (arith, at, ap length g.is, length-append a g.added)));
+  trees = more [] g.added [] parts n empty (subst (λ (i : ℕ). Trees i g.added parts) (omega arith) g.trees) order refl
+      (ap (λ (i : ℕ). i ∷ []) (omega (arith, at, ap length g.is, length-append a g.added)));
 }
 
-pub adds : (old new : Reader) (n : Node) (root : ℕ) → new.nodes.items ≡ old.nodes.items ++ n ∷ [] → new.names.items ≡ old.names.items → new.turns ≡ old.turns → root ≡ length old.nodes.items
+pub adds : (old new : Reader) (n : Node) (root : ℕ) → new.nodes.items ≡ old.nodes.items ++ n ∷ [] → new.names.items ≡ old.names.items → new.turns ≡ old.turns
+    → root ≡ length old.nodes.items
     → ChildrenComeFirst old.nodes.items → AllBelow (length old.nodes.items) (children n) → Adds old new n root
 adds old new n root e names turns at tree below =
     let first = all_below (length old.nodes.items) (children n) below in

@@ -24,9 +24,11 @@ using_push (q ∷ rs) r t = ap (λ (u : Term). Bracket (Some q.slot) q.acquire u
 
 -- a release stands before what is used in the text, and after it among the children of its bracket
 release_first : (acquire used release : ℕ) → IsPermutation (acquire ∷ release ∷ used ∷ []) (acquire ∷ used ∷ release ∷ [])
-release_first acquire used release = IsPermutation-append_right (acquire ∷ []) (release ∷ used ∷ []) (used ∷ release ∷ []) (IsPermutation-append_comm (release ∷ []) (used ∷ []))
+release_first acquire used release = IsPermutation-append_right (acquire ∷ []) (release ∷ used ∷ []) (used ∷ release ∷ [])
+    (IsPermutation-append_comm (release ∷ []) (used ∷ []))
 
-pub resources_push : (nodes : List Node) (rs : List CodeResource) (r : CodeResource) → resources_of nodes (rs ++ r ∷ []) ≡ resources_of nodes rs ++ resource_of nodes r ∷ []
+pub resources_push : (nodes : List Node) (rs : List CodeResource) (r : CodeResource)
+    → resources_of nodes (rs ++ r ∷ []) ≡ resources_of nodes rs ++ resource_of nodes r ∷ []
 resources_push nodes rs r = map-append (resource_of nodes) rs (r ∷ [])
 
 pub roots_push : (rs : List CodeResource) (r : CodeResource) → roots_of (rs ++ r ∷ []) ≡ roots_of rs ++ r.acquire.0 ∷ r.release.0 ∷ []
@@ -34,7 +36,8 @@ roots_push [] r = refl
 roots_push (q ∷ rs) r = ap (λ (l : List ℕ). q.acquire.0 ∷ q.release.0 ∷ l) (roots_push rs r)
 
 -- the terms of the nodes before stay
-pub resources_kept : (old new : List Node) (rs : List CodeResource) → Keeps old new → AllBelow (length old) (roots_of rs) → resources_of new rs ≡ resources_of old rs
+pub resources_kept : (old new : List Node) (rs : List CodeResource) → Keeps old new → AllBelow (length old) (roots_of rs)
+    → resources_of new rs ≡ resources_of old rs
 resources_kept old new [] keeps below = refl
 resources_kept old new (r ∷ rs) keeps below =
     let a = keeps.same r.acquire.0 below.0 in
@@ -43,7 +46,8 @@ resources_kept old new (r ∷ rs) keeps below =
     cc
 
 -- the roots before the last one, and those of the last one
-pub roots_below : (bound : ℕ) (all front : List CodeResource) (r : CodeResource) → all ≡ front ++ r ∷ [] → AllBelow bound (roots_of all) → AllBelow bound (roots_of front) × (r.acquire.0 < bound) × (r.release.0 < bound)
+pub roots_below : (bound : ℕ) (all front : List CodeResource) (r : CodeResource) → all ≡ front ++ r ∷ [] → AllBelow bound (roots_of all)
+    → AllBelow bound (roots_of front) × (r.acquire.0 < bound) × (r.release.0 < bound)
 roots_below bound all front r e h = split front (subst (λ (l : List CodeResource). AllBelow bound (roots_of l)) e h)
   where
     split : (rs : List CodeResource) → AllBelow bound (roots_of (rs ++ r ∷ [])) → AllBelow bound (roots_of rs) × (r.acquire.0 < bound) × (r.release.0 < bound)
@@ -63,7 +67,8 @@ pub record NestsLast (old new : Reader) (rs : List CodeResource) (used : ℕ) (l
   pub grows : (start : List Node) → GrowsBy start old.nodes.items (roots_of rs ++ used ∷ []) → GrowsBy start new.nodes.items (roots_of left ++ root ∷ [])
 
 -- at first what uses them stands alone
-pub nests_none : (old : Reader) (rs : List CodeResource) (used : ℕ) → ChildrenComeFirst old.nodes.items → AllBelow (length old.nodes.items) (roots_of rs) → used < length old.nodes.items → NestsLast old old rs used rs used
+pub nests_none : (old : Reader) (rs : List CodeResource) (used : ℕ) → ChildrenComeFirst old.nodes.items → AllBelow (length old.nodes.items) (roots_of rs)
+    → used < length old.nodes.items → NestsLast old old rs used rs used
 nests_none old rs used tree below lt = record {
   names = refl;
   turns = refl;
@@ -76,7 +81,8 @@ nests_none old rs used tree below lt = record {
   grows = λ start g. g;
 }
 
-module _ (old middle : Reader) (rs : List CodeResource) (used : ℕ) (left front : List CodeResource) (r : CodeResource) (root : NodeId) (e : left ≡ front ++ r ∷ []) (h : NestsLast old middle rs used left root.0) where
+module _ (old middle : Reader) (rs : List CodeResource) (used : ℕ) (left front : List CodeResource) (r : CodeResource) (root : NodeId)
+    (e : left ≡ front ++ r ∷ []) (h : NestsLast old middle rs used left root.0) where
   -- the parts of the next bracket have nodes
   pub nests_parts : AllBelow (length middle.nodes.items) (r.acquire.0 ∷ root.0 ∷ r.release.0 ∷ [])
   nests_parts =
@@ -87,7 +93,8 @@ module _ (old middle : Reader) (rs : List CodeResource) (used : ℕ) (left front
       (omega arith, (h.root_below, (omega arith, tt)))
 
   -- then each before it is made a bracket round it
-  pub nests_more : (new : Reader) (whole : NodeId) → Adds middle new (node.Bracket (Some r.slot) r.acquire root r.release) whole.0 → NestsLast old new rs used front whole.0
+  pub nests_more : (new : Reader) (whole : NodeId) → Adds middle new (node.Bracket (Some r.slot) r.acquire root r.release) whole.0
+      → NestsLast old new rs used front whole.0
   nests_more new whole added =
       let split = roots_below (length old.nodes.items) left front r e h.below in
       let longer = h.keeps.longer in
@@ -96,7 +103,8 @@ module _ (old middle : Reader) (rs : List CodeResource) (used : ℕ) (left front
       let acquire_is = added.keeps.same r.acquire.0 (omega arith) ∙ h.keeps.same r.acquire.0 split.1 in
       let release_is = added.keeps.same r.release.0 (omega arith) ∙ h.keeps.same r.release.0 split.2 in
       let root_is = added.keeps.same root.0 h.root_below in
-      let whole_is : term_of new.nodes.items whole.0 ≡ Bracket (Some r.slot) (term_of old.nodes.items r.acquire.0) (term_of middle.nodes.items root.0) (term_of old.nodes.items r.release.0) = added.term ∙ cc in
+      let whole_is : term_of new.nodes.items whole.0 ≡ Bracket (Some r.slot) (term_of old.nodes.items r.acquire.0) (term_of middle.nodes.items root.0)
+      (term_of old.nodes.items r.release.0) = added.term ∙ cc in
       record {
         names = added.names ∙ h.names;
         turns = added.turns ∙ h.turns;
@@ -106,16 +114,22 @@ module _ (old middle : Reader) (rs : List CodeResource) (used : ℕ) (left front
         below = split.0;
         root_below = omega (arith, added.last);
         term = ap (λ (t : Term). using (resources_of old.nodes.items front) t) whole_is
-            ∙ sym (ap (λ (l : List CodeResource). using (resources_of old.nodes.items l) (term_of middle.nodes.items root.0)) e ∙ ap (λ (l : List Resource). using l (term_of middle.nodes.items root.0)) (resources_push old.nodes.items front r) ∙ using_push _ _ _)
+            ∙ sym (ap (λ (l : List CodeResource). using (resources_of old.nodes.items l) (term_of middle.nodes.items root.0)) e
+            ∙ ap (λ (l : List Resource). using l (term_of middle.nodes.items root.0)) (resources_push old.nodes.items front r) ∙ using_push _ _ _)
             ∙ h.term;
         grows = λ start g.
-            let regroup : roots_of left ++ root.0 ∷ [] ≡ roots_of front ++ r.acquire.0 ∷ r.release.0 ∷ root.0 ∷ [] = ap (λ (l : List CodeResource). roots_of l ++ root.0 ∷ []) e ∙ ap (λ (l : List ℕ). l ++ root.0 ∷ []) (roots_push front r) ∙ append_assoc (roots_of front) (r.acquire.0 ∷ r.release.0 ∷ []) (root.0 ∷ []) in
-            let three = grew_before_three start middle.nodes.items (roots_of front) r.acquire.0 r.release.0 root.0 (subst (λ (l : List ℕ). GrowsBy start middle.nodes.items l) regroup (h.grows start g)) in
-            grows_append start three.middle new.nodes.items (roots_of front) (whole.0 ∷ []) three.firsts (added.grows three.middle _ (release_first r.acquire.0 root.0 r.release.0) three.lasts);
+            let regroup : roots_of left ++ root.0 ∷ [] ≡ roots_of front ++ r.acquire.0 ∷ r.release.0 ∷ root.0 ∷ [] =
+            ap (λ (l : List CodeResource). roots_of l ++ root.0 ∷ []) e ∙ ap (λ (l : List ℕ). l ++ root.0 ∷ []) (roots_push front r)
+            ∙ append_assoc (roots_of front) (r.acquire.0 ∷ r.release.0 ∷ []) (root.0 ∷ []) in
+            let three = grew_before_three start middle.nodes.items (roots_of front) r.acquire.0 r.release.0 root.0
+            (subst (λ (l : List ℕ). GrowsBy start middle.nodes.items l) regroup (h.grows start g)) in
+            grows_append start three.middle new.nodes.items (roots_of front) (whole.0 ∷ []) three.firsts
+            (added.grows three.middle _ (release_first r.acquire.0 root.0 r.release.0) three.lasts);
       }
 
 -- at last all are brackets
-pub nests_all : (old new : Reader) (rs : List CodeResource) (used : ℕ) (left : List CodeResource) (root : ℕ) → length left ≡ 0 → NestsLast old new rs used left root → Nests old new rs used root
+pub nests_all : (old new : Reader) (rs : List CodeResource) (used : ℕ) (left : List CodeResource) (root : ℕ) → length left ≡ 0
+    → NestsLast old new rs used left root → Nests old new rs used root
 nests_all old new rs used [] root e h = record {
   names = h.names;
   turns = h.turns;

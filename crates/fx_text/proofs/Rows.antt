@@ -1,5 +1,34 @@
 -- Texts and what reading gives of each, by computation.
-use Rattle.std.proofs.Common.{◌≡◌, ℕ, zero, suc, ◌+◌, ◌≤◌, ◌<◌, Some, None, List, [], ◌∷◌, ◌++◌, length, map, take, replicate, codes, nat_lt, true, false, Result, Ok, Err, refl, ◌∙◌, ap, arith}
+use Rattle.std.proofs.Common.{
+  ◌≡◌,
+  ℕ,
+  zero,
+  suc,
+  ◌+◌,
+  ◌≤◌,
+  ◌<◌,
+  Some,
+  None,
+  List,
+  [],
+  ◌∷◌,
+  ◌++◌,
+  length,
+  map,
+  take,
+  replicate,
+  codes,
+  nat_lt,
+  true,
+  false,
+  Result,
+  Ok,
+  Err,
+  refl,
+  ◌∙◌,
+  ap,
+  arith,
+}
 use Rattle.std.specs.List.{concat}
 use Rattle.std.proofs.lemmas.Bool.{lt-ltb, le-ltb}
 use Rattle.std.proofs.lemmas.List.{length-append, length-replicate}
@@ -9,7 +38,22 @@ use Rattle.fx_text.specs.declared.fault.TextFault.{TextFault}
 use Rattle.fx_text.specs.declared.fault.TextKind.{TextKind}
 use Rattle.fx_text.specs.declared.fault.TextKind.TheVariants as kind
 use Rattle.fx_text.specs.Token.{after_spaces, next}
-use Rattle.fx_text.specs.Reading.{Meaning, opening_at, closing_at, value_at, count_at, name_at, binder_at, form_at, main_word_at, groups_within, group_at, top_opening_at, script_at, reading}
+use Rattle.fx_text.specs.Reading.{
+  Meaning,
+  opening_at,
+  closing_at,
+  value_at,
+  count_at,
+  name_at,
+  binder_at,
+  form_at,
+  main_word_at,
+  groups_within,
+  group_at,
+  top_opening_at,
+  script_at,
+  reading,
+}
 
 abbrev fault : TextKind → ℕ → Result Meaning TextFault
 fault k at = Err (record { kind = k; at = at })
@@ -44,12 +88,14 @@ unfolding next opening_at closing_at value_at binder_at form_at main_word_at gro
 form_as_name_row = refl
 
 -- a name is taken again where the first one is out of scope
-reused_name_row : reading (codes "(main (let x (let x (pure 1) (pure x)) (pure x)))") ≡ means (Let (Some 0) (Let (Some 0) (Pure (Number 1)) (Pure (Slot 0))) (Pure (Slot 0)))
+reused_name_row : reading (codes "(main (let x (let x (pure 1) (pure x)) (pure x)))")
+    ≡ means (Let (Some 0) (Let (Some 0) (Pure (Number 1)) (Pure (Slot 0))) (Pure (Slot 0)))
 unfolding next opening_at closing_at value_at binder_at form_at main_word_at group_at top_opening_at script_at
 reused_name_row = refl
 
 -- names are numbered from the outermost on
-two_names_row : reading (codes "(main (let x (pure 1) (handle (raise x) y (let z (pure y) (raise x)))))") ≡ means (Let (Some 0) (Pure (Number 1)) (Handle (Raise (Slot 0)) (Some 1) (Let (Some 2) (Pure (Slot 1)) (Raise (Slot 0)))))
+two_names_row : reading (codes "(main (let x (pure 1) (handle (raise x) y (let z (pure y) (raise x)))))")
+    ≡ means (Let (Some 0) (Pure (Number 1)) (Handle (Raise (Slot 0)) (Some 1) (Let (Some 2) (Pure (Slot 1)) (Raise (Slot 0)))))
 unfolding next opening_at closing_at value_at binder_at form_at main_word_at group_at top_opening_at script_at
 two_names_row = refl
 
@@ -70,7 +116,8 @@ unfolding next opening_at closing_at value_at form_at main_word_at group_at top_
 on_cancel_row = refl
 
 -- polls and values are numbered together
-poll_among_values_row : reading (codes "(main (let x (pure 1) (mask p (let y (poll p (pure x)) (pure y)))))") ≡ means (Let (Some 0) (Pure (Number 1)) (Mask 1 (Let (Some 2) (Poll (Slot 1) (Pure (Slot 0))) (Pure (Slot 2)))))
+poll_among_values_row : reading (codes "(main (let x (pure 1) (mask p (let y (poll p (pure x)) (pure y)))))")
+    ≡ means (Let (Some 0) (Pure (Number 1)) (Mask 1 (Let (Some 2) (Poll (Slot 1) (Pure (Slot 0))) (Pure (Slot 2)))))
 unfolding next opening_at closing_at value_at name_at binder_at form_at main_word_at group_at top_opening_at script_at
 poll_among_values_row = refl
 
@@ -103,7 +150,8 @@ forcer_row : reading (codes "(main (forcer (raise 1) (pure 2)))") ≡ means (Let
 unfolding next opening_at closing_at value_at count_at name_at binder_at form_at main_word_at groups_within group_at top_opening_at script_at
 forcer_row = refl
 
-using_row : reading (codes "(main (using ((x (pure 1) (pure x)) (y (raise x) (raise y))) (pure y)))") ≡ means (Bracket (Some 0) (Pure (Number 1)) (Bracket (Some 1) (Raise (Slot 0)) (Pure (Slot 1)) (Raise (Slot 1))) (Pure (Slot 0)))
+using_row : reading (codes "(main (using ((x (pure 1) (pure x)) (y (raise x) (raise y))) (pure y)))")
+    ≡ means (Bracket (Some 0) (Pure (Number 1)) (Bracket (Some 1) (Raise (Slot 0)) (Pure (Slot 1)) (Raise (Slot 1))) (Pure (Slot 0)))
 unfolding next opening_at closing_at value_at count_at name_at binder_at form_at main_word_at groups_within group_at top_opening_at script_at
 using_row = refl
 
@@ -232,7 +280,10 @@ unfolding next opening_at closing_at value_at binder_at form_at main_word_at gro
 after_main_row = refl
 
 -- the first bytes of a script, from none on
-first_bytes_row : map (λ n. reading (take n (codes "(main (pure 5))"))) (0 ∷ 1 ∷ 2 ∷ 3 ∷ 4 ∷ 5 ∷ 6 ∷ 7 ∷ 8 ∷ 9 ∷ 10 ∷ 11 ∷ 12 ∷ 13 ∷ 14 ∷ []) ≡ (fault kind.Main 0 ∷ fault kind.Ended 1 ∷ fault kind.Form 1 ∷ fault kind.Form 1 ∷ fault kind.Form 1 ∷ fault kind.Ended 5 ∷ fault kind.Ended 6 ∷ fault kind.Ended 7 ∷ fault kind.Form 7 ∷ fault kind.Form 7 ∷ fault kind.Form 7 ∷ fault kind.Ended 11 ∷ fault kind.Ended 12 ∷ fault kind.Ended 13 ∷ fault kind.Ended 14 ∷ [])
+first_bytes_row : map (λ n. reading (take n (codes "(main (pure 5))"))) (0 ∷ 1 ∷ 2 ∷ 3 ∷ 4 ∷ 5 ∷ 6 ∷ 7 ∷ 8 ∷ 9 ∷ 10 ∷ 11 ∷ 12 ∷ 13 ∷ 14 ∷ [])
+    ≡ (fault kind.Main 0 ∷ fault kind.Ended 1 ∷ fault kind.Form 1 ∷ fault kind.Form 1 ∷ fault kind.Form 1 ∷ fault kind.Ended 5 ∷ fault kind.Ended 6 ∷ fault
+    kind.Ended 7 ∷ fault kind.Form 7 ∷ fault kind.Form 7 ∷ fault kind.Form 7 ∷ fault kind.Ended 11 ∷ fault kind.Ended 12 ∷ fault kind.Ended 13 ∷ fault
+    kind.Ended 14 ∷ [])
 unfolding next opening_at closing_at value_at binder_at form_at main_word_at group_at top_opening_at script_at
 first_bytes_row = refl
 

@@ -1,5 +1,37 @@
--- What the grammar has fits its place: each name is in scope, and no loop has too many turns. Each row of the table keeps that, and so do all terms.
-use Rattle.std.proofs.Common.{◌≡◌, ℕ, zero, suc, ◌<◌, ◌≤◌, nat_le, Bool, true, false, cond, ◌&&◌, ◌==◌, Option, Some, None, List, [], ◌∷◌, ◌++◌, length, map, slice_get, get_or, bytes_eq, refl, sym, ◌∙◌, ap, subst, arith}
+-- What the grammar has fits its scope: each name is in scope, and no loop has too many turns. Each row of the table keeps that, and so do all terms.
+use Rattle.std.proofs.Common.{
+  ◌≡◌,
+  ℕ,
+  zero,
+  suc,
+  ◌<◌,
+  ◌≤◌,
+  nat_le,
+  Bool,
+  true,
+  false,
+  cond,
+  ◌&&◌,
+  ◌==◌,
+  Option,
+  Some,
+  None,
+  List,
+  [],
+  ◌∷◌,
+  ◌++◌,
+  length,
+  map,
+  slice_get,
+  get_or,
+  bytes_eq,
+  refl,
+  sym,
+  ◌∙◌,
+  ap,
+  subst,
+  arith,
+}
 use Rattle.std.proofs.lemmas.Bool.{leb-true}
 use Rattle.std.proofs.lemmas.Bool.Decides.{nat_tests}
 use Rattle.std.proofs.lemmas.List.{length-append, length-map, map-append}
@@ -8,44 +40,46 @@ use Rattle.std.proofs.lemmas.Option.{slice_get_past}
 use Rattle.fx_term.specs.declared.node.Arg.{Arg}
 use Rattle.fx_term.specs.Term.{Term, Pure, Let, Handle, For, Mask, Bracket}
 use Rattle.fx_term.specs.Turns.{most_turns, turns_of_loop, HasFewTurns}
-use Rattle.fx_term.specs.Scope.{Kind, OfValue, OfPoll, OfFiber, OfOtherPoll, with_name, IsScoped, IsNew, HasLevels, IsInScope}
+use Rattle.fx_term.specs.declared.name_kind.NameKind.{NameKind}
+use Rattle.fx_term.specs.declared.name_kind.NameKind.TheVariants as kind
+use Rattle.fx_term.specs.Scope.{with_name, IsScoped, IsNew, HasLevels, IsInScope}
 use Rattle.fx_text.specs.declared.form.Form.{Form}
 use Rattle.fx_text.specs.declared.form.Form.TheVariants as form
 use Rattle.fx_text.specs.Token.{Token, Open, Close, Number, Name, Stray, Misnumber, End}
-use Rattle.fx_text.specs.Place.{Place, Bound, top, under, repeated, slot, same_kind, slot_of}
-use Rattle.fx_text.specs.Group.{Group, OfTerm, OfResource, OfResources, Resource, Content, under_all, place_after}
+use Rattle.fx_text.specs.Scope.{Scope, Bound, top, under, repeated, slot, same_kind, slot_of}
+use Rattle.fx_text.specs.Group.{Group, OfTerm, OfResource, OfResources, Resource, Content, under_all, scope_after}
 use Rattle.fx_text.specs.Shape.{Shape, ends, word, value, count, name, binder, group, groups, seq, using, shape, content}
 use Rattle.fx_text.specs.Part.{slot_arg, value_of, count_of, name_of}
 use Rattle.fx_text.specs.Reading.{Meaning}
 use Rattle.fx_text.specs.Grammar.{Spells, ends_so, word_so, value_so, count_so, name_so, binder_so, group_so, groups_end, groups_more, IsScript}
 
 -- the kinds of the names in scope
-abbrev pub kinds_at : Place → List Kind
+abbrev pub kinds_at : Scope → List NameKind
 kinds_at p = map (λ b. b.kind) p.names
 
--- the term is in scope at this place, and no loop in it has too many turns there
-pub record StandsAt (p : Place) (t : Term) : Type 0 where
+-- the term has the names of this scope, and no loop in it has too many turns there
+pub record StandsAt (p : Scope) (t : Term) : Type 0 where
   pub scope : IsInScope (kinds_at p) t
   pub turns : HasFewTurns p.turns t
 
 -- the same of a resource's terms, and it has the next slot
-pub record ResourceFits (p : Place) (r : Resource) : Type 0 where
+pub record ResourceFits (p : Scope) (r : Resource) : Type 0 where
   pub slot_is : r.slot ≡ slot p
   pub acquire : StandsAt p r.acquire
-  pub release : StandsAt (under OfValue r.name p) r.release
+  pub release : StandsAt (under kind.Value r.name p) r.release
 
 -- each of these fits where it stands, after those before it
-abbrev pub EachFits : {X : Type 0} → (Place → X → Type 0) → (X → Place → Place) → Place → List X → Type 0
+abbrev pub EachFits : {X : Type 0} → (Scope → X → Type 0) → (X → Scope → Scope) → Scope → List X → Type 0
 EachFits Fit after p [] = Unit {0}
 EachFits Fit after p (x ∷ xs) = Fit p x × EachFits Fit after (after x p) xs
 
--- what a group is fits its place
-abbrev pub Fits : (g : Group) → Place → Content g → Type 0
+-- what a group is fits its scope
+abbrev pub Fits : (g : Group) → Scope → Content g → Type 0
 Fits OfTerm = StandsAt
 Fits OfResource = ResourceFits
-Fits OfResources = EachFits ResourceFits (λ r p. under OfValue r.name p)
+Fits OfResources = EachFits ResourceFits (λ r p. under kind.Value r.name p)
 
--- where the parts fit their places, what the shape comes to has the property
+-- where the parts fit their scopes, what the shape comes to has the property
 abbrev pub KeepsFit : {g : Group} → (Content g → Type 0) → Shape g → Type 0
 KeepsFit P (ends x) = P x
 KeepsFit P (word go) = (f : Form) → KeepsFit P (go f)
@@ -54,7 +88,7 @@ KeepsFit P (count p go) = (n : ℕ) → turns_of_loop p.turns n ≤ most_turns �
 KeepsFit P (name k p go) = (i : ℕ) → i < length (kinds_at p) → slice_get (kinds_at p) i ≡ Some k → KeepsFit P (go i)
 KeepsFit P (binder p go) = (x : List ℕ) → KeepsFit P (go x)
 KeepsFit P (group h p go) = (x : Content h) → Fits h p x → KeepsFit P (go x)
-KeepsFit P (groups h p go) = (xs : List (Content h)) → EachFits (Fits h) (place_after h) p xs → KeepsFit P (go xs)
+KeepsFit P (groups h p go) = (xs : List (Content h)) → EachFits (Fits h) (scope_after h) p xs → KeepsFit P (go xs)
 
 -- ---- one name more
 
@@ -67,40 +101,40 @@ zero_other b = grind (arith, nat_tests)
 suc_other : (a : ℕ) → (suc a == 0) ≡ false
 suc_other a = grind (arith, nat_tests)
 
-get_push : (kinds : List Kind) (k : Kind) (y : ℕ) → slice_get (kinds ++ k ∷ []) y ≡ with_name (length kinds) k (λ x. slice_get kinds x) y
+get_push : (kinds : List NameKind) (k : NameKind) (y : ℕ) → slice_get (kinds ++ k ∷ []) y ≡ with_name (length kinds) k (λ x. slice_get kinds x) y
 get_push [] k zero = refl
 get_push [] k (suc y) = rw (suc_other y) refl
 get_push (j ∷ kinds) k zero = rw (zero_other (length kinds)) refl
 get_push (j ∷ kinds) k (suc y) = rw (suc_same y (length kinds)) (get_push kinds k y)
 
-kinds_under_is : (k : Kind) (x : List ℕ) (p : Place) → kinds_at (under k x p) ≡ kinds_at p ++ k ∷ []
+kinds_under_is : (k : NameKind) (x : List ℕ) (p : Scope) → kinds_at (under k x p) ≡ kinds_at p ++ k ∷ []
 kinds_under_is k x p = map-append (λ (b : Bound). b.kind) p.names _
 
-slot_is : (p : Place) → slot p ≡ length (kinds_at p)
+slot_is : (p : Scope) → slot p ≡ length (kinds_at p)
 slot_is p = sym (length-map p.names (λ (b : Bound). b.kind))
 
-new_slot : (kinds : List Kind) → IsNew (λ x. slice_get kinds x) (Some (length kinds))
+new_slot : (kinds : List NameKind) → IsNew (λ x. slice_get kinds x) (Some (length kinds))
 new_slot kinds = slice_get_past kinds (length kinds) (omega arith)
 
 -- ---- one name
 
-same_kind_is : (j k : Kind) → same_kind j k ≡ true → j ≡ k
-same_kind_is OfValue OfValue e = refl
-same_kind_is OfPoll OfPoll e = refl
-same_kind_is OfFiber OfFiber e = refl
-same_kind_is OfOtherPoll OfOtherPoll e = refl
-same_kind_is OfValue OfPoll e = absurd cc
-same_kind_is OfValue OfFiber e = absurd cc
-same_kind_is OfValue OfOtherPoll e = absurd cc
-same_kind_is OfPoll OfValue e = absurd cc
-same_kind_is OfPoll OfFiber e = absurd cc
-same_kind_is OfPoll OfOtherPoll e = absurd cc
-same_kind_is OfFiber OfValue e = absurd cc
-same_kind_is OfFiber OfPoll e = absurd cc
-same_kind_is OfFiber OfOtherPoll e = absurd cc
-same_kind_is OfOtherPoll OfValue e = absurd cc
-same_kind_is OfOtherPoll OfPoll e = absurd cc
-same_kind_is OfOtherPoll OfFiber e = absurd cc
+same_kind_is : (j k : NameKind) → same_kind j k ≡ true → j ≡ k
+same_kind_is kind.Value kind.Value e = refl
+same_kind_is kind.Poll kind.Poll e = refl
+same_kind_is kind.Fiber kind.Fiber e = refl
+same_kind_is kind.OtherPoll kind.OtherPoll e = refl
+same_kind_is kind.Value kind.Poll e = absurd cc
+same_kind_is kind.Value kind.Fiber e = absurd cc
+same_kind_is kind.Value kind.OtherPoll e = absurd cc
+same_kind_is kind.Poll kind.Value e = absurd cc
+same_kind_is kind.Poll kind.Fiber e = absurd cc
+same_kind_is kind.Poll kind.OtherPoll e = absurd cc
+same_kind_is kind.Fiber kind.Value e = absurd cc
+same_kind_is kind.Fiber kind.Poll e = absurd cc
+same_kind_is kind.Fiber kind.OtherPoll e = absurd cc
+same_kind_is kind.OtherPoll kind.Value e = absurd cc
+same_kind_is kind.OtherPoll kind.Poll e = absurd cc
+same_kind_is kind.OtherPoll kind.Fiber e = absurd cc
 
 and_right : (a b : Bool) → (a && b) ≡ true → b ≡ true
 and_right true b e = e
@@ -112,7 +146,7 @@ kind_there (b ∷ bounds) zero d h = refl
 kind_there (b ∷ bounds) (suc i) d h = kind_there bounds i d (omega arith)
 
 -- the slot of a name is that of a name of its kind
-slot_found : (k : Kind) (x : List ℕ) (p : Place) (i : ℕ) → slot_of k x p.names ≡ Some i → (i < length (kinds_at p)) × (slice_get (kinds_at p) i ≡ Some k)
+slot_found : (k : NameKind) (x : List ℕ) (p : Scope) (i : ℕ) → slot_of k x p.names ≡ Some i → (i < length (kinds_at p)) × (slice_get (kinds_at p) i ≡ Some k)
 slot_found k x p i e =
     let d : Bound = record { name = []; kind = k } in
     let h = position-Some (λ (b : Bound). bytes_eq b.name x && same_kind b.kind k) p.names i d e in
@@ -120,24 +154,24 @@ slot_found k x p i e =
     let same = same_kind_is (get_or p.names i d).kind k (and_right (bytes_eq (get_or p.names i d).name x) _ h.1) in
     (omega (arith, slot_is p), kind_there p.names i d h.0 ∙ ap Some same)
 
-abbrev ValueInScope : Place → Option Arg → Type 0
+abbrev ValueInScope : Scope → Option Arg → Type 0
 ValueInScope p None = Unit {0}
 ValueInScope p (Some v) = IsInScope (kinds_at p) (Pure v)
 
-value_found : (p : Place) (k : Token) (v : Arg) → value_of p k ≡ Some v → IsInScope (kinds_at p) (Pure v)
+value_found : (p : Scope) (k : Token) (v : Arg) → value_of p k ≡ Some v → IsInScope (kinds_at p) (Pure v)
 value_found p (Number n) v e = subst (λ (a : Option Arg). ValueInScope p a) e (record { levels = tt; scoped = tt })
-value_found p (Name x) v e = by_slot (slot_of OfValue x p.names) refl e
+value_found p (Name x) v e = by_slot (slot_of kind.Value x p.names) refl e
   where
-    by_slot : (o : Option ℕ) → slot_of OfValue x p.names ≡ o → slot_arg o ≡ Some v → IsInScope (kinds_at p) (Pure v)
+    by_slot : (o : Option ℕ) → slot_of kind.Value x p.names ≡ o → slot_arg o ≡ Some v → IsInScope (kinds_at p) (Pure v)
     by_slot None at e = absurd cc
-    by_slot (Some i) at e = let h = slot_found OfValue x p i at in subst (λ (a : Option Arg). ValueInScope p a) e (record { levels = h.0; scoped = h.1 })
+    by_slot (Some i) at e = let h = slot_found kind.Value x p i at in subst (λ (a : Option Arg). ValueInScope p a) e (record { levels = h.0; scoped = h.1 })
 value_found p Open v e = absurd cc
 value_found p Close v e = absurd cc
 value_found p Stray v e = absurd cc
 value_found p Misnumber v e = absurd cc
 value_found p End v e = absurd cc
 
-name_found : (c : Kind) (p : Place) (k : Token) (i : ℕ) → name_of c p k ≡ Some i → (i < length (kinds_at p)) × (slice_get (kinds_at p) i ≡ Some c)
+name_found : (c : NameKind) (p : Scope) (k : Token) (i : ℕ) → name_of c p k ≡ Some i → (i < length (kinds_at p)) × (slice_get (kinds_at p) i ≡ Some c)
 name_found c p (Name x) i e = slot_found c x p i e
 name_found c p Open i e = absurd cc
 name_found c p Close i e = absurd cc
@@ -146,7 +180,7 @@ name_found c p Stray i e = absurd cc
 name_found c p Misnumber i e = absurd cc
 name_found c p End i e = absurd cc
 
-count_found : (p : Place) (k : Token) (n : ℕ) → count_of p k ≡ Some n → turns_of_loop p.turns n ≤ most_turns
+count_found : (p : Scope) (k : Token) (n : ℕ) → count_of p k ≡ Some n → turns_of_loop p.turns n ≤ most_turns
 count_found p (Number m) n e = by_test (nat_le (turns_of_loop p.turns m) most_turns) refl e
   where
     by_test : (b : Bool) → nat_le (turns_of_loop p.turns m) most_turns ≡ b → cond b (Some m) None ≡ Some n → turns_of_loop p.turns n ≤ most_turns
@@ -161,7 +195,7 @@ count_found p End n e = absurd cc
 
 -- ---- forms in scope
 
-module _ (kinds : List Kind) (k : Kind) (x : ℕ) (b : Term) (at : x ≡ length kinds) (inner : IsInScope (kinds ++ k ∷ []) b) where
+module _ (kinds : List NameKind) (k : NameKind) (x : ℕ) (b : Term) (at : x ≡ length kinds) (inner : IsInScope (kinds ++ k ∷ []) b) where
   levels_under : HasLevels (suc (length kinds)) b
   levels_under = let long : length (kinds ++ k ∷ []) ≡ suc (length kinds) = omega (arith, length-append kinds (k ∷ [])) in rw long at inner.levels
 
@@ -169,21 +203,21 @@ module _ (kinds : List Kind) (k : Kind) (x : ℕ) (b : Term) (at : x ≡ length 
   new_under = rw at (new_slot kinds)
 
   scoped_under : IsScoped (with_name x k (λ y. slice_get kinds y)) b
-  scoped_under = rw at (subst (λ (s : ℕ → Option Kind). IsScoped s b) (λ i y. get_push kinds k y i) inner.scoped)
+  scoped_under = rw at (subst (λ (s : ℕ → Option NameKind). IsScoped s b) (λ i y. get_push kinds k y i) inner.scoped)
 
-inner_scope : (k : Kind) (x : List ℕ) (p : Place) (b : Term) → IsInScope (kinds_at (under k x p)) b → IsInScope (kinds_at p ++ k ∷ []) b
+inner_scope : (k : NameKind) (x : List ℕ) (p : Scope) (b : Term) → IsInScope (kinds_at (under k x p)) b → IsInScope (kinds_at p ++ k ∷ []) b
 inner_scope k x p b h = rw (kinds_under_is k x p) at h
 
-module _ (p : Place) (x : List ℕ) (a : Term) (first : StandsAt p a) where
-  module _ (b : Term) (second : StandsAt (under OfValue x p) b) where
+module _ (p : Scope) (x : List ℕ) (a : Term) (first : StandsAt p a) where
+  module _ (b : Term) (second : StandsAt (under kind.Value x p) b) where
     let_stands : StandsAt p (Let (Some (slot p)) a b)
     let_stands =
         let at = slot_is p in
-        let inner = inner_scope OfValue x p b second.scope in
+        let inner = inner_scope kind.Value x p b second.scope in
         record {
           scope = record {
-            levels = (first.scope.levels, at, levels_under (kinds_at p) OfValue (slot p) b at inner);
-            scoped = (first.scope.scoped, new_under (kinds_at p) OfValue (slot p) b at inner, scoped_under (kinds_at p) OfValue (slot p) b at inner);
+            levels = (first.scope.levels, at, levels_under (kinds_at p) kind.Value (slot p) b at inner);
+            scoped = (first.scope.scoped, new_under (kinds_at p) kind.Value (slot p) b at inner, scoped_under (kinds_at p) kind.Value (slot p) b at inner);
           };
           turns = (first.turns, second.turns);
         }
@@ -191,55 +225,68 @@ module _ (p : Place) (x : List ℕ) (a : Term) (first : StandsAt p a) where
     handle_stands : StandsAt p (Handle a (Some (slot p)) b)
     handle_stands = let h = let_stands in record { scope = record { levels = h.scope.levels; scoped = h.scope.scoped }; turns = h.turns }
 
-  bracket_stands : (s : ℕ) (u r : Term) → s ≡ slot p → StandsAt (under OfValue x p) u → StandsAt (under OfValue x p) r → StandsAt p (Bracket (Some s) a u r)
+  bracket_stands : (s : ℕ) (u r : Term) → s ≡ slot p → StandsAt (under kind.Value x p) u → StandsAt (under kind.Value x p) r → StandsAt p (Bracket (Some s) a u r)
   bracket_stands s u r is used released =
       let at = is ∙ slot_is p in
-      let inner = inner_scope OfValue x p u used.scope in
-      let outer = inner_scope OfValue x p r released.scope in
+      let inner = inner_scope kind.Value x p u used.scope in
+      let outer = inner_scope kind.Value x p r released.scope in
       record {
         scope = record {
-          levels = (first.scope.levels, at, levels_under (kinds_at p) OfValue s u at inner, levels_under (kinds_at p) OfValue s r at outer);
-          scoped = (first.scope.scoped, new_under (kinds_at p) OfValue s u at inner, scoped_under (kinds_at p) OfValue s u at inner, scoped_under (kinds_at p) OfValue s r at outer);
+          levels = (first.scope.levels, at, levels_under (kinds_at p) kind.Value s u at inner, levels_under (kinds_at p) kind.Value s r at outer);
+          scoped = (
+            first.scope.scoped,
+            new_under (kinds_at p) kind.Value s u at inner,
+            scoped_under (kinds_at p) kind.Value s u at inner,
+            scoped_under (kinds_at p) kind.Value s r at outer,
+          );
         };
         turns = (first.turns, used.turns, released.turns);
       }
 
-for_stands : (p : Place) (x : List ℕ) (n : ℕ) (a : Term) → turns_of_loop p.turns n ≤ most_turns → StandsAt (repeated n (under OfValue x p)) a → StandsAt p (For (slot p) n a)
+for_stands : (p : Scope) (x : List ℕ) (n : ℕ) (a : Term) → turns_of_loop p.turns n ≤ most_turns → StandsAt (repeated n (under kind.Value x p)) a
+    → StandsAt p (For (slot p) n a)
 for_stands p x n a few inside =
     let at = slot_is p in
-    let inner = inner_scope OfValue x p a inside.scope in
+    let inner = inner_scope kind.Value x p a inside.scope in
     record {
-      scope = record { levels = (at, levels_under (kinds_at p) OfValue (slot p) a at inner); scoped = (new_under (kinds_at p) OfValue (slot p) a at inner, scoped_under (kinds_at p) OfValue (slot p) a at inner) };
+      scope = record {
+        levels = (at, levels_under (kinds_at p) kind.Value (slot p) a at inner);
+        scoped = (new_under (kinds_at p) kind.Value (slot p) a at inner, scoped_under (kinds_at p) kind.Value (slot p) a at inner);
+      };
       turns = (few, inside.turns);
     }
 
-mask_stands : (p : Place) (x : List ℕ) (a : Term) → StandsAt (under OfPoll x p) a → StandsAt p (Mask (slot p) a)
+mask_stands : (p : Scope) (x : List ℕ) (a : Term) → StandsAt (under kind.Poll x p) a → StandsAt p (Mask (slot p) a)
 mask_stands p x a inside =
     let at = slot_is p in
-    let inner = inner_scope OfPoll x p a inside.scope in
+    let inner = inner_scope kind.Poll x p a inside.scope in
     record {
-      scope = record { levels = (at, levels_under (kinds_at p) OfPoll (slot p) a at inner); scoped = (new_under (kinds_at p) OfPoll (slot p) a at inner, scoped_under (kinds_at p) OfPoll (slot p) a at inner) };
+      scope = record {
+        levels = (at, levels_under (kinds_at p) kind.Poll (slot p) a at inner);
+        scoped = (new_under (kinds_at p) kind.Poll (slot p) a at inner, scoped_under (kinds_at p) kind.Poll (slot p) a at inner);
+      };
       turns = inside.turns;
     }
 
 -- two terms in order, the first one's value dropped
-then_stands : (p : Place) (a b : Term) → StandsAt p a → StandsAt p b → StandsAt p (Let None a b)
+then_stands : (p : Scope) (a b : Term) → StandsAt p a → StandsAt p b → StandsAt p (Let None a b)
 then_stands p a b first second = record {
   scope = record { levels = (first.scope.levels, tt, second.scope.levels); scoped = (first.scope.scoped, tt, second.scope.scoped) };
   turns = (first.turns, second.turns);
 }
 
-seq_stands : (p : Place) (a : Term) (bs : List Term) → StandsAt p a → EachFits StandsAt (λ t q. q) p bs → StandsAt p (seq a bs)
+seq_stands : (p : Scope) (a : Term) (bs : List Term) → StandsAt p a → EachFits StandsAt (λ t q. q) p bs → StandsAt p (seq a bs)
 seq_stands p a [] first others = first
 seq_stands p a (b ∷ bs) first others = then_stands p a (seq b bs) first (seq_stands p b bs others.0 others.1)
 
-using_stands : (p : Place) (rs : List Resource) (t : Term) → Fits OfResources p rs → StandsAt (under_all rs p) t → StandsAt p (using rs t)
+using_stands : (p : Scope) (rs : List Resource) (t : Term) → Fits OfResources p rs → StandsAt (under_all rs p) t → StandsAt p (using rs t)
 using_stands p [] t all used = used
-using_stands p (r ∷ rs) t all used = bracket_stands p r.name r.acquire all.0.acquire r.slot (using rs t) r.release all.0.slot_is (using_stands (under OfValue r.name p) rs t all.1 used) all.0.release
+using_stands p (r ∷ rs) t all used = bracket_stands p r.name r.acquire all.0.acquire r.slot (using rs t) r.release all.0.slot_is
+    (using_stands (under kind.Value r.name p) rs t all.1 used) all.0.release
 
 -- ---- the rows of the table
 
-shape_fits : (f : Form) (p : Place) → KeepsFit (StandsAt p) (shape f p)
+shape_fits : (f : Form) (p : Scope) → KeepsFit (StandsAt p) (shape f p)
 shape_fits form.Pure p = λ v h. record { scope = h; turns = tt }
 shape_fits form.Raise p = λ v h. record { scope = record { levels = h.levels; scoped = h.scoped }; turns = tt }
 shape_fits form.Canceled p = record { scope = record { levels = tt; scoped = tt }; turns = tt }
@@ -270,7 +317,7 @@ shape_fits form.Forcer p = λ a first b second. record {
 }
 shape_fits form.Using p = λ rs all t used. using_stands p rs t all used
 
-content_fits : (g : Group) (p : Place) → KeepsFit (Fits g p) (content g p)
+content_fits : (g : Group) (p : Scope) → KeepsFit (Fits g p) (content g p)
 content_fits OfTerm p = λ f. shape_fits f p
 content_fits OfResource p = λ x a first r second. record { slot_is = refl; acquire = first; release = second }
 content_fits OfResources p = λ r one rs others. (one, others)
@@ -282,13 +329,14 @@ spelled_fits g P room (ends x) _ _ ends_so h = h
 spelled_fits g P room (word go) _ x (word_so {ks = ks} f e d) h = spelled_fits g P room (go f) ks x d (h f)
 spelled_fits g P room (value p go) _ x (value_so {k = k} {ks = ks} v e d) h = spelled_fits g P room (go v) ks x d (h v (value_found p k v e))
 spelled_fits g P room (count p go) _ x (count_so {k = k} {ks = ks} n e d) h = spelled_fits g P room (go n) ks x d (h n (count_found p k n e))
-spelled_fits g P room (name c p go) _ x (name_so {k = k} {ks = ks} i e d) h = let found = name_found c p k i e in spelled_fits g P room (go i) ks x d (h i found.0 found.1)
+spelled_fits g P room (name c p go) _ x (name_so {k = k} {ks = ks} i e d) h = let found = name_found c p k i e in
+    spelled_fits g P room (go i) ks x d (h i found.0 found.1)
 spelled_fits g P room (binder p go) _ x (binder_so {ks = ks} b e d) h = spelled_fits g P room (go b) ks x d (h b)
 spelled_fits g P room (group k p go) _ x (group_so left a inner ks has_room d1 d2 whole) h =
     spelled_fits g P room (go a) ks x d2 (h a (spelled_fits k (Fits k p) left (content k p) inner a d1 (content_fits k p)))
 spelled_fits g P room (groups k p go) _ x (groups_end {ks = ks} d) h = spelled_fits g P room (go []) (Close ∷ ks) x d (h [] tt)
 spelled_fits g P room (groups k p go) ks x (groups_more d) h =
-    spelled_fits g P room (group k p λ a. groups k (place_after k a p) λ others. go (a ∷ others)) ks x d (λ a first others each. h (a ∷ others) (first, each))
+    spelled_fits g P room (group k p λ a. groups k (scope_after k a p) λ others. go (a ∷ others)) ks x d (λ a first others each. h (a ∷ others) (first, each))
 
 -- the term of a script stands in no binder's scope and in no loop
 pub script_fits : (text : List ℕ) (m : Meaning) → IsScript text m → StandsAt top m.term

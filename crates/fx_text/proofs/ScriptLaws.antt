@@ -1,5 +1,29 @@
 -- A text is read exactly where it is a script.
-use Rattle.std.proofs.Common.{◌≡◌, ◌↔◌, ℕ, cond, ◌≤◌, Bool, true, false, nat_lt, IfOk, Result, Ok, Err, List, [], ◌∷◌, length, codes, refl, sym, ap, subst, arith}
+use Rattle.std.proofs.Common.{
+  ◌≡◌,
+  ◌↔◌,
+  ℕ,
+  cond,
+  ◌≤◌,
+  Bool,
+  true,
+  false,
+  nat_lt,
+  IfOk,
+  Result,
+  Ok,
+  Err,
+  List,
+  [],
+  ◌∷◌,
+  length,
+  codes,
+  refl,
+  sym,
+  ap,
+  subst,
+  arith,
+}
 use Rattle.std.proofs.lemmas.Bool.{ltb-false, le-ltb}
 use Rattle.std.proofs.lemmas.List.{append-nil}
 use Rattle.fx_term.specs.declared.node.Node.{Node}
@@ -11,6 +35,7 @@ use Rattle.fx_text.specs.declared.fault.Fault.{Fault}
 use Rattle.fx_text.specs.declared.fault.TextFault.{TextFault}
 use Rattle.fx_text.specs.declared.fault.TextKind.TheVariants as kind
 use Rattle.fx_text.specs.declared.script.Script.{Script}
+use Rattle.fx_text.specs.Limits.{most_bytes, most_open, most_nodes}
 use Rattle.fx_text.specs.Token.{Token, Open, Close, Number, Name, Stray, Misnumber, End, Lexeme, next}
 use Rattle.fx_text.specs.Group.{OfTerm}
 use Rattle.fx_text.specs.Shape.{main_shape}
@@ -49,28 +74,28 @@ of_term t = record { queues = []; term = t }
 
 -- what comes after the word main
 abbrev rest_of_main : List ℕ → Result Meaning Fault
-rest_of_main bytes = parts_at (group_at 99) main_shape bytes >>= λ x. last (of_term x.0) (next x.1) (next x.1).token
+rest_of_main bytes = parts_at (group_at most_open) main_shape bytes >>= λ x. last (of_term x.0) (next x.1) (next x.1).token
 
 record HasMain (text : List ℕ) (m : Meaning) : Type 0 where
   queues : m.queues ≡ []
   tokens : List Token
   text_is : IsText text tokens
-  main : Spells OfTerm 99 main_shape tokens m.term
+  main : Spells OfTerm most_open main_shape tokens m.term
 
 main_sound : (text : List ℕ) (m : Meaning) → rest_of_main text ≡ Ok m → HasMain text m
 main_sound text m e =
-    let b = bind_ok (parts_at (group_at 99) main_shape text) (λ x. last (of_term x.0) (next x.1) (next x.1).token) m e in
+    let b = bind_ok (parts_at (group_at most_open) main_shape text) (λ x. last (of_term x.0) (next x.1) (next x.1).token) m e in
     let l = last_ok (of_term b.0.0) m (next b.0.1) (next b.0.1).token b.2 in
-    let r = parts_sound 99 (group_at 99) (group_sound 99) main_shape text b.0.0 b.0.1 [] b.1 l.0 in
+    let r = parts_sound most_open (group_at most_open) (group_sound most_open) main_shape text b.0.0 b.0.1 [] b.1 l.0 in
     record {
       queues = sym (ap (λ (n : Meaning). n.queues) l.1);
       tokens = r.tokens;
       text_is = subst (λ (x : List Token). IsText text x) (append-nil r.tokens) r.text_is;
-      main = subst (λ (n : Meaning). Spells OfTerm 99 main_shape r.tokens n.term) l.1 r.spells;
+      main = subst (λ (n : Meaning). Spells OfTerm most_open main_shape r.tokens n.term) l.1 r.spells;
     }
 
 module _ (text : List ℕ) (m : Meaning) where
-  text_sound : length text ≤ 65536 → script_at text ≡ Ok m → IsScript text m
+  text_sound : length text ≤ most_bytes → script_at text ≡ Ok m → IsScript text m
   unfolding script_at top_opening_at main_word_at
   text_sound short h =
       let o = bind_ok (top_opening_at text) (λ o. main_word_at o.1 >>= λ w. rest_of_main w.1) m h in
@@ -82,23 +107,31 @@ module _ (text : List ℕ) (m : Meaning) where
         short = short;
         queues = s.queues;
         tokens = s.tokens;
-        text_is = (p.0, subst (λ (x : List ℕ). IsText x (Name (codes "main") ∷ s.tokens)) (sym p.1) (main_word_is _ _ q.0, subst (λ (x : List ℕ). IsText x s.tokens) (sym q.1) s.text_is));
+        text_is = (
+          p.0,
+          subst (λ (x : List ℕ). IsText x (Name (codes "main") ∷ s.tokens)) (sym p.1) (
+            main_word_is _ _ q.0,
+            subst (λ (x : List ℕ). IsText x s.tokens) (sym q.1) s.text_is,
+          ),
+        );
         main = s.main;
       }
 
   script_sound : reading text ≡ Ok m → IsScript text m
-  script_sound e = by_length (nat_lt 65536 (length text)) refl e
+  script_sound e = by_length (nat_lt most_bytes (length text)) refl e
     where
-      by_length : (b : Bool) → nat_lt 65536 (length text) ≡ b → cond {A = Result Meaning TextFault} b (Err (record { kind = kind.Length; at = 65536 })) (at_offset (length text) (script_at text)) ≡ Ok m → IsScript text m
+      by_length : (b : Bool) → nat_lt most_bytes (length text) ≡ b → cond {A =
+          Result Meaning TextFault} b (Err (record { kind = kind.Length; at = most_bytes })) (at_offset (length text) (script_at text)) ≡ Ok m → IsScript text m
       by_length true p e = absurd cc
       by_length false p e = text_sound (ltb-false _ _ p) (offset_ok (length text) (script_at text) m e)
 
   script_complete : IsScript text m → reading text ≡ Ok m
   unfolding script_at top_opening_at main_word_at
   script_complete s =
-      let short : nat_lt 65536 (length text) ≡ false = le-ltb _ _ s.short in
+      let short : nat_lt most_bytes (length text) ≡ false = le-ltb _ _ s.short in
       let after = (next (next text).rest).rest in
-      let r = parts_complete OfTerm 99 main_shape s.tokens m.term s.main after [] (subst (λ (x : List Token). IsText after x) (sym (append-nil s.tokens)) s.text_is.1.1) in
+      let r = parts_complete OfTerm most_open main_shape s.tokens m.term s.main after []
+      (subst (λ (x : List Token). IsText after x) (sym (append-nil s.tokens)) s.text_is.1.1) in
       let word = part_again main_word (λ _. kind.Form) (next text).rest (Name (codes "main")) tt s.text_is.1.0 refl in
       let same : of_term m.term ≡ m = ap (λ (x : List (List ℕ × ℕ)). record { queues = x; term = m.term }) (sym s.queues) in
       rw (short, s.text_is.0, word, r.read, r.rest_is) (ap Ok same)
@@ -117,7 +150,8 @@ pub answer_only : (text : List ℕ) (r : Result Script TextFault) → Answers r 
 answer_only text r a m s = subst (λ (x : Result Meaning TextFault). Answers r x) (script_complete text m s) a
 
 -- the nodes of a script are a code
-pub script_code : (text : List ℕ) (nodes : List Node) → length text ≤ 65536 → script_at text ≡ Ok (of_term (root_term nodes)) → IsOneTree nodes → length nodes ≤ 65536 → IsCode nodes
+pub script_code : (text : List ℕ) (nodes : List Node) → length text ≤ most_bytes → script_at text ≡ Ok (of_term (root_term nodes)) → IsOneTree nodes
+    → length nodes ≤ most_nodes → IsCode nodes
 script_code text nodes short read tree fits =
     let stands = script_fits text (of_term (root_term nodes)) (text_sound text (of_term (root_term nodes)) short read) in
     record { fits = omega arith; tree = tree; scope = stands.scope; turns = stands.turns }

@@ -50,14 +50,17 @@ below_front bound (c ∷ cs) ds h = let k = below_front bound cs ds h.1 in ((h.0
 pub ids_push : (roots : List NodeId) (root : NodeId) → ids (roots ++ root ∷ []) ≡ ids roots ++ root.0 ∷ []
 ids_push roots root = map-append (λ (r : NodeId). r.0) roots (root ∷ [])
 
-pub terms_push : (nodes : List Node) (roots : List NodeId) (root : NodeId) → terms_of nodes (roots ++ root ∷ []) ≡ terms_of nodes roots ++ term_of nodes root.0 ∷ []
+pub terms_push : (nodes : List Node) (roots : List NodeId) (root : NodeId)
+    → terms_of nodes (roots ++ root ∷ []) ≡ terms_of nodes roots ++ term_of nodes root.0 ∷ []
 terms_push nodes roots root = map-append (λ (r : NodeId). term_of nodes r.0) roots (root ∷ [])
 
 -- at first the last one stands alone
-pub joins_none : (old : Reader) (first : NodeId) (others front : List NodeId) (last : NodeId) → others ≡ front ++ last ∷ [] → ChildrenComeFirst old.nodes.items → AllBelow (length old.nodes.items) (ids (first ∷ others))
+pub joins_none : (old : Reader) (first : NodeId) (others front : List NodeId) (last : NodeId) → others ≡ front ++ last ∷ [] → ChildrenComeFirst old.nodes.items
+    → AllBelow (length old.nodes.items) (ids (first ∷ others))
     → JoinsLast old old first others (first ∷ front) last
 joins_none old first others front last e tree below =
-    let split = below_front (length old.nodes.items) (ids front) (last.0 ∷ []) (subst (λ (l : List ℕ). AllBelow (length old.nodes.items) l) (ap ids e ∙ ids_push front last) below.1) in
+    let split = below_front (length old.nodes.items) (ids front) (last.0 ∷ []) (subst (λ (l : List ℕ). AllBelow (length old.nodes.items) l) (ap ids e
+    ∙ ids_push front last) below.1) in
     record {
       names = refl;
       turns = refl;
@@ -66,21 +69,25 @@ joins_none old first others front last e tree below =
       more = omega (arith, ap length e, length-append front (last ∷ []));
       below = (below.0, split.0);
       root_below = split.1.0;
-      term = sym (ap (λ (l : List NodeId). seq (term_of old.nodes.items first.0) (terms_of old.nodes.items l)) e ∙ ap (λ (l : List Term). seq (term_of old.nodes.items first.0) l) (terms_push old.nodes.items front last) ∙ seq_push _ _ _);
+      term = sym (ap (λ (l : List NodeId). seq (term_of old.nodes.items first.0) (terms_of old.nodes.items l)) e
+          ∙ ap (λ (l : List Term). seq (term_of old.nodes.items first.0) l) (terms_push old.nodes.items front last) ∙ seq_push _ _ _);
       grows = λ start g. subst (λ (l : List ℕ). GrowsBy start old.nodes.items (first.0 ∷ l)) (ap ids e ∙ ids_push front last) g;
     }
 
 -- the next one to be joined and the last ones have nodes
-pub parts_below : (old middle : Reader) (first : NodeId) (others left front : List NodeId) (part root : NodeId) → left ≡ front ++ part ∷ [] → JoinsLast old middle first others left root → AllBelow (length middle.nodes.items) (part.0 ∷ root.0 ∷ [])
+pub parts_below : (old middle : Reader) (first : NodeId) (others left front : List NodeId) (part root : NodeId) → left ≡ front ++ part ∷ []
+    → JoinsLast old middle first others left root → AllBelow (length middle.nodes.items) (part.0 ∷ root.0 ∷ [])
 parts_below old middle first others left front part root e h =
-    let split = below_front (length old.nodes.items) (ids front) (part.0 ∷ []) (subst (λ (l : List ℕ). AllBelow (length old.nodes.items) l) (ap ids e ∙ ids_push front part) h.below) in
+    let split = below_front (length old.nodes.items) (ids front) (part.0 ∷ []) (subst (λ (l : List ℕ). AllBelow (length old.nodes.items) l) (ap ids e
+    ∙ ids_push front part) h.below) in
     (let p = split.1.0 in let l = h.keeps.longer in omega arith, (h.root_below, tt))
 
 -- then each before it is joined to it by a node
 pub joins_more : (old middle new : Reader) (first : NodeId) (others left front : List NodeId) (part root whole : NodeId) → left ≡ front ++ part ∷ []
     → JoinsLast old middle first others left root → Adds middle new (node.Let None part root) whole.0 → JoinsLast old new first others front whole
 joins_more old middle new first others left front part root whole e h added =
-    let split = below_front (length old.nodes.items) (ids front) (part.0 ∷ []) (subst (λ (l : List ℕ). AllBelow (length old.nodes.items) l) (ap ids e ∙ ids_push front part) h.below) in
+    let split = below_front (length old.nodes.items) (ids front) (part.0 ∷ []) (subst (λ (l : List ℕ). AllBelow (length old.nodes.items) l) (ap ids e
+    ∙ ids_push front part) h.below) in
     let longer = h.keeps.longer in
     let part_is = added.keeps.same part.0 (let b = split.1.0 in omega arith) ∙ h.keeps.same part.0 split.1.0 in
     let root_is = added.keeps.same root.0 h.root_below in
@@ -94,10 +101,13 @@ joins_more old middle new first others left front part root whole e h added =
       below = split.0;
       root_below = omega (arith, added.last);
       term = ap (λ (t : Term). onto (terms_of old.nodes.items front) t) whole_is
-          ∙ sym (ap (λ (l : List NodeId). onto (terms_of old.nodes.items l) (term_of middle.nodes.items root.0)) e ∙ ap (λ (l : List Term). onto l (term_of middle.nodes.items root.0)) (terms_push old.nodes.items front part) ∙ onto_push _ _ _)
+          ∙ sym (ap (λ (l : List NodeId). onto (terms_of old.nodes.items l) (term_of middle.nodes.items root.0)) e
+          ∙ ap (λ (l : List Term). onto l (term_of middle.nodes.items root.0)) (terms_push old.nodes.items front part) ∙ onto_push _ _ _)
           ∙ h.term;
       grows = λ start g.
-          let regroup : ids left ++ root.0 ∷ [] ≡ ids front ++ part.0 ∷ root.0 ∷ [] = ap (λ (l : List ℕ). l ++ root.0 ∷ []) (ap ids e ∙ ids_push front part) ∙ append_assoc (ids front) (part.0 ∷ []) (root.0 ∷ []) in
-          let two = grew_before_two start middle.nodes.items (ids front) part.0 root.0 (subst (λ (l : List ℕ). GrowsBy start middle.nodes.items l) regroup (h.grows start g)) in
+          let regroup : ids left ++ root.0 ∷ [] ≡ ids front ++ part.0 ∷ root.0 ∷ [] = ap (λ (l : List ℕ). l ++ root.0 ∷ []) (ap ids e ∙ ids_push front part)
+          ∙ append_assoc (ids front) (part.0 ∷ []) (root.0 ∷ []) in
+          let two = grew_before_two start middle.nodes.items (ids front) part.0 root.0
+          (subst (λ (l : List ℕ). GrowsBy start middle.nodes.items l) regroup (h.grows start g)) in
           grows_append start two.middle new.nodes.items (ids front) (whole.0 ∷ []) two.firsts (added.grows two.middle _ (IsPermutation-refl _) two.lasts);
     }

@@ -1,11 +1,11 @@
 -- The reader as it goes through terms, any number.
-use Rattle.std.proofs.Common.{◌≡◌, ℕ, ◌<◌, ◌≤◌, true, false, Ok, Err, List, [], ◌∷◌, ◌++◌, length, refl, sym, ◌∙◌, ap, subst, arith}
-use Rattle.std.proofs.lemmas.List.{length-append}
+use Rattle.std.proofs.Common.{◌≡◌, ℕ, ◌<◌, true, false, Ok, Err, List, [], ◌∷◌, ◌++◌, length, refl, sym, ◌∙◌, ap, subst, arith}
 use Rattle.fx_term.specs.declared.node.NodeId.{NodeId}
 use Rattle.fx_term.specs.declared.node.Node.{Node}
 use Rattle.fx_term.specs.Term.{Term}
 use Rattle.fx_term.specs.Meaning.{term_of}
 use Rattle.fx_term.specs.Tree.{ChildrenComeFirst}
+use Rattle.fx_text.specs.Limits.{term_spares, form_spares}
 use Rattle.fx_text.specs.declared.fault.ReadError.{ReadError}
 use Rattle.fx_text.specs.declared.fault.ReadError.TheVariants as errors
 use Rattle.fx_text.specs.declared.reader.Reader.{Reader}
@@ -13,80 +13,85 @@ use Rattle.fx_text.specs.Token.{next}
 use Rattle.fx_text.specs.Part.{is_closing}
 use Rattle.fx_text.specs.Reading.{groups_at, group_at, term_at}
 use Rattle.fx_text.specs.Given.{Fails}
-use Rattle.fx_text.specs.Place.{Place}
+use Rattle.fx_text.specs.Scope.{Scope}
 use Rattle.fx_text.specs.Group.{OfTerm}
 use Rattle.fx_text.specs.Trees.{GrowsBy, Keeps, AllBelow}
-use Rattle.fx_text.specs.ReaderState.{place_of, ids, Went, WentThrough, Joins}
+use Rattle.fx_text.specs.ReaderState.{scope_of, ids, Went, WentThrough, Joins}
 use Rattle.fx_text.proofs.GroupsLaws.{IsReadSoFar, none_so_far, more_so_far, fault_so_far, all_so_far}
 use Rattle.fx_text.proofs.ReaderLaws.{grows_none, grows_append, last_root}
+use Rattle.fx_text.proofs.ReadLaws.{same_scope, through_more}
 use Rattle.fx_text.proofs.SequenceLaws.{terms_of, terms_push, ids_push}
 
 -- the terms read so far and what is read of the rest are what is read of all
 pub record WentSoFar (room : ℕ) (old new : Reader) (roots : List NodeId) (bytes rest : List ℕ) : Type 0 where
   pub went : WentThrough old new roots bytes rest
   pub grows : GrowsBy old.nodes.items new.nodes.items (ids roots)
-  pub read : IsReadSoFar room OfTerm (place_of old) (place_of old) (terms_of new.nodes.items roots) bytes rest
-
-below_push : (bound more c : ℕ) (cs : List ℕ) → bound ≤ more → c < more → AllBelow bound cs → AllBelow more (cs ++ c ∷ [])
-below_push bound more c [] le lt h = (lt, tt)
-below_push bound more c (d ∷ cs) le lt h = (let g = h.0 in omega arith, below_push bound more c cs le lt h.1)
+  pub read : IsReadSoFar room OfTerm (scope_of old) (scope_of old) (terms_of new.nodes.items roots) bytes rest
 
 -- the terms of the nodes before stay
 terms_kept : (old new : List Node) (roots : List NodeId) → Keeps old new → AllBelow (length old) (ids roots) → terms_of new roots ≡ terms_of old roots
 terms_kept old new [] keeps below = refl
 terms_kept old new (root ∷ roots) keeps below = let h = keeps.same root.0 below.0 in let g = terms_kept old new roots keeps below.1 in cc
 
-pub went_none : (room : ℕ) (old : Reader) (roots : List NodeId) (bytes : List ℕ) → roots ≡ [] → ChildrenComeFirst old.nodes.items → WentSoFar room old old roots bytes bytes
+pub went_none : (room : ℕ) (old : Reader) (roots : List NodeId) (bytes : List ℕ) → roots ≡ [] → ChildrenComeFirst old.nodes.items
+    → WentSoFar room old old roots bytes bytes
 went_none room old roots bytes none tree = subst (λ (l : List NodeId). WentSoFar room old old l bytes bytes) (sym none) (record {
-  went = record { names = refl; turns = refl; tree = tree; keeps = record { longer = omega arith; same = λ id h. refl }; below = tt; paid = omega arith; shorter = omega arith };
+  went = record {
+    names = refl;
+    turns = refl;
+    tree = tree;
+    keeps = record { longer = omega arith; same = λ id h. refl };
+    below = tt;
+    paid = omega arith;
+    shorter = omega arith;
+  };
   grows = grows_none old.nodes.items;
-  read = none_so_far room OfTerm (place_of old) bytes;
+  read = none_so_far room OfTerm (scope_of old) bytes;
 })
 
-same_place : (old new : Reader) → new.names.items ≡ old.names.items → new.turns ≡ old.turns → place_of new ≡ place_of old
-same_place old new names turns = cc
-
 module _ (room : ℕ) (old middle : Reader) (roots : List NodeId) (bytes rest : List ℕ) (h : WentSoFar room old middle roots bytes rest) where
-  here : place_of middle ≡ place_of old
-  here = same_place old middle h.went.names h.went.turns
+  here : scope_of middle ≡ scope_of old
+  here = same_scope old middle h.went.names h.went.turns
 
-  pub went_more : (new : Reader) (root : NodeId) (all : List NodeId) (after : List ℕ) → all ≡ roots ++ root ∷ [] → is_closing (next rest).token ≡ false → term_at room (place_of middle) rest ≡ Ok (term_of new.nodes.items root.0, after)
-      → Went 2 middle new root.0 rest after → GrowsBy middle.nodes.items new.nodes.items (root.0 ∷ []) → WentSoFar room old new all bytes after
+  pub went_more : (new : Reader) (root : NodeId) (all : List NodeId) (after : List ℕ) → all ≡ roots ++ root ∷ [] → is_closing (next rest).token ≡ false
+      → term_at room (scope_of middle) rest ≡ Ok (term_of new.nodes.items root.0, after)
+      → Went term_spares middle new root.0 rest after → GrowsBy middle.nodes.items new.nodes.items (root.0 ∷ []) → WentSoFar room old new all bytes after
   went_more new root all after pushed at one w g =
-      let one' = subst (λ (p : Place). term_at room p rest ≡ Ok (term_of new.nodes.items root.0, after)) here one in
+      let one' = subst (λ (p : Scope). term_at room p rest ≡ Ok (term_of new.nodes.items root.0, after)) here one in
       let kept = terms_kept middle.nodes.items new.nodes.items roots w.keeps h.went.below in
       subst (λ (l : List NodeId). WentSoFar room old new l bytes after) (sym pushed) (record {
-        went = record {
-          names = w.names ∙ h.went.names;
-          turns = w.turns ∙ h.went.turns;
-          tree = w.tree;
-          keeps = record { longer = let l = w.keeps.longer in let k = h.went.keeps.longer in omega arith; same = λ id lt. w.keeps.same id (let k = h.went.keeps.longer in omega arith) ∙ h.went.keeps.same id lt };
-          below = subst (λ (l : List ℕ). AllBelow (length new.nodes.items) l) (sym (ids_push roots root)) (below_push (length middle.nodes.items) (length new.nodes.items) root.0 (ids roots) w.keeps.longer (omega (arith, w.last)) h.went.below);
-          paid = omega (arith, w.paid, h.went.paid, length-append roots (root ∷ []));
-          shorter = omega (arith, w.shorter, h.went.shorter);
-        };
-        grows = subst (λ (l : List ℕ). GrowsBy old.nodes.items new.nodes.items l) (sym (ids_push roots root)) (grows_append old.nodes.items middle.nodes.items new.nodes.items (ids roots) (root.0 ∷ []) h.grows g);
-        read = subst (λ (l : List Term). IsReadSoFar room OfTerm (place_of old) (place_of old) l bytes after)
+        went = through_more old middle new roots root bytes rest after h.went w;
+        grows = subst (λ (l : List ℕ). GrowsBy old.nodes.items new.nodes.items l) (sym (ids_push roots root))
+            (grows_append old.nodes.items middle.nodes.items new.nodes.items (ids roots) (root.0 ∷ []) h.grows g);
+        read = subst (λ (l : List Term). IsReadSoFar room OfTerm (scope_of old) (scope_of old) l bytes after)
             (ap (λ (l : List Term). l ++ term_of new.nodes.items root.0 ∷ []) (sym kept) ∙ sym (terms_push new.nodes.items roots root))
-            (more_so_far room OfTerm (place_of old) (place_of old) (terms_of middle.nodes.items roots) bytes rest h.read (term_of new.nodes.items root.0) after at one');
+            (more_so_far room OfTerm (scope_of old) (scope_of old) (terms_of middle.nodes.items roots) bytes rest h.read (term_of new.nodes.items root.0)
+            after at one');
       })
 
   -- the fault of a term is that of all
-  pub went_fails : (e : ReadError) → is_closing (next rest).token ≡ false → Fails e (term_at room (place_of middle) rest) → Fails e (groups_at (group_at room) OfTerm (place_of old) bytes)
+  pub went_fails : (e : ReadError) → is_closing (next rest).token ≡ false → Fails e (term_at room (scope_of middle) rest)
+      → Fails e (groups_at (group_at room) OfTerm (scope_of old) bytes)
   went_fails errors.Memory at f = tt
-  went_fails (errors.Fault x) at f = fault_so_far room OfTerm (place_of old) (place_of old) (terms_of middle.nodes.items roots) bytes rest h.read x at (subst (λ (p : Place). term_at room p rest ≡ Err x) here f)
+  went_fails (errors.Fault x) at f = fault_so_far room OfTerm (scope_of old) (scope_of old) (terms_of middle.nodes.items roots) bytes rest h.read x at
+      (subst (λ (p : Scope). term_at room p rest ≡ Err x) here f)
 
-  pub went_all : is_closing (next rest).token ≡ true → groups_at (group_at room) OfTerm (place_of old) bytes ≡ Ok (terms_of middle.nodes.items roots, rest)
-  went_all at = all_so_far room OfTerm (place_of old) (place_of old) (terms_of middle.nodes.items roots) bytes rest h.read at
+  pub went_all : is_closing (next rest).token ≡ true → groups_at (group_at room) OfTerm (scope_of old) bytes ≡ Ok (terms_of middle.nodes.items roots, rest)
+  went_all at = all_so_far room OfTerm (scope_of old) (scope_of old) (terms_of middle.nodes.items roots) bytes rest h.read at
 
 -- a term, the terms after it and the `)`, made one
-pub went_seq : (old one two new : Reader) (first : NodeId) (others : List NodeId) (root : ℕ) (bytes after before_end rest : List ℕ) → Went 2 old one first.0 bytes after → WentThrough one two others after before_end → length rest < length before_end
-    → Joins two new first others root → GrowsBy old.nodes.items new.nodes.items (root ∷ []) → Went 0 old new root bytes rest
+pub went_seq : (old one two new : Reader) (first : NodeId) (others : List NodeId) (root : ℕ) (bytes after before_end rest : List ℕ)
+    → Went term_spares old one first.0 bytes after → WentThrough one two others after before_end → length rest < length before_end
+    → Joins two new first others root → GrowsBy old.nodes.items new.nodes.items (root ∷ []) → Went form_spares old new root bytes rest
 went_seq old one two new first others root bytes after before_end rest w v lt j g = record {
   names = j.names ∙ v.names ∙ w.names;
   turns = j.turns ∙ v.turns ∙ w.turns;
   tree = j.tree;
-  keeps = record { longer = let l = w.keeps.longer in let k = v.keeps.longer in omega (arith, j.more); same = λ id h. j.keeps.same id (let l = w.keeps.longer in let k = v.keeps.longer in omega arith) ∙ v.keeps.same id (let l = w.keeps.longer in omega arith) ∙ w.keeps.same id h };
+  keeps = record {
+    longer = let l = w.keeps.longer in let k = v.keeps.longer in omega (arith, j.more);
+    same = λ id h. j.keeps.same id (let l = w.keeps.longer in let k = v.keeps.longer in omega arith) ∙ v.keeps.same id (let l = w.keeps.longer in omega arith)
+        ∙ w.keeps.same id h;
+  };
   last = last_root old.nodes.items new.nodes.items [] root g;
   paid = omega (arith, w.paid, v.paid, j.more);
   shorter = omega (arith, w.shorter, v.shorter);

@@ -2,7 +2,23 @@
 use Rattle.std.proofs.Common.{◌≡◌, ℕ, ◌+◌, ◌<◌, ◌≤◌, Bool, true, false, cond, ◌||◌, ◌==◌, List, [], ◌∷◌, length, refl, arith}
 use Rattle.std.specs.List.{prefix_len}
 use Rattle.std.proofs.lemmas.List.{length-drop}
-use Rattle.fx_text.specs.Token.{Open, Close, Name, Stray, End, Lexeme, is_space, is_digit, is_letter_or_digit, number, after_spaces, word, after_word, front, next}
+use Rattle.fx_text.specs.Token.{
+  Open,
+  Close,
+  Name,
+  Stray,
+  End,
+  Lexeme,
+  is_space,
+  is_digit,
+  is_letter_or_digit,
+  number,
+  after_spaces,
+  word,
+  after_word,
+  front,
+  next,
+}
 
 after_spaces_le : (bytes : List ℕ) → length (after_spaces bytes) ≤ length bytes
 after_spaces_le [] = omega arith
@@ -29,10 +45,16 @@ module _ (b : ℕ) (bytes : List ℕ) where
   front_le : length (front (b ∷ bytes)).rest ≤ length bytes
   front_le = by_tests (length (b ∷ bytes)) (b == 40) (b == 41) (is_digit b) (is_letter_or_digit b) digit_too after_word_le
     where
-      by_tests : (from : ℕ) (opening closing digit letter : Bool) → (digit ≡ true → letter ≡ true) → (letter ≡ true → length (after_word (b ∷ bytes)) ≤ length bytes)
-          → length (cond {A = Lexeme} opening (record { token = Open; from = from; rest = bytes }) (cond {A = Lexeme} closing (record { token = Close; from = from; rest = bytes })
+      by_tests : (from : ℕ) (opening closing digit letter : Bool) → (digit ≡ true → letter ≡ true)
+          → (letter ≡ true → length (after_word (b ∷ bytes)) ≤ length bytes)
+          → length (cond {A = Lexeme} opening (record { token = Open; from = from; rest = bytes })
+          (cond {A = Lexeme} closing (record { token = Close; from = from; rest = bytes })
           (cond {A = Lexeme} digit (record { token = number (word (b ∷ bytes)); from = from; rest = after_word (b ∷ bytes) })
-          (cond {A = Lexeme} letter (record { token = Name (word (b ∷ bytes)); from = from; rest = after_word (b ∷ bytes) }) (record { token = Stray; from = from; rest = bytes }))))).rest ≤ length bytes
+          (cond {A = Lexeme} letter (record { token = Name (word (b ∷ bytes)); from = from; rest = after_word (b ∷ bytes) }) (record {
+            token = Stray;
+            from = from;
+            rest = bytes;
+          }))))).rest ≤ length bytes
       by_tests from true c d l too h = omega arith
       by_tests from false true d l too h = omega arith
       by_tests from false false true l too h = h (too refl)

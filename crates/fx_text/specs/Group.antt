@@ -1,8 +1,8 @@
 -- What stands in parentheses, and what it is.
 use Rattle.std.specs.Prelude.{ℕ, List, [], ◌∷◌}
 use Rattle.fx_term.specs.Term.{Term}
-use Rattle.fx_term.specs.Scope.{OfValue}
-use Rattle.fx_text.specs.Place.{Place, under}
+use Rattle.fx_term.specs.declared.name_kind.NameKind.TheVariants as kind
+use Rattle.fx_text.specs.Scope.{Scope, under}
 
 -- What stands in parentheses
 pub data Group : Type 0 where
@@ -23,13 +23,13 @@ Content OfTerm = Term
 Content OfResource = Resource
 Content OfResources = List Resource
 
--- the place in the scope of these resources
-abbrev pub under_all : List Resource → Place → Place
+-- in the scope of these resources too
+abbrev pub under_all : List Resource → Scope → Scope
 under_all [] p = p
-under_all (r ∷ rs) p = under_all rs (under OfValue r.name p)
+under_all (r ∷ rs) p = under_all rs (under kind.Value r.name p)
 
--- the place of what comes after a group at a place, in the scope of the names that the group binds for it
-abbrev pub place_after : (g : Group) → Content g → Place → Place
-place_after OfTerm t p = p
-place_after OfResource r p = under OfValue r.name p
-place_after OfResources rs p = under_all rs p
+-- the scope of what comes after a group, with the names that the group binds for it
+abbrev pub scope_after : (g : Group) → Content g → Scope → Scope
+scope_after OfTerm t p = p
+scope_after OfResource r p = under kind.Value r.name p
+scope_after OfResources rs p = under_all rs p

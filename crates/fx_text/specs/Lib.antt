@@ -1,6 +1,7 @@
+pub mod Limits
 pub mod Fault
 pub mod Token
-pub mod Place
+pub mod Scope
 pub mod Group
 pub mod Shape
 pub mod Part
@@ -13,4 +14,6 @@ pub mod ScopeView
 pub mod Given
 pub mod Trees
 pub mod ReaderState
+pub mod Head
+pub mod Made
 pub mod ResourceState

@@ -2,15 +2,16 @@
 use Rattle.std.specs.Prelude.{ℕ, zero, suc, ◌-◌, nat_lt, if◌then◌else◌, Option, Some, None, Result, Ok, Err, List, [], ◌∷◌, length}
 use Rattle.fx_term.specs.declared.node.Arg.{Arg}
 use Rattle.fx_term.specs.Term.{Term}
-use Rattle.fx_term.specs.Scope.{Kind}
+use Rattle.fx_term.specs.declared.name_kind.NameKind.{NameKind}
 use Rattle.fx_text.specs.declared.fault.TextKind.{TextKind}
 use Rattle.fx_text.specs.declared.fault.TextKind.TheVariants as kind
 use Rattle.fx_text.specs.declared.fault.TextFault.{TextFault}
 use Rattle.fx_text.specs.declared.fault.Fault.{Fault}
 use Rattle.fx_text.specs.declared.form.Form.{Form}
+use Rattle.fx_text.specs.Limits.{most_bytes, most_open}
 use Rattle.fx_text.specs.Token.{Token, Open, Number, Name, Stray, Misnumber, End, Lexeme, next}
-use Rattle.fx_text.specs.Place.{Place}
-use Rattle.fx_text.specs.Group.{Group, OfTerm, Content, place_after}
+use Rattle.fx_text.specs.Scope.{Scope}
+use Rattle.fx_text.specs.Group.{Group, OfTerm, Content, scope_after}
 use Rattle.fx_text.specs.Shape.{Shape, ends, word, value, count, name, binder, group, groups, content, main_shape}
 use Rattle.fx_text.specs.Part.{opens, closes, is_closing, value_of, count_of, name_of, new_name, form_of, main_word}
 pub use Rattle.fx_text.specs.Meaning.{Meaning}
@@ -63,16 +64,16 @@ opening_at = part_at opens (λ _. kind.Unwanted)
 unfoldable pub closing_at : List ℕ → Read (Unit {0})
 closing_at = part_at closes (λ _. kind.Unwanted)
 
-unfoldable pub value_at : Place → List ℕ → Read Arg
+unfoldable pub value_at : Scope → List ℕ → Read Arg
 value_at p = part_at (value_of p) (at_name kind.Unknown)
 
-unfoldable pub count_at : Place → List ℕ → Read ℕ
+unfoldable pub count_at : Scope → List ℕ → Read ℕ
 count_at p = part_at (count_of p) (at_number kind.Size)
 
-unfoldable pub name_at : Kind → Place → List ℕ → Read ℕ
+unfoldable pub name_at : NameKind → Scope → List ℕ → Read ℕ
 name_at k p = part_at (name_of k p) (at_name kind.Unknown)
 
-unfoldable pub binder_at : Place → List ℕ → Read (List ℕ)
+unfoldable pub binder_at : Scope → List ℕ → Read (List ℕ)
 binder_at p = part_at (new_name p) (at_name kind.Taken)
 
 unfoldable pub form_at : List ℕ → Read Form
@@ -85,17 +86,17 @@ main_word_at = part_at main_word (λ _. kind.Form)
 
 -- how groups of each kind are read
 abbrev pub GroupReading : Type 0
-GroupReading = (g : Group) → Place → List ℕ → Read (Content g)
+GroupReading = (g : Group) → Scope → List ℕ → Read (Content g)
 
 -- Groups up to a `)`, which is left; they are read by the function given. Each has a byte or more, so there are no more groups than bytes
-unfoldable pub groups_within : ℕ → GroupReading → (g : Group) → Place → List ℕ → Read (List (Content g))
+unfoldable pub groups_within : ℕ → GroupReading → (g : Group) → Scope → List ℕ → Read (List (Content g))
 groups_within zero each g p bytes = refused kind.Unwanted (next bytes)
 groups_within (suc most) each g p bytes = if is_closing (next bytes).token then Ok ([], bytes) else do
   (x, after) ← each g p bytes
-  (xs, rest) ← groups_within most each g (place_after g x p) after
+  (xs, rest) ← groups_within most each g (scope_after g x p) after
   Ok (x ∷ xs, rest)
 
-abbrev pub groups_at : GroupReading → (g : Group) → Place → List ℕ → Read (List (Content g))
+abbrev pub groups_at : GroupReading → (g : Group) → Scope → List ℕ → Read (List (Content g))
 groups_at each g p bytes = groups_within (length bytes) each g p bytes
 
 -- the parts of a group; the groups among them are read by the function given
@@ -137,7 +138,7 @@ group_at (suc room) g p bytes = do
   (_, inside) ← opening_at bytes
   parts_at (group_at room) (content g p) inside
 
-abbrev pub term_at : ℕ → Place → List ℕ → Read Term
+abbrev pub term_at : ℕ → Scope → List ℕ → Read Term
 term_at room p bytes = group_at room OfTerm p bytes
 
 -- ---- scripts
@@ -156,12 +157,12 @@ abbrev pub last : Meaning → Lexeme → Token → Result Meaning Fault
 last m l End = Ok m
 last m l _ = refused kind.Main l
 
--- a whole text: main takes one of 100 `(`
+-- a whole text: main has the first of 100 `(`
 unfoldable pub script_at : List ℕ → Result Meaning Fault
 script_at text = do
   (_, inside) ← top_opening_at text
   (_, after) ← main_word_at inside
-  (t, rest) ← parts_at (group_at 99) main_shape after
+  (t, rest) ← parts_at (group_at most_open) main_shape after
   last (record { queues = []; term = t }) (next rest) (next rest).token
 
 -- a fault keeps how many bytes stand from it to the end of the text
@@ -171,4 +172,4 @@ at_offset len (Err f) = Err (record { kind = f.kind; at = len - f.left })
 
 -- what the text says, or its first fault
 abbrev pub reading : List ℕ → Result Meaning TextFault
-reading text = if nat_lt 65536 (length text) then Err (record { kind = kind.Length; at = 65536 }) else at_offset (length text) (script_at text)
+reading text = if nat_lt most_bytes (length text) then Err (record { kind = kind.Length; at = most_bytes }) else at_offset (length text) (script_at text)

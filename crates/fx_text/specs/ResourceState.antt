@@ -1,12 +1,12 @@
 -- What is known of the reader after it reads the resources of `using`.
-use Rattle.std.specs.Prelude.{◌≡◌, ℕ, ◌+◌, ◌≤◌, List, [], ◌∷◌, ◌++◌, length, map}
+use Rattle.std.specs.Prelude.{◌≡◌, ℕ, ◌+◌, ◌*◌, ◌≤◌, List, [], ◌∷◌, ◌++◌, length, map}
 use Rattle.fx_term.specs.declared.node.Node.{Node}
 use Rattle.fx_term.specs.Meaning.{term_of}
 use Rattle.fx_term.specs.Tree.{ChildrenComeFirst}
 use Rattle.fx_text.specs.declared.reader.Reader.{Reader}
 use Rattle.fx_text.specs.declared.reader.resources.Resource.{Resource as CodeResource}
 use Rattle.fx_text.specs.declared.scope.Bound.{Bound as CodeBound}
-use Rattle.fx_text.specs.declared.scope.NameKind.TheVariants as code
+use Rattle.fx_term.specs.declared.name_kind.NameKind.TheVariants as kind
 use Rattle.fx_text.specs.Group.{Resource}
 use Rattle.fx_text.specs.Shape.{using}
 use Rattle.fx_text.specs.Trees.{AllBelow, GrowsBy, Keeps}
@@ -25,7 +25,7 @@ roots_of (r ∷ rs) = r.acquire.0 ∷ r.release.0 ∷ roots_of rs
 
 -- the names that they bind
 abbrev pub bounds_of : List CodeResource → List CodeBound
-bounds_of = map λ r. record { name = r.name; kind = code.Value }
+bounds_of = map λ r. record { name = r.name; kind = kind.Value }
 
 -- after resources, any number: their names are in scope too, the turns are as before, and for each a byte and more was paid that is left over
 pub record Binds (old new : Reader) (rs : List CodeResource) (bytes rest : List ℕ) : Type 0 where
@@ -34,7 +34,7 @@ pub record Binds (old new : Reader) (rs : List CodeResource) (bytes rest : List 
   pub tree : ChildrenComeFirst new.nodes.items
   pub keeps : Keeps old.nodes.items new.nodes.items
   pub below : AllBelow (length new.nodes.items) (roots_of rs)
-  pub paid : length new.nodes.items + length rest + length rs ≤ length old.nodes.items + length bytes
+  pub paid : length new.nodes.items + 8 * (length rest + length rs) ≤ length old.nodes.items + 8 * length bytes
   pub shorter : length rest + length rs ≤ length bytes
 
 -- resources were made brackets round what uses them, by one node more for each

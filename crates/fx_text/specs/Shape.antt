@@ -3,34 +3,37 @@ use Rattle.std.specs.Prelude.{ℕ, Some, None, List, [], ◌∷◌, codes}
 use Rattle.fx_term.specs.declared.node.Arg.{Arg}
 use Rattle.fx_term.specs.declared.node.Arg.TheVariants as arg
 use Rattle.fx_term.specs.Term.{Term, Pure, Raise, Canceled, Never, Cede, Let, Handle, If, For, Mask, Poll, OnCancel, Bracket}
-use Rattle.fx_term.specs.Scope.{Kind, OfValue, OfPoll}
+use Rattle.fx_term.specs.declared.name_kind.NameKind.{NameKind}
+use Rattle.fx_term.specs.declared.name_kind.NameKind.TheVariants as kind
 use Rattle.fx_text.specs.declared.form.Form.{Form}
 use Rattle.fx_text.specs.declared.form.Form.TheVariants as form
-use Rattle.fx_text.specs.Place.{Place, top, slot, under, repeated}
+use Rattle.fx_text.specs.Scope.{Scope, top, slot, under, repeated}
 use Rattle.fx_text.specs.Group.{Group, OfTerm, OfResource, OfResources, Resource, Content, under_all}
 
 -- What is still to come of a group, in the order of the text. What is read of a part is handed to the parts after it
 pub data Shape (g : Group) : Type 0 where
   ends : Content g → Shape g  -- `)`, and the group is this
   word : (Form → Shape g) → Shape g  -- the word of a form
-  value : Place → (Arg → Shape g) → Shape g  -- a number, or the name of a value
-  count : Place → (ℕ → Shape g) → Shape g  -- a number, as the count of a loop
-  name : Kind → Place → (ℕ → Shape g) → Shape g  -- the name of one of that kind
-  binder : Place → (List ℕ → Shape g) → Shape g  -- a name that is not in scope
-  group : (h : Group) → Place → (Content h → Shape g) → Shape g  -- a group
-  groups : (h : Group) → Place → (List (Content h) → Shape g) → Shape g  -- any number of groups, up to a `)`, each in the scope of the names that those before bind for it
+  value : Scope → (Arg → Shape g) → Shape g  -- a number, or the name of a value
+  count : Scope → (ℕ → Shape g) → Shape g  -- a number, as the count of a loop
+  name : NameKind → Scope → (ℕ → Shape g) → Shape g  -- the name of one of that kind
+  binder : Scope → (List ℕ → Shape g) → Shape g  -- a name that is not in scope
+  group : (h : Group) → Scope → (Content h → Shape g) → Shape g  -- a group
+  -- any number of groups, up to a `)`, each in the scope of the names that those before bind for it
+  groups : (h : Group) → Scope → (List (Content h) → Shape g) → Shape g
 
 -- a term
-abbrev pub term : {g : Group} → Place → (Term → Shape g) → Shape g
+abbrev pub term : {g : Group} → Scope → (Term → Shape g) → Shape g
 term p go = group OfTerm p go
 
 -- any number of terms, up to a `)`
-abbrev pub terms : {g : Group} → Place → (List Term → Shape g) → Shape g
+abbrev pub terms : {g : Group} → Scope → (List Term → Shape g) → Shape g
 terms p go = groups OfTerm p go
 
 -- all forms
 abbrev pub forms : List Form
-forms = form.Pure ∷ form.Raise ∷ form.Canceled ∷ form.Never ∷ form.Cede ∷ form.Seq ∷ form.Let ∷ form.Handle ∷ form.If ∷ form.For ∷ form.Mask ∷ form.Poll ∷ form.OnCancel ∷ form.Bracket ∷ form.Guarantee ∷ form.Forcer ∷ form.Using ∷ []
+forms = form.Pure ∷ form.Raise ∷ form.Canceled ∷ form.Never ∷ form.Cede ∷ form.Seq ∷ form.Let ∷ form.Handle ∷ form.If ∷ form.For ∷ form.Mask ∷ form.Poll ∷
+    form.OnCancel ∷ form.Bracket ∷ form.Guarantee ∷ form.Forcer ∷ form.Using ∷ []
 
 abbrev pub word_of : Form → List ℕ
 word_of form.Pure = codes "pure"
@@ -66,30 +69,30 @@ using [] t = t
 using (r ∷ rs) t = Bracket (Some r.slot) r.acquire (using rs t) r.release
 
 -- the table of forms
-abbrev pub shape : Form → Place → Shape OfTerm
+abbrev pub shape : Form → Scope → Shape OfTerm
 shape form.Pure p = value p λ v. ends (Pure v)
 shape form.Raise p = value p λ v. ends (Raise v)
 shape form.Canceled p = ends Canceled
 shape form.Never p = ends Never
 shape form.Cede p = ends Cede
 shape form.Seq p = term p λ a. terms p λ bs. ends (seq a bs)
-shape form.Let p = binder p λ x. term p λ a. term (under OfValue x p) λ b. ends (Let (Some (slot p)) a b)
-shape form.Handle p = term p λ a. binder p λ x. term (under OfValue x p) λ b. ends (Handle a (Some (slot p)) b)
+shape form.Let p = binder p λ x. term p λ a. term (under kind.Value x p) λ b. ends (Let (Some (slot p)) a b)
+shape form.Handle p = term p λ a. binder p λ x. term (under kind.Value x p) λ b. ends (Handle a (Some (slot p)) b)
 shape form.If p = value p λ v. term p λ a. term p λ b. ends (If v a b)
-shape form.For p = binder p λ x. count p λ n. term (repeated n (under OfValue x p)) λ a. ends (For (slot p) n a)
-shape form.Mask p = binder p λ x. term (under OfPoll x p) λ a. ends (Mask (slot p) a)
-shape form.Poll p = name OfPoll p λ x. term p λ a. ends (Poll (arg.Slot x) a)
+shape form.For p = binder p λ x. count p λ n. term (repeated n (under kind.Value x p)) λ a. ends (For (slot p) n a)
+shape form.Mask p = binder p λ x. term (under kind.Poll x p) λ a. ends (Mask (slot p) a)
+shape form.Poll p = name kind.Poll p λ x. term p λ a. ends (Poll (arg.Slot x) a)
 shape form.OnCancel p = term p λ a. term p λ f. ends (OnCancel a f)
-shape form.Bracket p = binder p λ x. term p λ a. term (under OfValue x p) λ u. term (under OfValue x p) λ r. ends (Bracket (Some (slot p)) a u r)
+shape form.Bracket p = binder p λ x. term p λ a. term (under kind.Value x p) λ u. term (under kind.Value x p) λ r. ends (Bracket (Some (slot p)) a u r)
 shape form.Guarantee p = term p λ a. term p λ f. ends (Bracket None pure_zero a f)
 shape form.Forcer p = term p λ a. term p λ b. ends (Let None (Handle a None pure_zero) b)
 shape form.Using p = group OfResources p λ rs. term (under_all rs p) λ t. ends (using rs t)
 
 -- what stands in the parentheses of a group
-abbrev pub content : (g : Group) → Place → Shape g
+abbrev pub content : (g : Group) → Scope → Shape g
 content OfTerm p = word λ f. shape f p
-content OfResource p = binder p λ x. term p λ a. term (under OfValue x p) λ r. ends (record { name = x; slot = slot p; acquire = a; release = r })
-content OfResources p = group OfResource p λ r. groups OfResource (under OfValue r.name p) λ rs. ends (r ∷ rs)
+content OfResource p = binder p λ x. term p λ a. term (under kind.Value x p) λ r. ends (record { name = x; slot = slot p; acquire = a; release = r })
+content OfResources p = group OfResource p λ r. groups OfResource (under kind.Value r.name p) λ rs. ends (r ∷ rs)
 
 -- main, which is its term
 abbrev pub main_shape : Shape OfTerm

@@ -4,7 +4,8 @@ use Rattle.fx_term.specs.declared.node.Node.{Node}
 use Rattle.fx_term.specs.Meaning.{term_of}
 use Rattle.fx_term.specs.Tree.{children}
 
--- Whole trees one after another, with these roots. Their nodes are numbered from a first number on, and a node stands right after the trees of its children, in whatever order these are
+-- Whole trees one after another, with these roots. Their nodes are numbered from a first number on, and a node stands right after the trees of its children, in
+-- whatever order these are
 pub data Trees : ℕ → List Node → List ℕ → Type 0 where
   empty : {from : ℕ} → Trees from [] []
   more : {from : ℕ} {all : List Node} {roots : List ℕ} (before below : List Node) (others parts : List ℕ) (n : Node)

@@ -2,17 +2,17 @@
 //!
 //! A text is read once, from left to right, up to its first fault.
 //!
-//! 1. Each form has a row in one table: its parts in the order of the text, the place where each
+//! 1. Each form has a row in one table: its parts in the order of the text, the scope in which each
 //!    stands, and the term that the form is. A resource of `using` and the list of these have a row
 //!    each too.
 //! 2. The grammar says by this table which tokens are a script, and of which meaning. It knows no
 //!    faults and no order of reading.
 //! 3. Reading goes through the same table token by token, and stops at the first token that its
 //!    place refuses. What it reads is exactly what the grammar has.
-//! 4. A place has the names in scope there, and how often the loops round it run it. A count is
+//! 4. A scope has the names of its place, and how often the loops round it run it. A count is
 //!    refused where it takes these turns above 1,000,000.
 //! 5. A node is made after those of its parts, so children stand before their parents, the last node
-//!    is the root, and there are never more nodes than bytes.
+//!    is the root, and there are never more than eight nodes a byte.
 //! 6. A recursion is as deep as the parentheses that are open, of which there are at most 100. The
 //!    parts of a `seq` and the resources of a `using` are read in a loop, and made one term in
 //!    another, from the last to the first.
@@ -21,17 +21,15 @@
 
 mod fault;
 mod form;
-mod laws;
+pub mod laws;
 mod part;
 mod pick;
 mod reader;
 mod scope;
 mod script;
-mod sequence;
 mod token;
 
 pub use fault::{TextFault, TextKind};
-pub use laws::reading_is_the_grammar;
 pub use pick::Pick;
 pub use script::{QueueDecl, Script, parse};
 

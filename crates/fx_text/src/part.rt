@@ -5,14 +5,14 @@ ghost use Rattle.fx_text.specs.Reading.{kind_of, opening_at, closing_at, value_a
 ghost use Rattle.fx_text.specs.Part.{is_closing};
 ghost use Rattle.fx_text.specs.Token.{next};
 ghost use Rattle.fx_text.specs.TokenView.{view_token};
-ghost use Rattle.fx_text.specs.ScopeView.{view_kind, place};
+ghost use Rattle.fx_text.specs.ScopeView.{scope};
 ghost use Rattle.fx_text.specs.Given.{Gives};
 
 use crate::fault::{Fault, ReadError, TextKind};
 use crate::form::Form;
-use crate::scope::{Bound, NameKind, is_bound, slot_of};
+use crate::scope::{Bound, is_bound, slot_of};
 use crate::token::{Lexeme, Token, next};
-use fx_term::Arg;
+use fx_term::{Arg, NameKind, turns_of_loop};
 
 fn kind_of(kind: TextKind, token: Token<'_>) -> TextKind
     ensures { result ≡ kind_of kind (view_token token.entry) }
@@ -27,7 +27,8 @@ fn kind_of(kind: TextKind, token: Token<'_>) -> TextKind
 
 /// The fault of a token that its place refuses for this reason.
 pub(crate) fn refused(kind: TextKind, lexeme: Lexeme<'_>) -> ReadError
-    ensures { result ≡ ReadError.Fault (record { kind = kind_of kind (view_token lexeme.entry.token); left = lexeme.entry.from }) }
+    ensures { result ≡ ReadError.Fault
+        (record { kind = kind_of kind (view_token lexeme.entry.token); left = lexeme.entry.from }) }
 {
     ReadError::Fault(Fault {
         kind: kind_of(kind, lexeme.token),
@@ -72,7 +73,8 @@ pub(crate) fn is_closing(bytes: &[u8]) -> bool
 #[tactic(auto, unfolding(crate::specs::Reading::value_at))]
 pub(crate) fn value<'a>(names: &[Bound<'a>], bytes: &'a [u8]) -> Result<(Arg, &'a [u8]), ReadError>
     requires { length names.now < 2 ^ 32 }
-    ensures read { (turns : ℕ) → Gives (λ x. (x.0, x.1.now)) result (value_at (place names.now turns) bytes.now) }
+    ensures read { (turns : ℕ)
+        → Gives (λ x. (x.0, x.1.now)) result (value_at (scope names.now turns) bytes.now) }
     ensures shorter { IfOk result (λ x. length x.1.now < length bytes.now) }
 {
     let lexeme = next(bytes);
@@ -91,17 +93,15 @@ pub(crate) fn value<'a>(names: &[Bound<'a>], bytes: &'a [u8]) -> Result<(Arg, &'
 fn has_few_turns(turns: u32, count: u64) -> bool
     ensures { result ≡ nat_le (turns_of_loop turns count) most_turns }
 {
-    match u64::from(turns).checked_mul(count.max(1)) {
-        None => false,
-        Some(inside) => inside <= 1_000_000,
-    }
+    turns_of_loop(turns, count).is_some()
 }
 
 /// The count of a loop that is run so many times.
 #[tactic(auto, unfolding(crate::specs::Reading::count_at))]
 pub(crate) fn count(turns: u32, bytes: &[u8]) -> Result<(u32, &[u8]), ReadError>
     requires { 0 < turns }
-    ensures read { (names : List Bound) → Gives (λ x. (x.0, x.1.now)) result (count_at (place names turns) bytes.now) }
+    ensures read { (names : List Bound)
+        → Gives (λ x. (x.0, x.1.now)) result (count_at (scope names turns) bytes.now) }
     ensures few { IfOk result (λ x. turns_of_loop turns x.0 ≤ most_turns) }
     ensures shorter { IfOk result (λ x. length x.1.now < length bytes.now) }
 {
@@ -125,7 +125,8 @@ pub(crate) fn name<'a>(
     bytes: &'a [u8],
 ) -> Result<(u32, &'a [u8]), ReadError>
     requires { length names.now < 2 ^ 32 }
-    ensures read { (turns : ℕ) → Gives (λ x. (x.0, x.1.now)) result (name_at (view_kind kind) (place names.now turns) bytes.now) }
+    ensures read { (turns : ℕ) → Gives (λ x. (x.0, x.1.now)) result
+        (name_at kind (scope names.now turns) bytes.now) }
     ensures shorter { IfOk result (λ x. length x.1.now < length bytes.now) }
 {
     let lexeme = next(bytes);
@@ -144,7 +145,8 @@ pub(crate) fn binder<'a>(
     names: &[Bound<'a>],
     bytes: &'a [u8],
 ) -> Result<(&'a [u8], &'a [u8]), ReadError>
-    ensures read { (turns : ℕ) → Gives (λ x. (x.0.now, x.1.now)) result (binder_at (place names.now turns) bytes.now) }
+    ensures read { (turns : ℕ)
+        → Gives (λ x. (x.0.now, x.1.now)) result (binder_at (scope names.now turns) bytes.now) }
     ensures shorter { IfOk result (λ x. length x.1.now < length bytes.now) }
 {
     let lexeme = next(bytes);
@@ -195,7 +197,8 @@ pub(crate) fn main_word(bytes: &[u8]) -> Result<&[u8], ReadError>
 
 /// The fault where a group has to begin and no more `(` may be open.
 pub(crate) fn too_deep(bytes: &[u8]) -> ReadError
-    ensures { ReadError.Fault (record { kind = kind_of (too_deep (next bytes.now).token) (next bytes.now).token; left = (next bytes.now).from }) ≡ result }
+    ensures { let l = next bytes.now in
+        ReadError.Fault (record { kind = kind_of (too_deep l.token) l.token; left = l.from }) ≡ result }
 {
     let lexeme = next(bytes);
     let kind = match lexeme.token {

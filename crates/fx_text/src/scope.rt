@@ -1,30 +1,16 @@
 //! The names in scope.
 ghost use Rattle.std.specs.Prelude.{◌≡◌, ◌<◌, ◌&&◌, length, IfSome, bytes_eq};
 ghost use Rattle.std.specs.List.{list_any, position};
-ghost use Rattle.fx_text.specs.Place.{is_taken, same_kind, slot_of};
-ghost use Rattle.fx_text.specs.ScopeView.{view_kind, view_names};
+ghost use Rattle.fx_text.specs.Scope.{is_taken, same_kind, slot_of};
+ghost use Rattle.fx_text.specs.ScopeView.{view_names};
 
-/// What a name stands for.
-#[derive(Clone, Copy)]
-pub(crate) enum NameKind {
-    Value,
-    Poll,
-}
+use fx_term::NameKind;
 
 /// A name in scope.
 #[derive(Clone, Copy)]
 pub(crate) struct Bound<'a> {
     pub(crate) name: &'a [u8],
     pub(crate) kind: NameKind,
-}
-
-fn is_same_kind(a: NameKind, b: NameKind) -> bool
-    ensures { result ≡ same_kind (view_kind a) (view_kind b) }
-{
-    match (a, b) {
-        (NameKind::Value, NameKind::Value) | (NameKind::Poll, NameKind::Poll) => true,
-        (NameKind::Value, NameKind::Poll) | (NameKind::Poll, NameKind::Value) => false,
-    }
 }
 
 fn is_among(names: &[Bound<'_>], name: &[u8]) -> bool
@@ -34,12 +20,14 @@ fn is_among(names: &[Bound<'_>], name: &[u8]) -> bool
 }
 
 fn index_of(names: &[Bound<'_>], kind: NameKind, name: &[u8]) -> Option<usize>
-    ensures index { result ≡ position (λ b. bytes_eq b.name.now name.now && same_kind (view_kind b.kind) (view_kind kind)) names.now }
+    ensures index { result ≡ position
+        (λ b. bytes_eq b.name.now name.now && same_kind b.kind kind)
+        names.now }
     ensures within { IfSome result (λ i. i < length names.now) }
 {
     names
         .iter()
-        .position(|b| b.name == name && is_same_kind(b.kind, kind))
+        .position(|b| b.name == name && b.kind == kind)
 }
 
 /// Whether the name is in scope.
@@ -53,7 +41,7 @@ pub(crate) fn is_bound(names: &[Bound<'_>], name: &[u8]) -> bool
 /// The slot of the name, where it is of that kind.
 #[tactic(auto, using(crate::proofs::ScopeLaws::slot_of_index))]
 pub(crate) fn slot_of(names: &[Bound<'_>], kind: NameKind, name: &[u8]) -> Option<usize>
-    ensures slot { result ≡ slot_of (view_kind kind) name.now (view_names names.now) }
+    ensures slot { result ≡ slot_of kind name.now (view_names names.now) }
     ensures within { IfSome result (λ i. i < length names.now) }
 {
     index_of(names, kind, name)

@@ -3,6 +3,7 @@ ghost use Rattle.std.specs.Prelude.{◌≡◌, ◌≤◌, [], Ok, length, IfOk, 
 ghost use Rattle.fx_term.specs.Code.{IsCode};
 ghost use Rattle.fx_term.specs.Meaning.{root_term};
 ghost use Rattle.fx_term.specs.Tree.{IsOneTree};
+ghost use Rattle.fx_text.specs.Limits.{most_bytes, most_nodes};
 ghost use Rattle.fx_text.specs.Token.{next};
 ghost use Rattle.fx_text.specs.Reading.{Meaning, last, top_opening_at, script_at, reading};
 ghost use Rattle.fx_text.specs.Grammar.{IsScript};
@@ -15,6 +16,12 @@ use crate::reader::Reader;
 use crate::token::{Token, next};
 use fx_term::{Code, CodeFault, Node};
 use std::alloc::Global;
+
+/// The most bytes of a text.
+const MOST_BYTES: usize = 65536;
+
+/// The most `(` that may be open inside main, which has the first of 100.
+const MOST_OPEN: usize = 99;
 
 /// A queue of a script.
 #[derive(Drop)]
@@ -46,10 +53,10 @@ pub fn parse(alloc: Global, text: &[u8]) -> Result<Script, TextFault>
 fn read_all(alloc: Global, text: &[u8]) -> Result<Script, TextFault>
     ensures { Answers result (reading text.now) }
 {
-    if text.len() > 65536 {
+    if text.len() > MOST_BYTES {
         return Err(TextFault {
             kind: TextKind::Length,
-            at: 65536,
+            at: MOST_BYTES as u32,
         });
     }
     match read_script(alloc, text) {
@@ -66,7 +73,7 @@ fn read_all(alloc: Global, text: &[u8]) -> Result<Script, TextFault>
 }
 
 fn read_script(alloc: Global, text: &[u8]) -> Result<Script, ReadError>
-    requires { length text.now ≤ 65536 }
+    requires { length text.now ≤ most_bytes }
     ensures { Gives meaning result (script_at text.now) }
 {
     let nodes = main_nodes(alloc, text)?;
@@ -80,10 +87,11 @@ fn read_script(alloc: Global, text: &[u8]) -> Result<Script, ReadError>
 /// The nodes of main, of which the last is the root.
 #[tactic(auto, unfolding(crate::specs::Reading::script_at))]
 fn main_nodes(alloc: Global, text: &[u8]) -> Result<Vec<Node>, ReadError>
-    requires { length text.now ≤ 65536 }
-    ensures read { Gives (λ nodes. record { queues = []; term = root_term nodes.items }) result (script_at text.now) }
+    requires { length text.now ≤ most_bytes }
+    ensures read { Gives (λ nodes. record { queues = []; term = root_term nodes.items }) result
+        (script_at text.now) }
     ensures tree { IfOk result (λ nodes. IsOneTree nodes.items) }
-    ensures short { IfOk result (λ nodes. length nodes.items ≤ 65536) }
+    ensures short { IfOk result (λ nodes. length nodes.items ≤ most_nodes) }
 {
     let rest = top_opening(text)?;
     let rest = main_word(rest)?;
@@ -93,8 +101,7 @@ fn main_nodes(alloc: Global, text: &[u8]) -> Result<Vec<Node>, ReadError>
         turns: 1,
         nodes: Vec::new(alloc),
     };
-    // Of 100 parentheses that may be open, main has one.
-    let (_root, rest) = reader.term(99, rest)?;
+    let (_root, rest) = reader.term(MOST_OPEN, rest)?;
     let rest = closing(rest)?;
     last(rest)?;
     Ok(reader.nodes)
@@ -119,7 +126,8 @@ fn top_opening(bytes: &[u8]) -> Result<&[u8], ReadError>
 
 /// Nothing comes after main.
 fn last(bytes: &[u8]) -> Result<(), ReadError>
-    ensures { (m : Meaning) → Gives (λ _. m) result (last m (next bytes.now) (next bytes.now).token) }
+    ensures { (m : Meaning)
+        → Gives (λ _. m) result (last m (next bytes.now) (next bytes.now).token) }
 {
     let lexeme = next(bytes);
     match lexeme.token {

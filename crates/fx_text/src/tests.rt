@@ -402,10 +402,10 @@ fn makes_the_nodes_of_resources(rt: HostRuntime) {
         (
             b"(main (guarantee (cede) (never)))",
             &[
-                Node::Pure(Arg::Number(0)),
                 Node::Cede,
                 Node::Never,
-                Node::Bracket(None, NodeId(0), NodeId(1), NodeId(2)),
+                Node::Pure(Arg::Number(0)),
+                Node::Bracket(None, NodeId(2), NodeId(0), NodeId(1)),
             ],
         ),
         (

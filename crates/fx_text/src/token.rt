@@ -60,7 +60,8 @@ fn after_spaces(bytes: &[u8]) -> &[u8]
 fn word_len(bytes: &[u8]) -> usize
     ensures len { result ≡ prefix_len is_letter_or_digit bytes.now }
     ensures within { result ≤ length bytes.now }
-    ensures some { IsTrue (nat_lt 0 (length bytes.now) && is_letter_or_digit (slice_index bytes.now 0)) → 0 < result }
+    ensures some { IsTrue
+        (nat_lt 0 (length bytes.now) && is_letter_or_digit (slice_index bytes.now 0)) → 0 < result }
 {
     bytes.iter().take_while(|b| is_letter_or_digit(**b)).count()
 }

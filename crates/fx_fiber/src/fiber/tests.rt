@@ -12,12 +12,12 @@ use std::marker::{Brand, PhantomData};
 use std::process::Abort;
 use std::test::Fail;
 
-mod choices;
+mod binding;
+mod leaves;
 mod loops;
 mod masking;
-mod nesting;
 mod resources;
-mod waiting;
+mod unwinding;
 
 /// Which code a fiber runs. Each run picks it.
 trait Naming {
@@ -57,9 +57,12 @@ impl<J: Naming> Port for TestPort<J> {
 
     ghost agrees = { λ p deeds. deeds ≡ (if p.saw then Saw ∷ [] else []) ++ map Ended (option_to_list p.told) };
 
-    ghost looks = { λ p s answer p' s'. (p' ≡ record p { saw = answer || p.saw }) × (s' ≡ s) };
+    ghost calls = { record {
+      looks = λ p s answer p' s'. (p' ≡ record p { saw = answer || p.saw }) × (s' ≡ s);
+      finishes = λ p s outcome p' s'. (p' ≡ record p { told = Some outcome }) × (s' ≡ s);
+    } };
 
-    ghost finishes = { λ p s outcome p' s'. (p' ≡ record p { told = Some outcome }) × (s' ≡ s) };
+    ghost rest = { λ p. record { next = p.begin.next; end = p.begin.end } };
 
     fn look(&mut self, looks: &mut Looks) -> bool {
         let number = looks.made.get().saturating_add(1);
@@ -120,7 +123,7 @@ fn drive<J: Naming>(
         id: fiber.id(),
         answers,
         trace: Vec::from_slice(alloc, fiber.trace())?,
-        told: fiber.port.told,
+        told: fiber.state.port.told,
         looks: looks.made.get(),
         had_ended_first,
         has_ended: fiber.has_ended(),

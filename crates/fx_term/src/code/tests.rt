@@ -597,3 +597,21 @@ fn says_what_is_wrong(rt: HostRuntime) -> Result<(), Fail> {
     }
     Ok(())
 }
+
+#[test]
+fn counts_the_turns_inside_a_loop(rt: HostRuntime) {
+    let cases = [
+        (1, 3, Some(3)),
+        (7, 0, Some(7)),
+        (1_000, 1_000, Some(1_000_000)),
+        (1_000, 1_001, None),
+        (2, u64::MAX, None),
+    ];
+    for (turns, count, inside) in cases {
+        assert_eq!(rt;
+            turns_of_loop(turns, count),
+            inside,
+            "{count} times {turns}"
+        );
+    }
+}

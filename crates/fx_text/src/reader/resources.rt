@@ -1,21 +1,25 @@
 //! Reads the forms that acquire and release.
-ghost use Rattle.std.specs.Prelude.{◌<◌, ◌≤◌, ◌+◌, [], ◌∷◌, ◌++◌, length, IfOk};
+ghost use Rattle.std.specs.Prelude.{◌<◌, ◌≤◌, ◌+◌, ◌*◌, [], ◌∷◌, ◌++◌, length, IfOk};
 ghost use Rattle.fx_term.specs.Meaning.{term_of};
 ghost use Rattle.fx_term.specs.Tree.{ChildrenComeFirst};
+ghost use Rattle.fx_text.specs.Limits.{most_nodes, form_spares};
 ghost use Rattle.fx_text.specs.Group.{OfResource, OfResources};
 ghost use Rattle.fx_text.specs.Shape.{shape};
 ghost use Rattle.fx_text.specs.Reading.{group_at, parts_at};
 ghost use Rattle.fx_text.specs.Given.{Gives};
 ghost use Rattle.fx_text.specs.Trees.{AllBelow, GrowsBy};
-ghost use Rattle.fx_text.specs.ReaderState.{place_of, IsReady, Went, WentThrough};
+ghost use Rattle.fx_text.specs.ReaderState.{scope_of, IsReady, ReadsTerm, WentThrough};
+ghost use Rattle.fx_text.specs.Head.{ReadsHead, still, double_term};
+ghost use Rattle.fx_text.specs.Made.{CanMake, Makes};
 ghost use Rattle.fx_text.specs.ResourceState.{resource_of, resources_of, roots_of, Binds, Nests};
 
 use crate::fault::ReadError;
 use crate::form::Form;
 use crate::part::{binder, closing, is_closing, opening, too_deep};
 use crate::reader::Reader;
-use crate::scope::{Bound, NameKind};
-use fx_term::{Arg, Node, NodeId};
+use crate::reader::head::{Double, Head, Inner};
+use crate::scope::Bound;
+use fx_term::{Arg, NameKind, Node, NodeId};
 use std::alloc::AllocError;
 
 /// A resource of `using`: the name of its value, with its slot, and the terms that acquire and
@@ -29,58 +33,60 @@ pub(crate) struct Resource<'a> {
 }
 
 impl<'a> Reader<'a> {
+    pub(super) fn bracket_head(&self, bytes: &'a [u8]) -> Result<(Head<'a>, &'a [u8]), ReadError>
+        requires { IsReady 2 self.now bytes.now }
+        ensures { ReadsHead Form.Bracket self.now bytes.now result }
+    {
+        let (x, rest) = binder(&self.names, bytes)?;
+        Ok((Head::Bracket(x), rest))
+    }
+
     #[cycle(terms)]
-    pub(super) fn bracket_form(
+    pub(super) fn bracket(
         &mut self,
+        x: &'a [u8],
         room: usize,
         bytes: &'a [u8],
     ) -> Result<(NodeId, &'a [u8]), ReadError>
-        requires ready { IsReady self.old bytes.now }
-        requires small { length self.old.nodes.items + length bytes.now < 65536 }
-        ensures read { Gives (λ x. (term_of self.new.nodes.items x.0.0, x.1.now)) result (parts_at (group_at room) (shape Form.Bracket (place_of self.old)) bytes.now) }
-        ensures went { IfOk result (λ x. Went 0 self.old self.new x.0.0 bytes.now x.1.now) }
-        ensures grows { IfOk result (λ x. GrowsBy self.old.nodes.items self.new.nodes.items (x.0.0 ∷ [])) }
+        requires { IsReady 2 self.old bytes.now }
+        ensures { ReadsTerm form_spares self.old self.new bytes.now
+            (parts_at (group_at room) (still (Head.Bracket x.entry) (scope_of self.old)) bytes.now)
+            result }
     {
-        let (x, rest) = binder(&self.names, bytes)?;
         let slot = self.names.len() as u32;
-        let (acquire, rest) = self.term(room, rest)?;
-        let (used, rest) = self.term_under(NameKind::Value, x, room, rest)?;
-        let (release, rest) = self.term_under(NameKind::Value, x, room, rest)?;
+        let inner = Inner::Name(NameKind::Value, x);
+        let (acquire, rest) = self.term(room, bytes)?;
+        let (used, rest) = self.term_in(inner, room, rest)?;
+        let (release, rest) = self.term_in(inner, room, rest)?;
         let rest = closing(rest)?;
         let node = Node::Bracket(Some(slot), acquire, used, release);
         Ok((self.add(node)?, rest))
     }
 
-    #[cycle(terms)]
-    pub(super) fn guarantee_form(
+    /// What is used, in a bracket whose resource is the value 0.
+    pub(super) fn guarantee_node(
         &mut self,
-        room: usize,
-        bytes: &'a [u8],
-    ) -> Result<(NodeId, &'a [u8]), ReadError>
-        requires ready { IsReady self.old bytes.now }
-        requires small { length self.old.nodes.items + length bytes.now < 65536 }
-        ensures read { Gives (λ x. (term_of self.new.nodes.items x.0.0, x.1.now)) result (parts_at (group_at room) (shape Form.Guarantee (place_of self.old)) bytes.now) }
-        ensures went { IfOk result (λ x. Went 0 self.old self.new x.0.0 bytes.now x.1.now) }
-        ensures grows { IfOk result (λ x. GrowsBy self.old.nodes.items self.new.nodes.items (x.0.0 ∷ [])) }
+        used: NodeId,
+        finalizer: NodeId,
+    ) -> Result<NodeId, AllocError>
+        requires { CanMake self.old (used ∷ finalizer ∷ []) }
+        ensures { let part = λ (id : NodeId). term_of self.old.nodes.items id.0 in
+            IfOk result (λ root. Makes self.old self.new (used ∷ finalizer ∷ [])
+            (double_term Double.Guarantee (part used) (part finalizer)) root.0) }
     {
         let zero = self.add(Node::Pure(Arg::Number(0)))?;
-        let (used, rest) = self.term(room, bytes)?;
-        let (finalizer, rest) = self.term(room, rest)?;
-        let rest = closing(rest)?;
-        Ok((self.add(Node::Bracket(None, zero, used, finalizer))?, rest))
+        self.add(Node::Bracket(None, zero, used, finalizer))
     }
 
     #[cycle(terms)]
-    pub(super) fn using_form(
+    pub(super) fn using(
         &mut self,
         room: usize,
         bytes: &'a [u8],
     ) -> Result<(NodeId, &'a [u8]), ReadError>
-        requires ready { IsReady self.old bytes.now }
-        requires small { length self.old.nodes.items + length bytes.now < 65536 }
-        ensures read { Gives (λ x. (term_of self.new.nodes.items x.0.0, x.1.now)) result (parts_at (group_at room) (shape Form.Using (place_of self.old)) bytes.now) }
-        ensures went { IfOk result (λ x. Went 0 self.old self.new x.0.0 bytes.now x.1.now) }
-        ensures grows { IfOk result (λ x. GrowsBy self.old.nodes.items self.new.nodes.items (x.0.0 ∷ [])) }
+        requires { IsReady 2 self.old bytes.now }
+        ensures { ReadsTerm form_spares self.old self.new bytes.now
+            (parts_at (group_at room) (shape Form.Using (scope_of self.old)) bytes.now) result }
     {
         let outside = self.names.len();
         let (resources, rest) = self.resources(room, bytes)?;
@@ -99,10 +105,12 @@ impl<'a> Reader<'a> {
         room: usize,
         bytes: &'a [u8],
     ) -> Result<(Vec<Resource<'a>>, &'a [u8]), ReadError>
-        requires { IsReady self.old bytes.now }
-        ensures read { Gives (λ x. (resources_of self.new.nodes.items x.0.items, x.1.now)) result (group_at room OfResources (place_of self.old) bytes.now) }
+        requires { IsReady 0 self.old bytes.now }
+        ensures read { Gives (λ x. (resources_of self.new.nodes.items x.0.items, x.1.now)) result
+            (group_at room OfResources (scope_of self.old) bytes.now) }
         ensures binds { IfOk result (λ x. Binds self.old self.new x.0.items bytes.now x.1.now) }
-        ensures grows { IfOk result (λ x. GrowsBy self.old.nodes.items self.new.nodes.items (roots_of x.0.items)) }
+        ensures grows { IfOk result
+            (λ x. GrowsBy self.old.nodes.items self.new.nodes.items (roots_of x.0.items)) }
     {
         if room == 0 {
             return Err(too_deep(bytes));
@@ -133,10 +141,13 @@ impl<'a> Reader<'a> {
         room: usize,
         bytes: &'a [u8],
     ) -> Result<(Resource<'a>, &'a [u8]), ReadError>
-        requires { IsReady self.old bytes.now }
-        ensures read { Gives (λ x. (resource_of self.new.nodes.items x.0, x.1.now)) result (group_at room OfResource (place_of self.old) bytes.now) }
-        ensures went { IfOk result (λ x. WentThrough self.old self.new (x.0.acquire ∷ x.0.release ∷ []) bytes.now x.1.now) }
-        ensures grows { IfOk result (λ x. GrowsBy self.old.nodes.items self.new.nodes.items (x.0.acquire.0 ∷ x.0.release.0 ∷ [])) }
+        requires { IsReady 0 self.old bytes.now }
+        ensures read { Gives (λ x. (resource_of self.new.nodes.items x.0, x.1.now)) result
+            (group_at room OfResource (scope_of self.old) bytes.now) }
+        ensures went { IfOk result (λ x.
+            WentThrough self.old self.new (x.0.acquire ∷ x.0.release ∷ []) bytes.now x.1.now) }
+        ensures grows { IfOk result (λ x. GrowsBy self.old.nodes.items self.new.nodes.items
+            (x.0.acquire.0 ∷ x.0.release.0 ∷ [])) }
         ensures shorter { IfOk result (λ x. length x.1.now < length bytes.now) }
     {
         if room == 0 {
@@ -146,7 +157,7 @@ impl<'a> Reader<'a> {
         let (name, rest) = binder(&self.names, rest)?;
         let slot = self.names.len() as u32;
         let (acquire, rest) = self.term(room - 1, rest)?;
-        let (release, rest) = self.term_under(NameKind::Value, name, room - 1, rest)?;
+        let (release, rest) = self.term_in(Inner::Name(NameKind::Value, name), room - 1, rest)?;
         let rest = closing(rest)?;
         let resource = Resource {
             name,
@@ -166,8 +177,9 @@ impl<'a> Reader<'a> {
         requires tree { ChildrenComeFirst self.old.nodes.items }
         requires below { AllBelow (length self.old.nodes.items) (roots_of resources.items) }
         requires has_node { used.0 < length self.old.nodes.items }
-        requires small { length self.old.nodes.items + length resources.items ≤ 65536 }
-        ensures { IfOk result (λ root. Nests self.old self.new resources.entry.items used.0 root.0) }
+        requires small { length self.old.nodes.items + length resources.items ≤ most_nodes }
+        ensures { IfOk result
+            (λ root. Nests self.old self.new resources.entry.items used.0 root.0) }
     {
         let mut root = used;
         while let Some(r) = resources.pop() {

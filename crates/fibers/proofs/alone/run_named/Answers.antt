@@ -13,10 +13,10 @@ loop-nobody-preserved g c = ran_a_step _ g.J.Naming.nodes _ _ _ _ _ c.in_ok-step
 
 pub last_outcome-requires : goal.last_outcome-requires
 last_outcome-requires g c =
-    let over = has_outcome c.args.code.now g.J.Naming.nodes c.requires.code c.loop-nobody.fiber c.len.ensures.code (sym c.has_ended.ensures ∙ c.loop-nobody-test.false) c.loop-nobody.invariant in
+    let over = has_outcome c.args.code.now g.J.Naming.nodes c.requires.code c.loop-nobody.fiber c.len.ensures.code (sym c.has_ended.ensures.ended ∙ c.loop-nobody-test.false) c.loop-nobody.invariant in
     (over.outcome, rw c.trace.ensures.events over.shown)
 
 pub returns : goal.returns
 returns g c =
-    let over = has_outcome c.args.code.now g.J.Naming.nodes c.requires.code c.loop-nobody.fiber c.len.ensures.code (sym c.has_ended.ensures ∙ c.loop-nobody-test.false) c.loop-nobody.invariant in
+    let over = has_outcome c.args.code.now g.J.Naming.nodes c.requires.code c.loop-nobody.fiber c.len.ensures.code (sym c.has_ended.ensures.ended ∙ c.loop-nobody-test.false) c.loop-nobody.invariant in
     record { ending = outcome_shown c.args.code.now _ _ _ c.trace.ensures.events over c.last_outcome.ensures }

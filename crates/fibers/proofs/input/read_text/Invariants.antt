@@ -3,7 +3,10 @@ use Rattle.std.specs.Io.KnownBytes.{Consumes}
 use Rattle.fibers.proofs.input.read_text.Given as goal
 
 abbrev pub invariant-loop-text : goal.invariant-loop-text
-invariant-loop-text g l = (length l.text.items ≤ 65537) × Consumes (g.R.Read.remaining l.initial.reader) (g.R.Read.remaining l.reader) l.text.items
+invariant-loop-text g l = record {
+  within : length l.text.items ≤ 65537;
+  taken : Consumes (g.R.Read.remaining l.initial.reader) (g.R.Read.remaining l.reader) l.text.items;
+}
 
 abbrev pub decreases-loop-text : goal.decreases-loop-text
 decreases-loop-text g l = 65537 - length l.text.items

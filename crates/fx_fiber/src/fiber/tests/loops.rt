@@ -1,11 +1,11 @@
-//! `for`.
+//! `if` and `for`.
 
 use super::*;
 
 const GIVES_0: &[Event] = &[Event::Ended(Outcome::Succeeded(0))];
 
 #[test]
-fn turns(rt: HostRuntime) -> Result<(), Fail> {
+fn loop_turns_and_loop_ends(rt: HostRuntime) -> Result<(), Fail> {
     let rows: [Row; 6] = [
         (
             "for i 0 (raise 1)",
@@ -58,6 +58,50 @@ fn turns(rt: HostRuntime) -> Result<(), Fail> {
             Some(5),
             SEEN,
             5,
+        ),
+    ];
+    assert_runs(&rt, rt.alloc(), &rows)
+}
+
+#[test]
+fn if_not_zero_and_if_zero(rt: HostRuntime) -> Result<(), Fail> {
+    let rows: [Row; 3] = [
+        (
+            "let x (pure 2) (if x (pure 5) (pure 6))",
+            &[
+                pure(2),
+                pure(5),
+                pure(6),
+                Node::If(Arg::Slot(0), NodeId(1), NodeId(2)),
+                Node::Let(Some(0), NodeId(0), NodeId(3)),
+            ],
+            None,
+            &[Event::Ended(Outcome::Succeeded(5))],
+            5,
+        ),
+        (
+            "let x (pure 0) (if x (pure 5) (pure 6))",
+            &[
+                pure(0),
+                pure(5),
+                pure(6),
+                Node::If(Arg::Slot(0), NodeId(1), NodeId(2)),
+                Node::Let(Some(0), NodeId(0), NodeId(3)),
+            ],
+            None,
+            &[Event::Ended(Outcome::Succeeded(6))],
+            5,
+        ),
+        (
+            "if 0 (pure 1) (raise 2)",
+            &[
+                pure(1),
+                raise(2),
+                Node::If(Arg::Number(0), NodeId(0), NodeId(1)),
+            ],
+            None,
+            &[Event::Ended(Outcome::Errored(2))],
+            3,
         ),
     ];
     assert_runs(&rt, rt.alloc(), &rows)

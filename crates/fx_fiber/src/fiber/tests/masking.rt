@@ -1,39 +1,10 @@
-//! Results, masks, polls and finalizers.
+//! Masks, polls and finalizers.
 
 use super::*;
 
 #[test]
-fn masks_and_finalizers(rt: HostRuntime) -> Result<(), Fail> {
-    let rows: [Row; 16] = [
-        (
-            "pure 5",
-            &[pure(5)],
-            None,
-            &[Event::Ended(Outcome::Succeeded(5))],
-            2,
-        ),
-        (
-            "raise 3",
-            &[raise(3)],
-            None,
-            &[Event::Ended(Outcome::Errored(3))],
-            2,
-        ),
-        ("pure 5, requested", &[pure(5)], Some(1), SEEN, 1),
-        ("canceled", &[CANCELED], None, CANCELED_HERE, 0),
-        (
-            "handle (let x (pure 4) (raise x)) e (pure e)",
-            &[
-                pure(4),
-                Node::Raise(Arg::Slot(0)),
-                Node::Let(Some(0), NodeId(0), NodeId(1)),
-                Node::Pure(Arg::Slot(0)),
-                Node::Handle(NodeId(2), Some(0), NodeId(3)),
-            ],
-            None,
-            &[Event::Ended(Outcome::Succeeded(4))],
-            6,
-        ),
+fn masked_ends(rt: HostRuntime) -> Result<(), Fail> {
+    let rows: [Row; 3] = [
         (
             "mask p (pure 5), requested",
             &[pure(5), mask(0, 0)],
@@ -55,6 +26,13 @@ fn masks_and_finalizers(rt: HostRuntime) -> Result<(), Fail> {
             CANCELED_LATER,
             1,
         ),
+    ];
+    assert_runs(&rt, rt.alloc(), &rows)
+}
+
+#[test]
+fn opened_ends(rt: HostRuntime) -> Result<(), Fail> {
+    let rows: [Row; 5] = [
         (
             "mask p (let _ (poll p (pure 1)) canceled)",
             &[pure(1), poll(0, 0), CANCELED, seq(1, 2), mask(0, 3)],
@@ -90,23 +68,13 @@ fn masks_and_finalizers(rt: HostRuntime) -> Result<(), Fail> {
             CANCELED_LATER,
             2,
         ),
-        (
-            "oncancel (oncancel canceled (raise 9)) canceled",
-            &[
-                CANCELED,
-                raise(9),
-                on_cancel(0, 1),
-                CANCELED,
-                on_cancel(2, 3),
-            ],
-            None,
-            &[
-                Event::Cancelled,
-                Event::SelfRequest,
-                Event::Ended(Outcome::Canceled),
-            ],
-            0,
-        ),
+    ];
+    assert_runs(&rt, rt.alloc(), &rows)
+}
+
+#[test]
+fn oncancel_ends(rt: HostRuntime) -> Result<(), Fail> {
+    let rows: [Row; 2] = [
         (
             "oncancel (pure 1) (raise 2), requested at its result",
             &[pure(1), raise(2), on_cancel(0, 1)],

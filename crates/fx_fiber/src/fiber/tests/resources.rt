@@ -2,16 +2,8 @@
 
 use super::*;
 
-const RELEASED_AFTER_CANCELLATION: &[Event] = &[
-    Event::Acquired(0),
-    Event::Cancelled,
-    Event::Begin(0),
-    Event::End(0),
-    Event::Ended(Outcome::Canceled),
-];
-
 #[test]
-fn released_after_a_result(rt: HostRuntime) -> Result<(), Fail> {
+fn released(rt: HostRuntime) -> Result<(), Fail> {
     let rows: [Row; 7] = [
         (
             "bracket x (pure 4) (pure x) (pure 0)",
@@ -106,115 +98,9 @@ fn released_after_a_result(rt: HostRuntime) -> Result<(), Fail> {
     assert_runs(&rt, rt.alloc(), &rows)
 }
 
+/// Neither part can be canceled inside: `canceled` makes a request that is seen outside.
 #[test]
-fn released_after_cancellation(rt: HostRuntime) -> Result<(), Fail> {
-    let rows: [Row; 7] = [
-        (
-            "bracket x (pure 4) canceled (pure 0)",
-            &[pure(4), CANCELED, pure(0), bracket(Some(0), 0, 1, 2)],
-            None,
-            RELEASED_AFTER_CANCELLATION,
-            0,
-        ),
-        (
-            "bracket x (pure 4) canceled (raise x)",
-            &[
-                pure(4),
-                CANCELED,
-                Node::Raise(Arg::Slot(0)),
-                bracket(Some(0), 0, 1, 2),
-            ],
-            None,
-            RELEASED_AFTER_CANCELLATION,
-            0,
-        ),
-        (
-            "mask p (bracket x (pure 4) (poll p canceled) (pure 0))",
-            &[
-                pure(4),
-                CANCELED,
-                poll(0, 1),
-                pure(0),
-                bracket(Some(1), 0, 2, 3),
-                mask(0, 4),
-            ],
-            None,
-            RELEASED_AFTER_CANCELLATION,
-            1,
-        ),
-        (
-            "bracket x (pure 4) (pure 5) (pure 0), requested as it acquires",
-            &[pure(4), pure(5), pure(0), bracket(Some(0), 0, 1, 2)],
-            Some(1),
-            &[
-                Event::Acquired(0),
-                Event::Seen,
-                Event::Cancelled,
-                Event::Begin(0),
-                Event::End(0),
-                Event::Ended(Outcome::Canceled),
-            ],
-            1,
-        ),
-        (
-            "bracket x (pure 4) (pure 5) (pure 0), requested at the result of its use",
-            &[pure(4), pure(5), pure(0), bracket(Some(0), 0, 1, 2)],
-            Some(2),
-            &[
-                Event::Acquired(0),
-                Event::Seen,
-                Event::Cancelled,
-                Event::Begin(0),
-                Event::End(0),
-                Event::Ended(Outcome::Canceled),
-            ],
-            2,
-        ),
-        (
-            "bracket x (pure 4) (pure 5) (pure 0), requested as it releases",
-            &[pure(4), pure(5), pure(0), bracket(Some(0), 0, 1, 2)],
-            Some(3),
-            &[
-                Event::Acquired(0),
-                Event::Begin(0),
-                Event::End(0),
-                Event::Seen,
-                Event::Cancelled,
-                Event::Ended(Outcome::Canceled),
-            ],
-            3,
-        ),
-        (
-            "bracket a (pure 1) (bracket b (pure 2) canceled (pure 3)) (pure 4)",
-            &[
-                pure(1),
-                pure(2),
-                CANCELED,
-                pure(3),
-                bracket(Some(1), 1, 2, 3),
-                pure(4),
-                bracket(Some(0), 0, 4, 5),
-            ],
-            None,
-            &[
-                Event::Acquired(0),
-                Event::Acquired(1),
-                Event::Cancelled,
-                Event::Begin(1),
-                Event::End(1),
-                Event::Begin(0),
-                Event::End(0),
-                Event::Ended(Outcome::Canceled),
-            ],
-            0,
-        ),
-    ];
-    assert_runs(&rt, rt.alloc(), &rows)
-}
-
-/// Neither part can be canceled inside: `canceled` makes a request that is found outside.
-#[test]
-fn sealed_parts(rt: HostRuntime) -> Result<(), Fail> {
+fn acquired_and_released_under_a_seal(rt: HostRuntime) -> Result<(), Fail> {
     let rows: [Row; 4] = [
         (
             "bracket x canceled (pure 1) (pure 2)",
@@ -293,7 +179,7 @@ fn sealed_parts(rt: HostRuntime) -> Result<(), Fail> {
 }
 
 #[test]
-fn numbers_of_resources(rt: HostRuntime) -> Result<(), Fail> {
+fn acquired(rt: HostRuntime) -> Result<(), Fail> {
     let rows: [Row; 3] = [
         (
             "seq (bracket x (pure 1) (pure 2) (pure 3)) (bracket x (pure 4) (pure 5) (pure 6))",
@@ -365,4 +251,43 @@ fn numbers_of_resources(rt: HostRuntime) -> Result<(), Fail> {
         ),
     ];
     assert_runs(&rt, rt.alloc(), &rows)
+}
+
+const DEPTH: u32 = 3_000;
+
+/// The nodes of that many brackets, each the use of the one round it.
+fn nested(alloc: Global) -> Result<Vec<Node>, Fail> {
+    let mut nodes = Vec::new(alloc);
+    nodes.push(pure(0))?;
+    for inner in 0..DEPTH {
+        let used = 3 * inner;
+        let slot = DEPTH - 1 - inner;
+        nodes.push(pure(1))?;
+        nodes.push(Node::Cede)?;
+        nodes.push(bracket(Some(slot), used + 1, used, used + 2))?;
+    }
+    Ok(nodes)
+}
+
+/// All are acquired, and then released from the last to the first.
+fn in_reverse_order(alloc: Global) -> Result<Vec<Event>, Fail> {
+    let mut trace = Vec::new(alloc);
+    for resource in 0..DEPTH {
+        trace.push(Event::Acquired(u64::from(resource)))?;
+    }
+    for resource in (0..DEPTH).rev() {
+        trace.push(Event::Begin(u64::from(resource)))?;
+        trace.push(Event::End(u64::from(resource)))?;
+    }
+    trace.push(Event::Ended(Outcome::Succeeded(0)))?;
+    Ok(trace)
+}
+
+#[test]
+fn acquired_3000_deep_and_released_in_reverse_order(rt: HostRuntime) -> Result<(), Fail> {
+    let alloc = rt.alloc();
+    let ran = run(alloc, &nested(alloc)?, None, 6 * DEPTH)?;
+    assert!(rt; ran.has_ended);
+    assert_eq!(rt; ran.trace.as_slice(), in_reverse_order(alloc)?.as_slice());
+    Ok(())
 }

@@ -9,4 +9,6 @@ ok_then P Q (Ok x) f h = f h
 ok_then P Q (Err e) f h = h
 
 pub returns-clause-code : goal.returns-clause-code
-returns-clause-code c = ok_then _ _ c.check_names.result (code_of_tests c.args.nodes.now c.in_ok-check_count.ensures.fits c.in_ok-check_tree.ensures.tree) c.check_names.ensures.placed
+returns-clause-code c =
+    ok_then _ _ c.check_names.result (code_of_tests c.args.nodes.now c.in_ok-check_count.ensures.fits c.in_ok-check_tree.ensures.tree)
+    c.check_names.ensures.placed

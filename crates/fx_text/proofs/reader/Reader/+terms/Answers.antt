@@ -2,68 +2,89 @@ use Rattle.std.proofs.Common.{rules, arith, refl, [], sym, ◌∙◌}
 use Rattle.std.proofs.lemmas.List.Sorted.{IsPermutation-refl}
 use Rattle.fx_text.specs.declared.reader.Reader.{Reader}
 use Rattle.fx_text.specs.Group.{OfTerm, OfResource, OfResources}
-use Rattle.fx_text.proofs.GroupLaws.{no_group, no_group_in}
+use Rattle.fx_text.proofs.GroupLaws.{no_group}
+use Rattle.fx_text.specs.Reading.{group_at}
+use Rattle.fx_text.proofs.HeadLaws.{two_read, handle_means, bracket_means}
 use Rattle.fx_text.proofs.ReaderLaws.{grows_none, grows_append}
-use Rattle.fx_text.proofs.BindLaws.{resource_read, binds_none, binds_fails, binds_one, binds_more, list_fails, list_unclosed, list_read, unused, using_unclosed, using_means, using_went, still_below}
+use Rattle.fx_text.proofs.BindLaws.{
+  resource_read,
+  binds_none,
+  binds_fails,
+  binds_one,
+  binds_more,
+  list_fails,
+  list_unclosed,
+  list_read,
+  unused,
+  using_unclosed,
+  using_means,
+  using_went,
+  still_below,
+}
 use Rattle.fx_text.proofs.ThroughLaws.{went_none, went_more, went_fails, went_all, went_seq}
 use Rattle.fx_text.proofs.reader.Reader.+terms.Goals as goal
 
-pub term-returns-then-room-eq0-clause-read : goal.term-returns-then-room-eq0-clause-read
-term-returns-then-room-eq0-clause-read t c = no_group _ OfTerm _ _ _ c.if-room-eq0.true c.too_deep.ensures
+pub term-returns-then-room-eq0 : goal.term-returns-then-room-eq0
+term-returns-then-room-eq0 t c = no_group _ OfTerm _ _ _ c.if-room-eq0.true c.too_deep.ensures
 
 pub terms-loop-self-init : goal.terms-loop-self-init
 terms-loop-self-init t c = went_none _ _ _ _ c.new-roots.ensures.items c.requires.tree
 
 pub terms-returns-in_err-root-clause-read : goal.terms-returns-in_err-root-clause-read
-terms-returns-in_err-root-clause-read t c = let h = went_fails _ _ _ _ _ _ c.loop-self.invariant c.in_err-root.field-0.0 (sym c.is_closing.ensures ∙ c.loop-self-test.true) c.in_err-root.ensures.read in search rules
+terms-returns-in_err-root-clause-read t c = let h = went_fails _ _ _ _ _ _ c.loop-self.invariant c.in_err-root.field-0.0 (sym c.is_closing.ensures
+    ∙ c.loop-self-test.true) c.in_err-root.ensures in search rules
 
 pub terms-loop-self-preserved : goal.terms-loop-self-preserved
-terms-loop-self-preserved t c = went_more _ _ _ _ _ _ c.loop-self.invariant _ c.in_ok-root.root _ _ c.in_ok-push.ensures.items (sym c.is_closing.ensures ∙ c.loop-self-test.true) c.in_ok-root.ensures.read c.in_ok-root.ensures.went c.in_ok-root.ensures.grows
+terms-loop-self-preserved t c = went_more _ _ _ _ _ _ c.loop-self.invariant _ c.in_ok-root.root _ _ c.in_ok-push.ensures.items (sym c.is_closing.ensures
+    ∙ c.loop-self-test.true) c.in_ok-root.ensures.read c.in_ok-root.ensures.went c.in_ok-root.ensures.grows
 
 pub terms-returns-clause-read : goal.terms-returns-clause-read
 terms-returns-clause-read t c = went_all _ _ _ _ _ _ c.loop-self.invariant (sym c.is_closing.ensures ∙ c.loop-self-test.false)
 
-pub parts-returns-in-Pure-clause-read : goal.parts-returns-in-Pure-clause-read
-parts-returns-in-Pure-clause-read t c = no_group_in _ _ _ _ _ _ _ c.in-Pure.is c.pure_form.ensures.read
+pub parts-returns-in-Leaf : goal.parts-returns-in-Leaf
+parts-returns-in-Leaf t c = let h = c.leaf.ensures (group_at c.args.room) in search rules
 
-pub parts-returns-in-Raise-clause-read : goal.parts-returns-in-Raise-clause-read
-parts-returns-in-Raise-clause-read t c = no_group_in _ _ _ _ _ _ _ c.in-Raise.is c.raise_form.ensures.read
+pub two-returns : goal.two-returns
+two-returns t c = two_read _ _ _ _ _ c.in_ok-first.first _ _ c.in_ok-first.ensures _ c.in_ok-second.second _ c.in_ok-second.ensures _ _ _
+    c.in_ok-rest.ensures.read c.in_ok-rest.ensures.shorter c.in_ok-double_node.ensures
 
-pub parts-returns-in-Canceled-clause-read : goal.parts-returns-in-Canceled-clause-read
-parts-returns-in-Canceled-clause-read t c = no_group_in _ _ _ _ _ _ _ c.in-Canceled.is c.canceled_form.ensures.read
+pub seq-returns : goal.seq-returns
+seq-returns t c =
+    let grows = c.in_ok-in_order.ensures.grows _ (grows_append _ _ _ _ _ c.in_ok-first.ensures.grows c.in_ok-others.ensures.grows) in
+    record {
+      read = search rules;
+      went = went_seq _ _ _ _ _ _ _ _ _ _ _ c.in_ok-first.ensures.went c.in_ok-others.ensures.went c.in_ok-rest.ensures.shorter c.in_ok-in_order.ensures grows;
+      grows = grows;
+    }
 
-pub parts-returns-in-Never-clause-read : goal.parts-returns-in-Never-clause-read
-parts-returns-in-Never-clause-read t c = no_group_in _ _ _ _ _ _ _ c.in-Never.is c.never_form.ensures.read
+pub handle-returns : goal.handle-returns
+handle-returns t c = record {
+  read = handle_means _ _ _ _ _ _ c.in_ok-x.x c.in_ok-a.a c.in_ok-b.b _ c.len-slot.result _ _ _ _ _ c.in_ok-a.ensures c.deref.ensures.value
+      (c.in_ok-x.ensures.read _) (omega (arith, c.len-slot.ensures, c.term.new.self.names.ok.0))
+      c.in_ok-b.ensures c.in_ok-rest.ensures.read c.in_ok-add.ensures;
+  went = search rules;
+  grows = c.in_ok-add.ensures.grows _ _ (IsPermutation-refl _) (grows_append _ _ _ _ _ c.in_ok-a.ensures.grows c.in_ok-b.ensures.grows);
+}
 
-pub parts-returns-in-Cede-clause-read : goal.parts-returns-in-Cede-clause-read
-parts-returns-in-Cede-clause-read t c = no_group_in _ _ _ _ _ _ _ c.in-Cede.is c.cede_form.ensures.read
+pub forcer-returns : goal.forcer-returns
+forcer-returns t c = record {
+  read = search rules;
+  went = search rules;
+  grows = c.in_ok-add.ensures.grows _ _ (IsPermutation-refl _)
+      (grows_append _ _ _ _ _ (c.in_ok-handled.ensures.grows _ _ (IsPermutation-refl _)
+      (grows_append _ _ _ _ _ c.in_ok-forced.ensures.grows (c.in_ok-zero.ensures.grows _ [] (IsPermutation-refl []) (grows_none _))))
+      c.in_ok-then.ensures.grows);
+}
 
-pub seq_form-returns-clause-went : goal.seq_form-returns-clause-went
-seq_form-returns-clause-went t c = went_seq _ _ _ _ _ _ _ _ _ _ _ c.in_ok-first.ensures.went c.in_ok-others.ensures.went c.in_ok-rest.ensures.shorter c.in_ok-in_order.ensures (c.in_ok-in_order.ensures.grows _ (grows_append _ _ _ _ _ c.in_ok-first.ensures.grows c.in_ok-others.ensures.grows))
-
-pub seq_form-returns-clause-grows : goal.seq_form-returns-clause-grows
-seq_form-returns-clause-grows t c = c.in_ok-in_order.ensures.grows _ (grows_append _ _ _ _ _ c.in_ok-first.ensures.grows c.in_ok-others.ensures.grows)
-
-pub let_form-returns-clause-grows : goal.let_form-returns-clause-grows
-let_form-returns-clause-grows t c = c.in_ok-add.ensures.grows _ _ (IsPermutation-refl _) (grows_append _ _ _ _ _ c.in_ok-a.ensures.grows c.in_ok-b.ensures.grows)
-
-pub handle_form-returns-clause-grows : goal.handle_form-returns-clause-grows
-handle_form-returns-clause-grows t c = c.in_ok-add.ensures.grows _ _ (IsPermutation-refl _) (grows_append _ _ _ _ _ c.in_ok-a.ensures.grows c.in_ok-b.ensures.grows)
-
-pub on_cancel_form-returns-clause-grows : goal.on_cancel_form-returns-clause-grows
-on_cancel_form-returns-clause-grows t c = c.in_ok-add.ensures.grows _ _ (IsPermutation-refl _) (grows_append _ _ _ _ _ c.in_ok-protected.ensures.grows c.in_ok-finalizer.ensures.grows)
-
-pub if_form-returns-clause-grows : goal.if_form-returns-clause-grows
-if_form-returns-clause-grows t c = c.in_ok-add.ensures.grows _ _ (IsPermutation-refl _) (grows_append _ _ _ _ _ c.in_ok-then.ensures.grows c.in_ok-other.ensures.grows)
-
-pub bracket_form-returns-clause-grows : goal.bracket_form-returns-clause-grows
-bracket_form-returns-clause-grows t c = c.in_ok-add.ensures.grows _ _ (IsPermutation-refl _) (grows_append _ _ _ _ _ (grows_append _ _ _ _ _ c.in_ok-acquire.ensures.grows c.in_ok-used.ensures.grows) c.in_ok-release.ensures.grows)
-
-pub guarantee_form-returns-clause-grows : goal.guarantee_form-returns-clause-grows
-guarantee_form-returns-clause-grows t c = c.in_ok-add.ensures.grows _ _ (IsPermutation-refl _) (grows_append _ _ _ _ _ (grows_append _ _ _ _ _ (c.in_ok-zero.ensures.grows _ [] (IsPermutation-refl []) (grows_none _)) c.in_ok-used.ensures.grows) c.in_ok-finalizer.ensures.grows)
-
-pub forcer_form-returns-clause-grows : goal.forcer_form-returns-clause-grows
-forcer_form-returns-clause-grows t c = c.in_ok-add.ensures.grows _ _ (IsPermutation-refl _) (grows_append _ _ _ _ _ (c.in_ok-handled.ensures.grows _ _ (IsPermutation-refl _) (grows_append _ _ _ _ _ c.in_ok-forced.ensures.grows (c.in_ok-zero.ensures.grows _ [] (IsPermutation-refl []) (grows_none _)))) c.in_ok-then.ensures.grows)
+pub bracket-returns : goal.bracket-returns
+bracket-returns t c = record {
+  read = bracket_means _ _ _ _ _ _ c.args.x c.in_ok-acquire.acquire c.in_ok-used.used c.in_ok-release.release _ c.len-slot.result _ _ _ _ _
+      (omega (arith, c.len-slot.ensures, c.args.self.now.names.ok.0)) c.in_ok-acquire.ensures c.in_ok-used.ensures c.in_ok-release.ensures
+      c.in_ok-rest.ensures.read c.in_ok-add.ensures;
+  went = search rules;
+  grows = c.in_ok-add.ensures.grows _ _ (IsPermutation-refl _) (grows_append _ _ _ _ _
+      (grows_append _ _ _ _ _ c.in_ok-acquire.ensures.grows c.in_ok-used.ensures.grows) c.in_ok-release.ensures.grows);
+}
 
 pub resource-returns-then-room-eq0-clause-read : goal.resource-returns-then-room-eq0-clause-read
 resource-returns-then-room-eq0-clause-read t c = no_group _ OfResource _ _ _ c.if-room-eq0.true c.too_deep.ensures
@@ -75,40 +96,74 @@ pub resources-returns-then-room-eq0-clause-read : goal.resources-returns-then-ro
 resources-returns-then-room-eq0-clause-read t c = no_group _ OfResources _ _ _ c.if-room-eq0.true c.too_deep.ensures
 
 pub resource-returns-clause-read : goal.resource-returns-clause-read
-resource-returns-clause-read t c = resource_read _ _ _ _ (record { name = c.in_ok-name.name; slot = c.len-slot.result; acquire = c.in_ok-acquire.acquire; release = c.in_ok-release.release }) _ _ _ _ _ _ _ (omega (arith, c.if-room-eq0.false)) c.in_ok-rest.ensures.read c.deref.ensures.value (c.in_ok-name.ensures.read _) (omega (arith, c.len-slot.ensures, c.args.self.now.names.ok.0)) c.in_ok-acquire.ensures.read c.in_ok-acquire.ensures.went c.in_ok-release.ensures.read c.in_ok-release.ensures.went c.in_ok-rest-2.ensures.read
+resource-returns-clause-read t c = resource_read _ _ _ _ (record {
+  name = c.in_ok-name.name;
+  slot = c.len-slot.result;
+  acquire = c.in_ok-acquire.acquire;
+  release = c.in_ok-release.release;
+}) _ _ _ _ _ _ _ (omega (arith, c.if-room-eq0.false)) c.in_ok-rest.ensures.read c.deref.ensures.value
+    (c.in_ok-name.ensures.read _) (omega (arith, c.len-slot.ensures, c.args.self.now.names.ok.0))
+    c.in_ok-acquire.ensures.read c.in_ok-acquire.ensures.went c.in_ok-release.ensures.read c.in_ok-release.ensures.went c.in_ok-rest-2.ensures.read
 
 pub resources-loop-resources-init : goal.resources-loop-resources-init
 resources-loop-resources-init t c = binds_none _ _ _ _ c.new-resources.ensures.items c.requires.tree
 
 pub resources-returns-in_err-resource-clause-read : goal.resources-returns-in_err-resource-clause-read
-resources-returns-in_err-resource-clause-read t c = let h = list_fails _ _ _ _ (omega (arith, c.if-room-eq0.false)) c.in_ok-rest.ensures.read _ (binds_fails _ _ _ _ _ _ _ c.loop-resources.invariant c.in_err-resource.ensures.read) in search rules
+resources-returns-in_err-resource-clause-read t c = let h = list_fails _ _ _ _ (omega (arith, c.if-room-eq0.false)) c.in_ok-rest.ensures.read _
+    (binds_fails _ _ _ _ _ _ _ c.loop-resources.invariant c.in_err-resource.ensures.read) in search rules
 
 pub resources-loop-resources-preserved : goal.resources-loop-resources-preserved
-resources-loop-resources-preserved t c = binds_more _ _ _ _ _ _ (sym c.is_closing.ensures ∙ c.if-is_closing.false) (binds_one _ _ c.loop-resources.self c.resource.new.self _ _ _ c.in_ok-resource.resource _ _ _ c.loop-resources.invariant c.in_ok-resource.ensures.read c.in_ok-resource.ensures.went c.in_ok-resource.ensures.grows c.in_ok-resource.ensures.shorter c.in_ok-push.ensures.items refl refl c.in_ok-push-2.ensures.items)
+resources-loop-resources-preserved t c = binds_more _ _ _ _ _ _ (sym c.is_closing.ensures
+    ∙ c.if-is_closing.false) (binds_one _ _ c.loop-resources.self c.resource.new.self _ _ _ c.in_ok-resource.resource _ _ _ c.loop-resources.invariant
+    c.in_ok-resource.ensures.read c.in_ok-resource.ensures.went c.in_ok-resource.ensures.grows c.in_ok-resource.ensures.shorter c.in_ok-push.ensures.items refl
+    refl c.in_ok-push-2.ensures.items)
 
 pub resources-returns-in_err-rest-2-clause-read : goal.resources-returns-in_err-rest-2-clause-read
-resources-returns-in_err-rest-2-clause-read t c = let new : Reader = record { alloc = c.resource.new.self.alloc; names = c.push.new.self; turns = c.resource.new.self.turns; nodes = c.resource.new.self.nodes } in let h = list_unclosed _ _ new _ _ _ _ (omega (arith, c.if-room-eq0.false)) c.in_ok-rest.ensures.read (sym c.is_closing.ensures ∙ c.if-is_closing.true) (binds_one _ _ c.loop-resources.self c.resource.new.self _ _ _ c.in_ok-resource.resource _ _ _ c.loop-resources.invariant c.in_ok-resource.ensures.read c.in_ok-resource.ensures.went c.in_ok-resource.ensures.grows c.in_ok-resource.ensures.shorter c.in_ok-push.ensures.items refl refl c.in_ok-push-2.ensures.items) _ c.in_err-rest-2.ensures.read in search rules
+resources-returns-in_err-rest-2-clause-read t c = let new : Reader = record {
+  alloc = c.resource.new.self.alloc;
+  names = c.push.new.self;
+  turns = c.resource.new.self.turns;
+  nodes = c.resource.new.self.nodes;
+} in
+    let h = list_unclosed _ _ new _ _ _ _ (omega (arith, c.if-room-eq0.false)) c.in_ok-rest.ensures.read (sym c.is_closing.ensures
+    ∙ c.if-is_closing.true) (binds_one _ _ c.loop-resources.self c.resource.new.self _ _ _ c.in_ok-resource.resource _ _ _ c.loop-resources.invariant
+    c.in_ok-resource.ensures.read c.in_ok-resource.ensures.went c.in_ok-resource.ensures.grows c.in_ok-resource.ensures.shorter c.in_ok-push.ensures.items refl
+    refl c.in_ok-push-2.ensures.items) _ c.in_err-rest-2.ensures.read in search rules
 
 pub resources-returns : goal.resources-returns
 resources-returns t c =
-    let new : Reader = record { alloc = c.resource.new.self.alloc; names = c.push.new.self; turns = c.resource.new.self.turns; nodes = c.resource.new.self.nodes } in
-    let h = list_read _ _ new _ _ _ _ (omega (arith, c.if-room-eq0.false)) c.in_ok-rest.ensures.read (sym c.is_closing.ensures ∙ c.if-is_closing.true) (binds_one _ _ c.loop-resources.self c.resource.new.self _ _ _ c.in_ok-resource.resource _ _ _ c.loop-resources.invariant c.in_ok-resource.ensures.read c.in_ok-resource.ensures.went c.in_ok-resource.ensures.grows c.in_ok-resource.ensures.shorter c.in_ok-push.ensures.items refl refl c.in_ok-push-2.ensures.items) _ c.in_ok-rest-2.ensures.read c.in_ok-rest.ensures.shorter c.in_ok-rest-2.ensures.shorter in
+    let new : Reader = record {
+      alloc = c.resource.new.self.alloc;
+      names = c.push.new.self;
+      turns = c.resource.new.self.turns;
+      nodes = c.resource.new.self.nodes;
+    } in
+    let h = list_read _ _ new _ _ _ _ (omega (arith, c.if-room-eq0.false)) c.in_ok-rest.ensures.read (sym c.is_closing.ensures
+    ∙ c.if-is_closing.true) (binds_one _ _ c.loop-resources.self c.resource.new.self _ _ _ c.in_ok-resource.resource _ _ _ c.loop-resources.invariant
+    c.in_ok-resource.ensures.read c.in_ok-resource.ensures.went c.in_ok-resource.ensures.grows c.in_ok-resource.ensures.shorter c.in_ok-push.ensures.items
+    refl refl c.in_ok-push-2.ensures.items) _ c.in_ok-rest-2.ensures.read c.in_ok-rest.ensures.shorter c.in_ok-rest-2.ensures.shorter in
     record { read = h.read; binds = h.binds; grows = h.grows }
 
-pub using_form-returns-in_err-used-clause-read : goal.using_form-returns-in_err-used-clause-read
-using_form-returns-in_err-used-clause-read t c = let h = unused _ _ _ _ _ _ c.in_ok-resources.ensures.binds c.in_ok-resources.ensures.read _ c.in_err-used.ensures.read in search rules
+pub using-returns-in_err-used : goal.using-returns-in_err-used
+using-returns-in_err-used t c = let h = unused _ _ _ _ _ _ c.in_ok-resources.ensures.binds c.in_ok-resources.ensures.read _ c.in_err-used.ensures in
+    search rules
 
-pub using_form-returns-in_err-rest-clause-read : goal.using_form-returns-in_err-rest-clause-read
-using_form-returns-in_err-rest-clause-read t c = let h = using_unclosed _ _ _ _ _ _ c.in_ok-resources.ensures.binds c.in_ok-resources.ensures.read _ _ c.in_ok-used.ensures.read _ c.in_err-rest.ensures.read in search rules
+pub using-returns-in_err-rest : goal.using-returns-in_err-rest
+using-returns-in_err-rest t c = let h = using_unclosed _ _ _ _ _ _ c.in_ok-resources.ensures.binds c.in_ok-resources.ensures.read _ _ c.in_ok-used.ensures.read
+    _ c.in_err-rest.ensures.read in search rules
 
-pub using_form-nested-requires-clause-below : goal.using_form-nested-requires-clause-below
-using_form-nested-requires-clause-below t c = still_below _ _ _ _ _ _ _ _ c.in_ok-resources.ensures.binds c.in_ok-used.ensures.went
+pub using-nested-requires-clause-below : goal.using-nested-requires-clause-below
+using-nested-requires-clause-below t c = still_below _ _ _ _ _ _ _ _ c.in_ok-resources.ensures.binds c.in_ok-used.ensures.went
 
-pub using_form-returns : goal.using_form-returns
-using_form-returns t c =
+pub using-returns : goal.using-returns
+using-returns t c =
     let grows = c.in_ok-nested.ensures.grows _ (grows_append _ _ _ _ _ c.in_ok-resources.ensures.grows c.in_ok-used.ensures.grows) in
     record {
-      read = using_means _ _ _ _ _ _ _ _ _ _ _ _ _ c.in_ok-resources.ensures.binds c.in_ok-used.ensures.went c.in_ok-nested.ensures (record { names_left = c.truncate.ensures.items; turns = refl; nodes = refl }) (omega (arith, c.len-outside.ensures, c.args.self.now.names.ok.0)) c.in_ok-rest.ensures.shorter _ c.in_ok-resources.ensures.read c.in_ok-used.ensures.read c.in_ok-rest.ensures.read;
-      went = using_went _ _ _ _ _ _ _ _ _ _ _ _ _ c.in_ok-resources.ensures.binds c.in_ok-used.ensures.went c.in_ok-nested.ensures (record { names_left = c.truncate.ensures.items; turns = refl; nodes = refl }) (omega (arith, c.len-outside.ensures, c.args.self.now.names.ok.0)) c.in_ok-rest.ensures.shorter grows;
+      read = using_means _ _ _ _ _ _ _ _ _ _ _ _ _ c.in_ok-resources.ensures.binds c.in_ok-used.ensures.went c.in_ok-nested.ensures
+          (record { names_left = c.truncate.ensures.items; turns = refl; nodes = refl }) (omega (arith, c.len-outside.ensures, c.args.self.now.names.ok.0))
+          c.in_ok-rest.ensures.shorter _ c.in_ok-resources.ensures.read c.in_ok-used.ensures.read c.in_ok-rest.ensures.read;
+      went = using_went _ _ _ _ _ _ _ _ _ _ _ _ _ c.in_ok-resources.ensures.binds c.in_ok-used.ensures.went c.in_ok-nested.ensures
+          (record { names_left = c.truncate.ensures.items; turns = refl; nodes = refl }) (omega (arith, c.len-outside.ensures, c.args.self.now.names.ok.0))
+          c.in_ok-rest.ensures.shorter grows;
       grows = grows;
     }

@@ -1,0 +1,143 @@
+-- What a fiber makes in a step, from what came before the rule of its place, and from that rule.
+use Rattle.std.proofs.Common.{◌≡◌, ℕ, Bool, false, Option, Some, None, List, ◌∷◌, ◌++◌, [], refl, sym, ◌∙◌, ap}
+use Rattle.std.specs.Prelude.{◌&&◌, ◌||◌, slice_get}
+use Rattle.fx_term.specs.declared.node.NodeId.{NodeId}
+use Rattle.fx_term.specs.declared.node.Node.{Node}
+use Rattle.fx_term.specs.declared.node.Node.TheVariants as node
+use Rattle.fx_term.specs.declared.done.Done.{Done}
+use Rattle.fx_term.specs.declared.event.Event.TheVariants as event
+use Rattle.fx_fiber.specs.Path.{is_canceled_form}
+use Rattle.fx_fiber.specs.Row.{Counts}
+use Rattle.fx_fiber.specs.Deed.{Deed, Saw}
+use Rattle.fx_fiber.specs.declared.machine.focus.Focus.TheVariants.{Return, Turn, Unwinding}
+use Rattle.fx_fiber.specs.declared.machine.unwound.Unwound.{Unwound}
+use Rattle.fx_fiber.specs.declared.machine.interruption.Interruption.{Interruption}
+use Rattle.fx_fiber.specs.declared.machine.interruption.Interruption.TheVariants.{Cancellation, Request}
+use Rattle.fx_fiber.specs.declared.machine.made.Made.{Made}
+use Rattle.fx_fiber.specs.declared.machine.made.Made.TheVariants as made
+use Rattle.fx_fiber.specs.declared.machine.Machine.{Machine}
+use Rattle.fx_fiber.specs.Machine.{loop_of, inner, unwinding, progress_of}
+use Rattle.fx_fiber.specs.Sound.{IsSoundMachine}
+use Rattle.fx_fiber.specs.Methods.{IsSame, Makes, MakesRule, Interrupts, IsEvaluating, IsLeafNode, IsEntered, IsGoing, is_canceled_node}
+use Rattle.fx_fiber.specs.Methods.{is_open_machine, must_cancel_machine, IsInterrupted, ComesFirst, Advances}
+use Rattle.fx_fiber.specs.Calls.{PortCalls}
+use Rattle.fx_fiber.specs.MakesStep.{looks_first}
+use Rattle.fx_fiber.proofs.Leaves.{canceled_at}
+use Rattle.fx_fiber.proofs.Looks.{looks_first_before, none_due, not_due_after, due_where_open, asks_quietly, local_is_unseen, local_is_own}
+
+-- a fiber inside all contexts, at `canceled` or not
+pub record IsInside (nodes : List Node) (s : Machine) (at_canceled : Bool) : Type 0 where
+  pub sound : IsSoundMachine nodes s
+  pub going : IsGoing s.focus
+  pub entered : IsEntered nodes s.focus
+  pub canceled : is_canceled_form (inner nodes s.registers s.focus) ≡ at_canceled
+
+pub inside_leaf : (nodes : List Node) (s : Machine) (id : NodeId) (n : Node) (b : Bool) → IsEvaluating nodes s id n → IsLeafNode (Some n)
+    → b ≡ is_canceled_node n → IsInside nodes s b
+inside_leaf nodes s id n b at leaf e = record {
+  sound = at.sound;
+  going = rw at.focus tt;
+  entered = rw (at.focus, at.node) leaf;
+  canceled = canceled_at nodes s id n at ∙ sym e;
+}
+
+pub inside_result : (nodes : List Node) (s : Machine) (v : Done) → IsSoundMachine nodes s → s.focus ≡ Return v → IsInside nodes s false
+inside_result nodes s v sound e = record { sound = sound; going = rw e tt; entered = rw e tt; canceled = rw e refl }
+
+pub inside_loop : (nodes : List Node) (s : Machine) (id : NodeId) (turn : ℕ) → IsSoundMachine nodes s → s.focus ≡ Turn id turn → IsInside nodes s false
+inside_loop nodes s id turn sound e = record { sound = sound; going = rw e tt; entered = rw e tt; canceled = rw e (by_node (slice_get nodes id.0)) }
+  where
+    by_node : (o : Option Node) → is_canceled_form (loop_of nodes s.registers o turn) ≡ false
+    by_node (Some (node.For i n a)) = refl
+    by_node _ = refl
+
+-- the test of cancellation is that of the fiber
+due_is : (nodes : List Node) (s : Machine) (b : Bool) → IsInside nodes s b → (is_open_machine s && (s.known || b)) ≡ must_cancel_machine nodes s
+due_is nodes s b inside = rw inside.canceled refl
+
+pub same_trans : (nodes : List Node) (a b c : Machine) → IsSame nodes a b → IsSame nodes b c → IsSame nodes a c
+same_trans nodes a b c h k = record { sound = k.sound; progress = k.progress ∙ h.progress; counts = k.counts ∙ h.counts }
+
+pub same_here : (nodes : List Node) (s : Machine) → IsSoundMachine nodes s → IsSame nodes s s
+same_here nodes s sound = record { sound = sound; progress = refl; counts = refl }
+
+-- what is made of a fiber that has come no further is made of it
+makes_before : (nodes : List Node) (old s : Machine) (m : Made) (s' : Machine) → IsSame nodes old s → Makes nodes s m s' → Makes nodes old m s'
+makes_before nodes old s made.Waits s' same h =
+    let known : s.known ≡ old.known = ap (λ (c : Counts). c.known) same.counts in
+    record {
+      leaf = rw same.progress at h.leaf;
+      free = rw (known, same.progress) at h.free;
+      same = same_trans nodes old s s' same h.same;
+    }
+makes_before nodes old s made.Yielded s' same h = (rw same.progress at h.0, rw (same.counts, same.progress) at h.1)
+makes_before nodes old s made.Silent s' same h = (rw same.progress at h.0, rw (same.counts, same.progress) at h.1)
+makes_before nodes old s (made.Shows e) s' same h = rw (same.counts, same.progress) at h
+
+module _ {P S : Type 0} (calls : PortCalls P S) (agrees : P → List Deed → Type 0) (nodes : List Node) (old s : Machine) (b : Bool) (p p' : P)
+    (sh sh' : S) (same : IsSame nodes old s) (inside : IsInside nodes s b) where
+  -- what comes first interrupts the fiber
+  pub is_interrupted : (i : Interruption) → ComesFirst calls (is_open_machine s) (is_open_machine s && (s.known || b)) (Some i) p sh p' sh'
+      → IsInterrupted nodes s i
+  is_interrupted Cancellation first =
+      record { sound = inside.sound; going = inside.going; entered = inside.entered; opened = first.0; due = sym (due_is nodes s b inside) ∙ first.1 }
+  is_interrupted Request first =
+      record { sound = inside.sound; going = inside.going; entered = inside.entered; opened = first.0; due = sym (due_is nodes s b inside) ∙ first.1 }
+
+  pub interrupted_advances : (i : Interruption) (m : Made) (s' : Machine)
+      → ComesFirst calls (is_open_machine s) (is_open_machine s && (s.known || b)) (Some i) p sh p' sh'
+      → (Some i ≡ Some Request → (deeds : List Deed) → agrees p deeds → agrees p' (deeds ++ Saw ∷ [])) → Interrupts nodes s i m s'
+      → Advances calls agrees nodes old p sh m s' p' sh'
+  interrupted_advances Cancellation m s' first saw h =
+      let due : looks_first old.known (progress_of nodes old) ≡ false = looks_first_before nodes old s same inside.sound inside.going inside.entered
+      ∙ not_due_after _ _ (sym (due_is nodes s b inside) ∙ first.1) in
+      rw h.shows
+      (record {
+        sound = h.sound;
+        rule = makes_before nodes old s (made.Shows event.Cancelled) s' same (rw h.shows at h.rule);
+        own = tt;
+        asks = (none_due calls _ _ _ due, first.2, first.3);
+        saw = λ e. absurd (cc);
+      })
+  interrupted_advances Request m s' first saw h =
+      rw h.shows
+      (record {
+        sound = h.sound;
+        rule = makes_before nodes old s (made.Shows event.Seen) s' same (rw h.shows at h.rule);
+        own = tt;
+        asks = first.2;
+        saw = λ e. saw refl;
+      })
+
+  -- cancellation is not due where nothing comes first
+  pub is_free : ComesFirst calls (is_open_machine s) (is_open_machine s && (s.known || b)) None p sh p' sh' → must_cancel_machine nodes s ≡ false
+  is_free first = sym (due_is nodes s b inside) ∙ first.0
+
+  pub rule_advances : (m : Made) (s' : Machine) → ComesFirst calls (is_open_machine s) (is_open_machine s && (s.known || b)) None p sh p' sh'
+      → MakesRule nodes s m s' → Advances calls agrees nodes old p sh m s' p' sh'
+  rule_advances m s' first made =
+      let due : looks_first old.known (progress_of nodes old) ≡ is_open_machine s =
+      looks_first_before nodes old s same inside.sound inside.going inside.entered ∙ due_where_open _ _ (is_free first) in
+      record {
+        sound = made.sound;
+        rule = makes_before nodes old s m s' same made.rule;
+        own = local_is_own m made.is_local;
+        asks = asks_quietly calls _ m p p' sh sh' made.is_local (rw due first.1) first.2 first.3;
+        saw = λ e. absurd (local_is_unseen m made.is_local e);
+      }
+
+-- between two clean-ups nothing comes first
+pub unwinding_advances : {P S : Type 0} (calls : PortCalls P S) (agrees : P → List Deed → Type 0) (nodes : List Node) (s : Machine) (m : Made)
+    (s' : Machine) (p : P) (sh : S)
+    → s.focus ≡ Unwinding → MakesRule nodes s m s' → Advances calls agrees nodes s p sh m s' p sh
+unwinding_advances calls agrees nodes s m s' p sh e made = record {
+  sound = made.sound;
+  rule = made.rule;
+  own = local_is_own m made.is_local;
+  asks = asks_quietly calls _ m p p sh sh made.is_local (none_due calls _ _ _ (rw e (by_left s.cleanups))) refl refl;
+  saw = λ e. absurd (local_is_unseen m made.is_local e);
+}
+  where
+    by_left : (left : Option Unwound) → looks_first s.known (unwinding nodes s.registers left) ≡ false
+    by_left None = refl
+    by_left (Some c) = refl

@@ -1,5 +1,0 @@
-use Rattle.fx_fiber.proofs.PlainCode.{code_is_plain}
-use Rattle.fx_fiber.proofs.mask_laws.code_is_plain.Goals as goal
-
-pub returns : goal.returns
-returns c = code_is_plain

@@ -1,0 +1,142 @@
+//! The table: which rule is made, by the place and the innermost context.
+ghost use Rattle.std.specs.Prelude.{◌≡◌, ◌^◌, ◌<◌, Some, [], IfOk, OnErr};
+ghost use Rattle.fx_term.specs.declared.node.Node.TheVariants as node;
+ghost use Rattle.fx_fiber.specs.Methods.{MakesRule, Interrupts, IsSame, StandsAt, IsBeforeTurn, ReturnsInto, ReturnsOut, IsReturning, IsLeafNode, IsInterrupted};
+
+use crate::machine::Machine;
+use crate::machine::interruption::Interruption;
+use crate::machine::made::Made;
+use fx_frames::Frame;
+use fx_term::{Arg, Code, Done, Memory, Node, NodeId};
+
+impl Machine {
+    ghost use Rattle.std.specs.Prelude.{List, slice_get};
+    ghost use Rattle.fx_term.specs.declared.node.Node.{Node};
+
+    /// The row of a leaf; at `never` there is none.
+    pub fn leaf_rule(&mut self, id: NodeId, node: Node) -> Result<Made, Memory>
+        ghost nodes: { List Node }
+        requires at { StandsAt nodes self.old id node }
+        requires leaf { IsLeafNode (Some node) }
+        requires countable { self.old.masks.entries < 2 ^ 63 }
+        ensures ok { IfOk result (λ made. MakesRule nodes self.old made self.new) }
+        ensures err { OnErr result (IsSame nodes self.old self.new) }
+    {
+        match node {
+            Node::Pure(value) => Ok(self.pure(value)),
+            Node::Raise(error) => Ok(self.raise(error)),
+            Node::Canceled => Ok(self.self_request()),
+            Node::Never => Ok(Made::Waits),
+            Node::Cede => Ok(self.cede()),
+            Node::If(value, part, other) => Ok(self.if_rule(value, part, other)),
+            Node::For(..) => Ok(self.for_begins(id)),
+            Node::Mask(name, part) => self.mask(name, part),
+            Node::Poll(name, part) => self.poll(name, part),
+            Node::Let(..) | Node::Handle(..) | Node::OnCancel(..) | Node::Bracket(..) => {
+                unreachable!()
+            }
+        }
+    }
+
+    /// The row of an `if`, by its number.
+    fn if_rule(&mut self, value: Arg, part: NodeId, other: NodeId) -> Made
+        ghost nodes: { List Node }
+        requires at { (id : NodeId) × StandsAt nodes self.old id (node.If value part other) }
+        ensures { MakesRule nodes self.old result self.new }
+    {
+        if self.registers.number_of(value) != 0 {
+            self.if_not_zero(part)
+        } else {
+            self.if_zero(other)
+        }
+    }
+
+    /// The row of a loop: a turn, or its end.
+    pub fn turn_rule(&mut self, id: NodeId, turn: u32, node: Node) -> Result<Made, Memory>
+        ghost nodes: { List Node }
+        requires at { IsBeforeTurn nodes self.old id turn node }
+        ensures ok { IfOk result (λ made. MakesRule nodes self.old made self.new) }
+        ensures err { OnErr result (IsSame nodes self.old self.new) }
+    {
+        let Node::For(name, count, part) = node else {
+            unreachable!();
+        };
+        if turn < count {
+            self.loop_turns(id, turn, name, part)
+        } else {
+            Ok(self.loop_ends())
+        }
+    }
+
+    /// The row of a result in its context, and the ends.
+    pub fn result_rule(&mut self, code: &Code, done: Done) -> Result<Made, Memory>
+        ghost nodes: { List Node }
+        requires code { code.now ≡ nodes }
+        requires given { IsReturning nodes self.old done }
+        requires countable { self.old.acquired < 2 ^ 63 }
+        ensures ok { IfOk result (λ made. MakesRule nodes self.old made self.new) }
+        ensures err { OnErr result (IsSame nodes self.old self.new) }
+    {
+        match (self.frames.last(), done) {
+            (Some(Frame::Let(name, b)), Done::Val(n)) => self.let_value(name, b, n),
+            (Some(Frame::Let(..)), Done::Err(_)) => Ok(self.let_error()),
+            (Some(Frame::Handle(..)), Done::Val(_)) => Ok(self.handle_value()),
+            (Some(Frame::Handle(name, b)), Done::Err(e)) => self.handle_error(name, b, e),
+            (Some(Frame::OnCancel(_)), _) => Ok(self.oncancel_ends()),
+            (Some(Frame::Masked), _) => Ok(self.masked_ends()),
+            (Some(Frame::Opened(r, took_off)), _) => Ok(self.opened_ends(r, took_off)),
+            (Some(Frame::Loop(id, turn)), Done::Val(_)) => Ok(self.turn_value(id, turn)),
+            (Some(Frame::Loop(..)), Done::Err(_)) => Ok(self.turn_error()),
+            (Some(Frame::Acquire(id)), Done::Val(n)) => self.acquire_rule(id, code.node(id), n),
+            (Some(Frame::Acquire(_)), Done::Err(_)) => Ok(self.acquire_fails()),
+            (Some(Frame::Using(k, release)), done) => self.used(k, release, done),
+            (Some(Frame::Releasing(k, used)), done) => Ok(self.released(k, used, done)),
+            (None, done) => Ok(self.end_rule(done)),
+        }
+    }
+
+    /// The row of a value in the acquire part of a bracket.
+    fn acquire_rule(&mut self, id: NodeId, node: Node, n: u64) -> Result<Made, Memory>
+        ghost nodes: { List Node }
+        requires inside { ReturnsInto nodes self.old (Frame.Acquire id) (Done.Val n) }
+        requires node { slice_get nodes id.0 ≡ Some node }
+        requires countable { self.old.acquired < 2 ^ 63 }
+        ensures ok { IfOk result (λ made. MakesRule nodes self.old made self.new) }
+        ensures err { OnErr result (IsSame nodes self.old self.new) }
+    {
+        let Node::Bracket(name, _, used, release) = node else {
+            unreachable!();
+        };
+        self.acquired(name, used, release, n)
+    }
+
+    /// The rule of a result in no context: the end of the fiber, or of a clean-up.
+    fn end_rule(&mut self, done: Done) -> Made
+        ghost nodes: { List Node }
+        requires given { ReturnsOut nodes self.old done }
+        ensures { MakesRule nodes self.old result self.new }
+    {
+        match (&self.cleanups, done) {
+            (Some(unwound), _) => match unwound.resource {
+                Some(number) => self.release_ends(number),
+                None => self.finalizer_ends(),
+            },
+            (None, Done::Val(n)) => self.succeeds(n),
+            (None, Done::Err(e)) => self.errs(e),
+        }
+    }
+
+    /// Cancellation, or a request that is seen, in place of a row.
+    pub fn interrupted(&mut self, interruption: Interruption) -> Result<Made, Memory>
+        ghost nodes: { List Node }
+        requires { IsInterrupted nodes self.old interruption }
+        ensures ok { IfOk result (λ made. Interrupts nodes self.old interruption made self.new) }
+        ensures err { OnErr result (IsSame nodes self.old self.new) }
+        ensures cancellation { OnErr result (interruption ≡ Interruption.Cancellation) }
+    {
+        match interruption {
+            Interruption::Cancellation => self.cancelled(),
+            Interruption::Request => Ok(self.seen()),
+        }
+    }
+}

@@ -1,0 +1,86 @@
+//! The rules of `bracket`, one method each, named as in the table.
+ghost use Rattle.std.specs.Prelude.{◌≡◌, ◌^◌, ◌<◌};
+ghost use Rattle.fx_fiber.specs.Row.{after_release};
+ghost use Rattle.fx_fiber.specs.Methods.{MakesRule, IsSame, ReturnsInto, IsBracketAt};
+
+use crate::machine::Machine;
+use crate::machine::focus::Focus;
+use crate::machine::made::Made;
+use fx_frames::Frame;
+use fx_term::{Done, Event, Memory, NodeId};
+
+/// The result of a bracket whose release ended so: an error of the release is raised where the use
+/// succeeded, and is dropped where the use erred.
+fn after_release(released: Done, used: Done) -> Done
+    ensures { result ≡ after_release released used }
+{
+    match (released, used) {
+        (Done::Err(e), Done::Val(_)) => Done::Err(e),
+        _ => used,
+    }
+}
+
+impl Machine {
+    ghost use Rattle.std.specs.Prelude.{ℕ, List, IfOk, OnErr};
+    ghost use Rattle.fx_term.specs.declared.node.Node.{Node};
+
+    /// A value of the acquire part is a resource, by the number of those acquired before. The use
+    /// begins, no longer sealed, with the value put for the name in it and in the release.
+    pub fn acquired(
+        &mut self,
+        name: Option<u32>,
+        used: NodeId,
+        release: NodeId,
+        n: u64,
+    ) -> Result<Made, Memory>
+        ghost nodes: { List Node }
+        requires inside { (bracket : NodeId) × IsBracketAt nodes bracket name used release × ReturnsInto nodes self.old (Frame.Acquire bracket) (Done.Val n) }
+        requires countable { self.old.acquired < 2 ^ 63 }
+        ensures ok { IfOk result (λ made. MakesRule nodes self.old made self.new) }
+        ensures err { OnErr result (IsSame nodes self.old self.new) }
+    {
+        self.registers.bind(name, n)?;
+        let number = self.acquired;
+        self.frames.replace(Frame::Using(number, release));
+        self.masks.leave();
+        self.acquired = number + 1;
+        self.focus = Focus::Eval(used);
+        Ok(Made::Shows(Event::Acquired(number)))
+    }
+
+    /// An error of the acquire part is that of the bracket, and nothing is released.
+    pub fn acquire_fails(&mut self) -> Made
+        ghost nodes: { List Node }
+        requires { (bracket : NodeId) × (e : ℕ) × ReturnsInto nodes self.old (Frame.Acquire bracket) (Done.Err e) }
+        ensures { MakesRule nodes self.old result self.new }
+    {
+        let _ = self.frames.pop();
+        self.masks.leave();
+        Made::Silent
+    }
+
+    /// A use that has a result is followed by the release, which is sealed.
+    pub fn used(&mut self, resource: u64, release: NodeId, done: Done) -> Result<Made, Memory>
+        ghost nodes: { List Node }
+        requires inside { ReturnsInto nodes self.old (Frame.Using resource release) done }
+        ensures ok { IfOk result (λ made. MakesRule nodes self.old made self.new) }
+        ensures err { OnErr result (IsSame nodes self.old self.new) }
+    {
+        self.masks.seal()?;
+        self.frames.replace(Frame::Releasing(resource, done));
+        self.focus = Focus::Eval(release);
+        Ok(Made::Shows(Event::Begin(resource)))
+    }
+
+    /// A release that has a result ends the bracket.
+    pub fn released(&mut self, resource: u64, used: Done, done: Done) -> Made
+        ghost nodes: { List Node }
+        requires inside { ReturnsInto nodes self.old (Frame.Releasing resource used) done }
+        ensures { MakesRule nodes self.old result self.new }
+    {
+        let _ = self.frames.pop();
+        self.masks.leave();
+        self.focus = Focus::Return(after_release(done, used));
+        Made::Shows(Event::End(resource))
+    }
+}

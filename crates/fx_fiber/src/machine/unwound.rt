@@ -1,0 +1,28 @@
+//! The clean-ups of a fiber that was canceled.
+ghost use Rattle.std.specs.Prelude.{◌≡◌, ◌∷◌, [], MatchOption};
+ghost use Rattle.fx_fiber.specs.Machine.{resource_of};
+
+use fx_frames::{Cleanup, Unwinding};
+
+/// The clean-ups of a fiber that was canceled, and which it is in.
+#[derive(Drop)]
+pub struct Unwound {
+    /// The number of the resource that is released, where the clean-up is a release.
+    pub resource: Option<u64>,
+    /// The clean-ups that are left.
+    pub left: Unwinding,
+}
+
+impl Unwound {
+    /// Takes the next clean-up, which is the one that the fiber is in from now on.
+    pub fn next(&mut self) -> Option<Cleanup>
+        ensures { MatchOption result ((self.old.left ≡ []) × (self.new.left ≡ [])) (λ cleanup. (self.old.left ≡ cleanup ∷ self.new.left) × (self.new.resource ≡ resource_of cleanup)) }
+    {
+        let next = self.left.next();
+        self.resource = match next {
+            Some(Cleanup::Release(number, _)) => Some(number),
+            Some(Cleanup::Finalizer(_)) | None => None,
+        };
+        next
+    }
+}

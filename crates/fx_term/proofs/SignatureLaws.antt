@@ -1,0 +1,68 @@
+-- What the term of a node is, said by the node's signature: one law for each property. Of the laws on trees and walks these alone look at the forms.
+use Rattle.std.proofs.Common.{◌≡◌, ℕ, ◌*◌, Option, Some, refl, ap, arith}
+use Rattle.std.specs.List.{AllByRecursion}
+use Rattle.fx_term.specs.declared.name_kind.NameKind.{NameKind}
+use Rattle.fx_term.specs.declared.node.Node.{Node}
+use Rattle.fx_term.specs.declared.node.Node.TheVariants as node
+use Rattle.fx_term.specs.declared.code.signature.Part.{Part}
+use Rattle.fx_term.specs.Signature.{uses, parts}
+use Rattle.fx_term.specs.Term.{Term}
+use Rattle.fx_term.specs.Scope.{IsNew, bound_under, with_named, HasLevels, IsScoped}
+use Rattle.fx_term.specs.Turns.{turns_inside, HasFewTurns}
+use Rattle.fx_term.specs.WellPlaced.{IsUseBelow, IsUseOf, IsNextBinder, HasFewTurnsInside}
+use Rattle.fx_term.specs.Need.{need}
+use Rattle.fx_term.specs.Meaning.{assemble}
+
+module _ (term : ℕ → Term) where
+  -- each binder has the number of binders in whose scope it stands, and each name is below the bound
+  module _ (bound : ℕ) where
+    abbrev pub HasPartLevels : Part → Type 0
+    HasPartLevels p = IsNextBinder bound p × HasLevels (bound_under bound p.binder) (term p.node.0)
+
+    pub node_levels : (n : Node) → AllByRecursion (IsUseBelow bound) (uses n) → AllByRecursion HasPartLevels (parts n)
+        → HasLevels bound (assemble (Some n) term)
+    node_levels node.Canceled us ps = tt
+    node_levels _ us ps = assumption
+
+    pub levels_of_node : (n : Node) → HasLevels bound (assemble (Some n) term)
+        → AllByRecursion (IsUseBelow bound) (uses n) × AllByRecursion HasPartLevels (parts n)
+    levels_of_node node.Canceled h = (tt, tt)
+    levels_of_node _ h = assumption
+
+  -- each name is in scope and of its kind, and no binder binds a name that is in scope
+  module _ (scope : ℕ → Option NameKind) where
+    abbrev pub IsPartScoped : Part → Type 0
+    IsPartScoped p = IsNew scope p.binder × IsScoped (with_named p.binder p.kind scope) (term p.node.0)
+
+    pub node_scoped : (n : Node) → AllByRecursion (IsUseOf scope) (uses n) → AllByRecursion IsPartScoped (parts n)
+        → IsScoped scope (assemble (Some n) term)
+    node_scoped node.Canceled us ps = tt
+    node_scoped _ us ps = assumption
+
+    pub scoped_of_node : (n : Node) → IsScoped scope (assemble (Some n) term)
+        → AllByRecursion (IsUseOf scope) (uses n) × AllByRecursion IsPartScoped (parts n)
+    scoped_of_node node.Canceled h = (tt, tt)
+    scoped_of_node _ h = assumption
+
+  -- no loop's part has too many turns
+  module _ (turns : ℕ) where
+    abbrev pub HasPartFewTurns : Part → Type 0
+    HasPartFewTurns p = HasFewTurnsInside turns p × HasFewTurns (turns_inside turns p.count) (term p.node.0)
+
+    pub node_turns : (n : Node) → AllByRecursion HasPartFewTurns (parts n) → HasFewTurns turns (assemble (Some n) term)
+    node_turns node.Canceled ps = tt
+    node_turns _ ps = assumption
+
+    pub turns_of_node : (n : Node) → HasFewTurns turns (assemble (Some n) term) → AllByRecursion HasPartFewTurns (parts n)
+    turns_of_node node.Canceled h = tt
+    turns_of_node _ h = assumption
+
+-- a node's term depends on the terms of its parts alone
+pub node_same : (n : Node) (f g : ℕ → Term) → AllByRecursion (λ (p : Part). f p.node.0 ≡ g p.node.0) (parts n) → assemble (Some n) f ≡ assemble (Some n) g
+node_same node.Canceled f g h = refl
+node_same _ f g h = cc
+
+-- no node uses a fiber number of its own
+pub node_needs_none : (n : Node) (term : ℕ → Term) → AllByRecursion (λ (p : Part). need (term p.node.0) ≡ 0) (parts n) → need (assemble (Some n) term) ≡ 0
+node_needs_none (node.For i c a) term h = omega (arith, ap (λ k. c * k) h.0)
+node_needs_none _ term h = omega arith

@@ -1,0 +1,45 @@
+-- The tests at a node, where names of these kinds are in scope and the loops round it run it so many times.
+use Rattle.std.specs.Prelude.{ℕ, Option, List, length, slice_get, All}
+use Rattle.fx_term.specs.declared.name_kind.NameKind.{NameKind}
+use Rattle.fx_term.specs.declared.node.Node.{Node}
+use Rattle.fx_term.specs.declared.code.signature.Use.{Use}
+use Rattle.fx_term.specs.declared.code.signature.Part.{Part}
+use Rattle.fx_term.specs.Signature.{uses_of, parts_of}
+use Rattle.fx_term.specs.Turns.{HasFewInside}
+use Rattle.fx_term.specs.Scope.{IsArgBelow, IsArgOf, IsBinderAt}
+use Rattle.fx_term.specs.Walk.{Spot}
+
+-- what is used is a number, or a name below the bound
+abbrev pub IsUseBelow : ℕ → Use → Type 0
+IsUseBelow bound u = IsArgBelow bound u.arg
+
+-- it is a number, or a name of the kind that it is used as
+abbrev pub IsUseOf : (ℕ → Option NameKind) → Use → Type 0
+IsUseOf scope u = IsArgOf u.kind scope u.arg
+
+-- the binder of a part that stands in the scope of that many binders
+abbrev pub IsNextBinder : ℕ → Part → Type 0
+IsNextBinder bound p = IsBinderAt bound p.binder
+
+-- a part of what is run so many times has few turns, if a loop repeats it
+abbrev pub HasFewTurnsInside : ℕ → Part → Type 0
+HasFewTurnsInside turns p = HasFewInside turns p.count
+
+-- a binder of the node has the next slot, and each slot that it uses is that of a name in scope
+pub record HasRightSlots (kinds : List NameKind) (o : Option Node) : Type 0 where
+  pub binders : All (IsNextBinder (length kinds)) (parts_of o)
+  pub uses : All (IsUseBelow (length kinds)) (uses_of o)
+
+-- each name that the node uses is of the kind that it uses it as
+abbrev pub HasRightKinds : List NameKind → Option Node → Type 0
+HasRightKinds kinds o = All (IsUseOf (λ x. slice_get kinds x)) (uses_of o)
+
+-- the node's part, if it is a loop, has no more than the most turns, where the loop itself is run so many times
+abbrev pub HasRightTurns : ℕ → Option Node → Type 0
+HasRightTurns turns o = All (HasFewTurnsInside turns) (parts_of o)
+
+-- the node's slots are right where it stands, its names are of the right kinds, and a loop's part has few turns
+pub record IsWellPlaced (nodes : List Node) (s : Spot) : Type 0 where
+  pub slots : HasRightSlots s.kinds (slice_get nodes s.id)
+  pub kinds : HasRightKinds s.kinds (slice_get nodes s.id)
+  pub turns : HasRightTurns s.turns (slice_get nodes s.id)

@@ -1,0 +1,109 @@
+//! The binding signature of each form: the names that a node uses, and its parts in the order of the
+//! text, each with what is bound in it. Every test of a code goes over these two tables.
+ghost use Rattle.std.specs.Prelude.{◌≡◌, Some};
+ghost use Rattle.fx_term.specs.Signature.{uses, parts, present, use_as, plain, part_under, repeated};
+
+use crate::name_kind::NameKind;
+use crate::node::{Arg, Node, NodeId};
+
+/// A number or a name that a node uses.
+#[derive(Clone, Copy)]
+pub(crate) struct Use {
+    pub arg: Arg,
+    /// What a name is to stand for there.
+    pub kind: NameKind,
+}
+
+/// A part of a node.
+#[derive(Clone, Copy)]
+pub(crate) struct Part {
+    pub node: NodeId,
+    /// The slot of the name that is bound in it, if one is.
+    pub binder: Option<u32>,
+    /// What that name stands for.
+    pub kind: NameKind,
+    /// The count of the loop that repeats it, if one does.
+    pub count: Option<u32>,
+}
+
+/// A number, or a name that is to stand for this.
+fn use_as(kind: NameKind, arg: Arg) -> Option<Use>
+    ensures { result ≡ Some (use_as kind arg) }
+{
+    Some(Use { arg, kind })
+}
+
+/// A part in which nothing is bound.
+fn plain(node: NodeId) -> Option<Part>
+    ensures { result ≡ Some (plain node) }
+{
+    part_under(None, NameKind::Value, node)
+}
+
+/// A part in the scope of a binder.
+fn part_under(binder: Option<u32>, kind: NameKind, node: NodeId) -> Option<Part>
+    ensures { result ≡ Some (part_under binder kind node) }
+{
+    Some(Part {
+        node,
+        binder,
+        kind,
+        count: None,
+    })
+}
+
+/// A part that is repeated in the scope of a binder of its turn's number.
+fn repeated(slot: u32, count: u32, node: NodeId) -> Option<Part>
+    ensures { result ≡ Some (repeated slot count node) }
+{
+    Some(Part {
+        node,
+        binder: Some(slot),
+        kind: NameKind::Value,
+        count: Some(count),
+    })
+}
+
+impl Node {
+    /// The names that it uses.
+    pub(crate) fn uses(self) -> [Option<Use>; 1]
+        ensures { present result ≡ uses self }
+    {
+        match self {
+            Node::Pure(v) | Node::Raise(v) | Node::If(v, ..) => [use_as(NameKind::Value, v)],
+            Node::Poll(p, _) => [use_as(NameKind::Poll, Arg::Slot(p))],
+            Node::Canceled
+            | Node::Never
+            | Node::Cede
+            | Node::Let(..)
+            | Node::Handle(..)
+            | Node::For(..)
+            | Node::Mask(..)
+            | Node::OnCancel(..)
+            | Node::Bracket(..) => [None],
+        }
+    }
+
+    /// Its parts in the order of the text.
+    pub(crate) fn parts(self) -> [Option<Part>; 3]
+        ensures { present result ≡ parts self }
+    {
+        match self {
+            Node::Pure(_) | Node::Raise(_) | Node::Canceled | Node::Never | Node::Cede => {
+                [None, None, None]
+            }
+            Node::Let(x, a, b) | Node::Handle(a, x, b) => {
+                [plain(a), part_under(x, NameKind::Value, b), None]
+            }
+            Node::If(_, a, b) | Node::OnCancel(a, b) => [plain(a), plain(b), None],
+            Node::For(i, count, a) => [repeated(i, count, a), None, None],
+            Node::Mask(p, a) => [part_under(Some(p), NameKind::Poll, a), None, None],
+            Node::Poll(_, a) => [plain(a), None, None],
+            Node::Bracket(x, acquire, used, release) => [
+                plain(acquire),
+                part_under(x, NameKind::Value, used),
+                part_under(x, NameKind::Value, release),
+            ],
+        }
+    }
+}

@@ -1,5 +1,0 @@
-use Rattle.fx_text.proofs.ScriptLaws.{reading_law}
-use Rattle.fx_text.proofs.laws.reading_is_the_grammar.Goals as goal
-
-pub returns : goal.returns
-returns c = reading_law

@@ -1,0 +1,26 @@
+-- The limits of a text, and of what is made of it.
+use Rattle.std.specs.Prelude.{ℕ, ◌+◌, ◌*◌}
+
+-- the most bytes of a text
+abbrev pub most_bytes : ℕ
+most_bytes = 65536
+
+-- the most `(` that may be open inside main, which has the first of 100
+abbrev pub most_open : ℕ
+most_open = 99
+
+-- the most nodes: a byte pays for eight
+abbrev pub most_nodes : ℕ
+most_nodes = 8 * most_bytes
+
+-- of the nodes that the bytes of a term pay for, so many are left over: a form of two terms may make twice as many
+abbrev pub term_spares : ℕ
+term_spares = 23
+
+-- and of those that the bytes after the word of a form pay for
+abbrev pub form_spares : ℕ
+form_spares = 7
+
+-- at most so many nodes are made over so many parts: what these leave over, and one
+abbrev pub most_made : ℕ → ℕ
+most_made parts = 1 + term_spares * parts

@@ -1,0 +1,47 @@
+-- The scope of a part of a script: the names there, and how often the loops round it run it.
+use Rattle.std.specs.Prelude.{ℕ, Bool, true, false, ◌&&◌, Option, List, [], ◌∷◌, ◌++◌, length, bytes_eq}
+use Rattle.std.specs.List.{list_any, position}
+use Rattle.fx_term.specs.declared.name_kind.NameKind.{NameKind}
+use Rattle.fx_term.specs.declared.name_kind.NameKind.TheVariants as kind
+use Rattle.fx_term.specs.Turns.{turns_of_loop}
+
+-- a name in scope
+pub record Bound : Type 0 where
+  pub name : List ℕ
+  pub kind : NameKind
+
+-- the names in scope, the outermost first, and the product of the counts of the loops round it
+pub record Scope : Type 0 where
+  pub names : List Bound
+  pub turns : ℕ
+
+-- no name is in scope, inside no loop
+abbrev pub top : Scope
+top = record { names = []; turns = 1 }
+
+-- the number of the name that the next binder binds
+abbrev pub slot : Scope → ℕ
+slot p = length p.names
+
+-- in the scope of one name more
+abbrev pub under : NameKind → List ℕ → Scope → Scope
+under k x p = record p { names = p.names ++ (record { name = x; kind = k }) ∷ [] }
+
+-- inside a loop of that count
+abbrev pub repeated : ℕ → Scope → Scope
+repeated n p = record p { turns = turns_of_loop p.turns n }
+
+abbrev pub same_kind : NameKind → NameKind → Bool
+same_kind kind.Value kind.Value = true
+same_kind kind.Poll kind.Poll = true
+same_kind kind.Fiber kind.Fiber = true
+same_kind kind.OtherPoll kind.OtherPoll = true
+same_kind _ _ = false
+
+-- the name is one of these
+abbrev pub is_taken : List ℕ → List Bound → Bool
+is_taken x names = list_any (λ b. bytes_eq b.name x) names
+
+-- the number of a name of that kind among these
+abbrev pub slot_of : NameKind → List ℕ → List Bound → Option ℕ
+slot_of k x names = position (λ b. bytes_eq b.name x && same_kind b.kind k) names

@@ -1,0 +1,104 @@
+//! Reads the forms that do one term after another.
+ghost use Rattle.std.specs.Prelude.{◌≤◌, ◌+◌, ◌∷◌, length, IfOk};
+ghost use Rattle.fx_term.specs.Tree.{ChildrenComeFirst};
+ghost use Rattle.fx_text.specs.Limits.{most_nodes, form_spares};
+ghost use Rattle.fx_text.specs.Head.{ReadsHead};
+ghost use Rattle.fx_text.specs.Shape.{shape};
+ghost use Rattle.fx_text.specs.Reading.{group_at, parts_at};
+ghost use Rattle.fx_text.specs.Trees.{AllBelow};
+ghost use Rattle.fx_text.specs.ReaderState.{scope_of, ids, IsReady, ReadsTerm, Joins};
+
+use crate::fault::ReadError;
+use crate::form::Form;
+use crate::part::{binder, closing};
+use crate::reader::Reader;
+use crate::reader::head::{Double, Head, Inner};
+use fx_term::{Arg, NameKind, Node, NodeId};
+use std::alloc::AllocError;
+
+impl<'a> Reader<'a> {
+    pub(super) fn let_head(&self, bytes: &'a [u8]) -> Result<(Head<'a>, &'a [u8]), ReadError>
+        requires { IsReady 2 self.now bytes.now }
+        ensures { ReadsHead Form.Let self.now bytes.now result }
+    {
+        let (x, rest) = binder(&self.names, bytes)?;
+        let slot = self.names.len() as u32;
+        Ok((
+            Head::Two(Inner::Name(NameKind::Value, x), Double::Let(slot)),
+            rest,
+        ))
+    }
+
+    #[cycle(terms)]
+    pub(super) fn handle(
+        &mut self,
+        room: usize,
+        bytes: &'a [u8],
+    ) -> Result<(NodeId, &'a [u8]), ReadError>
+        requires { IsReady 2 self.old bytes.now }
+        ensures { ReadsTerm form_spares self.old self.new bytes.now
+            (parts_at (group_at room) (shape Form.Handle (scope_of self.old)) bytes.now) result }
+    {
+        let (a, rest) = self.term(room, bytes)?;
+        let (x, rest) = binder(&self.names, rest)?;
+        let slot = self.names.len() as u32;
+        let (b, rest) = self.term_in(Inner::Name(NameKind::Value, x), room, rest)?;
+        let rest = closing(rest)?;
+        Ok((self.add(Node::Handle(a, Some(slot), b))?, rest))
+    }
+
+    #[cycle(terms)]
+    pub(super) fn forcer(
+        &mut self,
+        room: usize,
+        bytes: &'a [u8],
+    ) -> Result<(NodeId, &'a [u8]), ReadError>
+        requires { IsReady 2 self.old bytes.now }
+        ensures { ReadsTerm form_spares self.old self.new bytes.now
+            (parts_at (group_at room) (shape Form.Forcer (scope_of self.old)) bytes.now) result }
+    {
+        let (forced, rest) = self.term(room, bytes)?;
+        let zero = self.add(Node::Pure(Arg::Number(0)))?;
+        let handled = self.add(Node::Handle(forced, None, zero))?;
+        let (then, rest) = self.term(room, rest)?;
+        let rest = closing(rest)?;
+        Ok((self.add(Node::Let(None, handled, then))?, rest))
+    }
+
+    #[cycle(terms)]
+    pub(super) fn seq(
+        &mut self,
+        room: usize,
+        bytes: &'a [u8],
+    ) -> Result<(NodeId, &'a [u8]), ReadError>
+        requires { IsReady 2 self.old bytes.now }
+        ensures { ReadsTerm form_spares self.old self.new bytes.now
+            (parts_at (group_at room) (shape Form.Seq (scope_of self.old)) bytes.now) result }
+    {
+        let (first, rest) = self.term(room, bytes)?;
+        let (others, rest) = self.terms(room, rest)?;
+        let rest = closing(rest)?;
+        Ok((self.in_order(first, others)?, rest))
+    }
+
+    /// The terms in order, made one from the last to the first: each but the last stands in a `let`
+    /// that drops its value.
+    pub(crate) fn in_order(
+        &mut self,
+        first: NodeId,
+        mut others: Vec<NodeId>,
+    ) -> Result<NodeId, AllocError>
+        requires tree { ChildrenComeFirst self.old.nodes.items }
+        requires below { AllBelow (length self.old.nodes.items) (ids (first ∷ others.items)) }
+        requires small { length self.old.nodes.items + length others.items ≤ most_nodes }
+        ensures { IfOk result (λ root. Joins self.old self.new first others.items root.0) }
+    {
+        let Some(mut root) = others.pop() else {
+            return Ok(first);
+        };
+        while let Some(part) = others.pop() {
+            root = self.add(Node::Let(None, part, root))?;
+        }
+        self.add(Node::Let(None, first, root))
+    }
+}
