@@ -13,7 +13,7 @@ use Rattle.fx_fiber.proofs.Mapped.{mapped}
 use Rattle.fx_fiber.proofs.Nexts.{Next, next, next_is_step}
 use Rattle.fibers.proofs.Gone.{Gone, gone_after, GoesOut, is_out, step_before, main_ends}
 
--- how a fiber went out that is at its end, or at `never` with or without a cancellation due
+-- how a fiber halted that is at its end, or at `never` with or without a cancellation due
 abbrev out_at : Progress → Option Term → Bool → Option Ending
 out_at (HasEnded o) leaf must = Some (Ended o)
 out_at p (Some Never) false = Some Blocked

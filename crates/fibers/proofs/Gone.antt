@@ -1,4 +1,4 @@
--- A fiber that went out: a run from somewhere that found no request, and its ending.
+-- A fiber that halted: a run from somewhere that saw no request, and its ending.
 use Rattle.std.proofs.Common.{List, [], ◌∷◌, All, refl}
 use Rattle.std.proofs.lemmas.List.Elements.{All-nil, All-cons}
 use Rattle.fx_term.specs.Term.{Term}

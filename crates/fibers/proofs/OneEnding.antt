@@ -20,7 +20,7 @@ abbrev gone : List Label → Ending → Gone
 gone ls e = record { labels = ls; ending = e }
 
 module _ (names : ℕ → Type 0) where
-  -- a fiber that went out makes no step
+  -- a fiber that halted makes no step
   no_step : (c d : Counts) (p q : Progress) (l : Label) (e : Ending) → IsProgressOver names p → IsAt e c p → IsUnrequested l → Step c p l d q → ⊥
   no_step c d p q l e s at u step = let here = stays e c p at in let there = (step_is_next names step u s).next in cc
 

@@ -46,7 +46,7 @@ ran_one_more b trace longer c d p q l r step e u = record {
   traced = e ∙ ap (λ (es : List Event). es ++ events (l ∷ [])) r.traced ∙ sym (events_append r.labels (l ∷ []));
 }
 
--- a step that answers so made a rule
+-- a step that answers so took a rule of the table or an end
 pub made_a_rule : {a : Stepped} → (a ≡ Ended) ⊎ ((a ≡ Went) ⊎ (a ≡ Gave)) → a ≢ Waits
 made_a_rule (inl ended) e = cc
 made_a_rule (inr (inl went)) e = cc
@@ -54,7 +54,8 @@ made_a_rule (inr (inr gave)) e = cc
 
 module _ {P S : Type 0} (finishes : P → S → Outcome → P → S → Type 0) where
   -- where no look finds a request, no step finds one
-  unfound : (due : Bool) (leaf : Option Term) (l : Label) (a : Stepped) (p p' : P) (s s' : S) → Calls (alone_calls finishes) due leaf l a p s p' s' → IsUnrequested l
+  unfound : (due : Bool) (leaf : Option Term) (l : Label) (a : Stepped) (p p' : P) (s s' : S)
+      → Calls (alone_calls finishes) due leaf l a p s p' s' → IsUnrequested l
   unfound due leaf l a p p' s s' calls e = let found : FindsNothing p s true p' s' = rw e at calls.told in let never = found.0 in cc
 
   module _ (nodes : List Node) (old new : FiberView P) (s s' : S) where
@@ -128,4 +129,5 @@ module _ {P : Type 0} (nodes named : List Node) (same : nodes ≡ named) (f : Fi
       → IsEnding (root_term nodes) ending.Blocked
   is_blocked finishes new s s' a code e d r =
       let waits : OnlyWaits (alone_calls finishes) named f s new s' = rw e at d in
-      out_alone nodes ending.Blocked f.trace f.counts (progress nodes f) code (by_name r) (rw same (waits_at_never (alone_calls finishes) named f new s s' waits, waits.free))
+      out_alone nodes ending.Blocked f.trace f.counts (progress nodes f) code (by_name r)
+      (rw same (waits_at_never (alone_calls finishes) named f new s s' waits, waits.free))

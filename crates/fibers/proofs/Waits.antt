@@ -34,7 +34,7 @@ never_goes_on : (k : Bool) (c : Counts) (t : Term) (ends : Done → Next) (at_te
     → goes_on ends at_term (done_of t) (move k c t) ≡ None
 never_goes_on k c t ends at_term e = let u = never_unfinished t e in let m = never_moves k c t e in rw (u, m) refl
 
--- a fiber that went out makes no more steps
+-- a fiber that halted makes no more steps
 pub stays : (e : Ending) (c : Counts) (p : Progress) → IsAt e c p → next c p ≡ None
 stays (Ended o) c p h = rw h refl
 stays Blocked c (Runs t) h = let must = h.1 in rw must (never_goes_on (not (is_open t)) c t (end_next c) Runs (same_Some _ _ h.0))
@@ -42,7 +42,7 @@ stays Blocked c (CleansUp k t rest) h = never_goes_on true c t (cleaned_next k c
 stays Blocked c (Unwinds rest) h = let never = h.0 in absurd cc
 stays Blocked c (HasEnded o) h = let never = h.0 in absurd cc
 
--- it went out in one way
+-- it halted in one way
 pub one_way_out : (e f : Ending) (c : Counts) (p : Progress) → IsAt e c p → IsAt f c p → e ≡ f
 one_way_out (Ended o) (Ended q) c p h k = cc
 one_way_out (Ended o) Blocked c p h k = let never = rw h at k.0 in absurd cc

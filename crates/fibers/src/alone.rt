@@ -7,23 +7,9 @@ ghost use Rattle.fibers.specs.Ending.{IsEnding};
 
 use crate::ending::Ending;
 use fx_fiber::{Fiber, Port, Stepped, main_begin};
-use fx_term::{Begin, Code, Event, Memory, Outcome};
+use fx_term::{Begin, Code, CodeBrand, Event, Memory, Outcome};
 use std::alloc::Global;
 use std::marker::{Brand, PhantomData};
-
-/// Which code a fiber alone runs. Each call picks it.
-trait Naming {
-    ghost use Rattle.std.specs.Prelude.{List};
-    ghost use Rattle.fx_term.specs.declared.node.Node.{Node};
-
-    ghost nodes: { List Node };
-}
-
-impl Naming for Brand {
-    ghost use Rattle.std.specs.Prelude.{[]};
-
-    ghost nodes = { [] };
-}
 
 /// The outside of a fiber alone: nobody is in it.
 #[derive(Drop)]
@@ -31,13 +17,13 @@ struct Nobody;
 
 /// The port of a fiber that nobody requests. It notes how the fiber ended.
 #[derive(Drop)]
-struct AlonePort<J: Naming> {
+struct AlonePort<J: CodeBrand> {
     begin: Begin,
     ended: Option<Outcome>,
     of: PhantomData<J>,
 }
 
-impl<J: Naming> AlonePort<J> {
+impl<J: CodeBrand> AlonePort<J> {
     ghost use Rattle.std.specs.Prelude.{None};
 
     fn new(begin: Begin) -> Self
@@ -52,7 +38,7 @@ impl<J: Naming> AlonePort<J> {
     }
 }
 
-impl<J: Naming> Port for AlonePort<J> {
+impl<J: CodeBrand> Port for AlonePort<J> {
     ghost use Rattle.std.specs.Prelude.{◌≡◌, Some, is_some};
     ghost use Rattle.fibers.specs.Alone.{alone_calls, deeds_told};
 
@@ -96,7 +82,7 @@ fn last_outcome(trace: &[Event]) -> Outcome
 }
 
 /// Runs the main fiber of the code that the type names until it has ended or waits for good.
-fn run_named<J: Naming>(alloc: Global, code: &Code) -> Result<Ending, Memory>
+fn run_named<J: CodeBrand>(alloc: Global, code: &Code) -> Result<Ending, Memory>
     requires code { code.now ≡ J.nodes }
     ensures ending { IfOk result (λ ending. IsEnding (root_term code.now) ending) }
 {

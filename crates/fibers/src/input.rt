@@ -17,9 +17,12 @@ const PIECE: usize = 4096;
 fn read_piece<R: Read>(reader: &mut R, text: &mut Vec<u8>, room: usize) -> Result<usize, PlainFault>
     requires { 0 < room }
     ensures count { IfOk result (λ n. n ≤ room) }
-    ensures piece { IfOk result (λ n. TakesPiece (R.remaining reader.old) (R.remaining reader.new) text.old.items text.new.items n) }
-    ensures kept { IfErr result (λ fault. fault ≡ Read → Keeps (R.remaining reader.old) (R.remaining reader.new)) }
-    ensures most { IfErr result (λ fault. TakesAtMost room (R.remaining reader.old) (R.remaining reader.new)) }
+    ensures piece { IfOk result (λ n. TakesPiece
+        (R.remaining reader.old) (R.remaining reader.new) text.old.items text.new.items n) }
+    ensures kept { IfErr result
+        (λ fault. fault ≡ Read → Keeps (R.remaining reader.old) (R.remaining reader.new)) }
+    ensures most { IfErr result
+        (λ fault. TakesAtMost room (R.remaining reader.old) (R.remaining reader.new)) }
     ensures fault { IfErr result (λ fault. fault ≢ Write) }
 {
     let mut piece = [0u8; PIECE];
@@ -35,8 +38,10 @@ fn read_piece<R: Read>(reader: &mut R, text: &mut Vec<u8>, room: usize) -> Resul
 
 /// The text that the reader has left: all of it, or its first 65,537 bytes where it has more.
 pub(crate) fn read_text<R: Read>(alloc: Global, reader: &mut R) -> Result<Vec<u8>, PlainFault>
-    ensures text { IfOk result (λ text. TakesPrefix (R.remaining reader.old) (R.remaining reader.new) text.items) }
-    ensures fault { IfErr result (λ fault. FailsToRead fault (R.remaining reader.old) (R.remaining reader.new)) }
+    ensures text { IfOk result
+        (λ text. TakesPrefix (R.remaining reader.old) (R.remaining reader.new) text.items) }
+    ensures fault { IfErr result
+        (λ fault. FailsToRead fault (R.remaining reader.old) (R.remaining reader.new)) }
 {
     let mut text = Vec::new(alloc);
     while text.len() < MOST {

@@ -75,7 +75,8 @@ pub fn replay_text<R: Read, W: Write>(
     writer: &mut W,
 ) -> Result<u8, PlainFault>
     requires { picks.now ≡ [] }
-    ensures { Replays (R.remaining reader.old) (R.remaining reader.new) result (W.contents writer.old) (W.contents writer.new) }
+    ensures { Replays (R.remaining reader.old) (R.remaining reader.new) result
+        (W.contents writer.old) (W.contents writer.new) }
 {
     let text = read_text(alloc, reader)?;
     let answer = answer_to(alloc, &text)?;

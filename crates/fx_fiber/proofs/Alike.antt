@@ -52,8 +52,8 @@ module _ (low low' : ℕ) where
     bracket : {x : Option ℕ} {a a' u u' r r' : Term} → Alike a a' → IsBinderUsedAs kind.Value x u → Alike u u' → IsBinderUsedAs kind.Value x r → Alike r r'
         → Alike (term.Bracket x a u r) (term.Bracket x a' u' r')
     start : {h : ℕ} {a b b' : Term} → IsUsedAs kind.Fiber h b → Alike b b' → Alike (term.Start h a b) (term.Start h a b')
-    join : {f f' : Arg} {x e : ℕ} {a a' b b' d d' : Term} → AreArgs kind.Fiber f f' → IsUsedAs kind.Value x a → Alike a a' → IsUsedAs kind.Value e b → Alike b b'
-        → Alike d d' → Alike (term.Join f x a e b d) (term.Join f' x a' e b' d')
+    join : {f f' : Arg} {x e : ℕ} {a a' b b' d d' : Term} → AreArgs kind.Fiber f f' → IsUsedAs kind.Value x a → Alike a a'
+        → IsUsedAs kind.Value e b → Alike b b' → Alike d d' → Alike (term.Join f x a e b d) (term.Join f' x a' e b' d')
     cancel : {f f' : Arg} → AreArgs kind.Fiber f f' → Alike (term.Cancel f) (term.Cancel f')
     first : {f f' g g' : Arg} → AreArgs kind.Fiber f f' → AreArgs kind.Fiber g g' → Alike (term.First f g) (term.First f' g')
     offer : {q : ℕ} {v v' : Arg} → AreArgs kind.Value v v' → Alike (term.Offer q v) (term.Offer q v')
@@ -83,7 +83,8 @@ module _ (low low' : ℕ) where
   plain_alike s term.Canceled h g = canceled
   plain_alike s term.Never h g = never
   plain_alike s term.Cede h g = cede
-  plain_alike s (term.Let x a b) h g = let_ (plain_alike s a h.0 g.0) (scoped_binder_used s kind.Value x b g.2) (plain_alike (with_named x kind.Value s) b h.1 g.2)
+  plain_alike s (term.Let x a b) h g =
+      let_ (plain_alike s a h.0 g.0) (scoped_binder_used s kind.Value x b g.2) (plain_alike (with_named x kind.Value s) b h.1 g.2)
   plain_alike s (term.Handle a x b) h g =
       handle (plain_alike s a h.0 g.0) (scoped_binder_used s kind.Value x b g.2) (plain_alike (with_named x kind.Value s) b h.1 g.2)
   plain_alike s (term.If v a b) h g = if_ (same_value v) (plain_alike s a h.0 g.1) (plain_alike s b h.1 g.2)

@@ -20,7 +20,7 @@ use Rattle.fx_fiber.proofs.ResourceRows.{row_keeps_running}
 use Rattle.fx_fiber.proofs.RunningTerms.{IsRunningProgress, core_runs, clean_ups_core}
 
 -- a step keeps how far a fiber is a running progress, and changes what is held as its label says
-step_keeps : {c d : Counts} {p q : Progress} {l : Label} → Step c p l d q → IsRunningProgress p → IsRunningProgress q × Changes l (held_at p) (held_at q)
+pub step_keeps : {c d : Counts} {p q : Progress} {l : Label} → Step c p l d q → IsRunningProgress p → IsRunningProgress q × Changes l (held_at p) (held_at q)
 step_keeps {c = c} (step.cancelled {t = t} m) h = (clean_ups_core t h, sym (held_by_clean_ups t (paired_has_no_seal (must_is_paired c.known t m))))
 step_keeps (step.seen m o) h = (h, refl)
 step_keeps (step.row m r) h = row_keeps_running r h

@@ -10,7 +10,8 @@ use Rattle.fx_frames.specs.declared.frame.Frame.{Frame}
 use Rattle.fx_frames.specs.declared.frame.Frame.TheVariants as frame
 use Rattle.fx_frames.specs.Frames.{cleanups_of}
 use Rattle.fx_fiber.specs.declared.machine.unwound.Unwound.{Unwound}
-use Rattle.fx_fiber.specs.Path.{CleanupTerm, Finalizer, Release, closed_under, closed_regions, cleanups_with, cleanup_terms, leaf, is_canceled_form, is_open, must_cancel}
+use Rattle.fx_fiber.specs.Path.{CleanupTerm, Finalizer, Release, closed_under, closed_regions}
+use Rattle.fx_fiber.specs.Path.{cleanups_with, cleanup_terms, leaf, is_canceled_form, is_open, must_cancel}
 use Rattle.fx_fiber.specs.Row.{Counts, Label, Row}
 use Rattle.fx_fiber.specs.Machine.{filled, acquire_in, all_but_innermost, outside_frame, context_of, in_frame, within, cleanup_terms_of}
 use Rattle.fx_fiber.specs.Sound.{closed_outside, IsClosedBy, AreClosedBy}
@@ -22,7 +23,8 @@ without_innermost r outer = grind (arith, nat_tests)
 
 module _ (nodes : List Node) (ns : List ℕ) where
   -- a row of the term inside is a row of the whole
-  pub row_within : (k : Bool) (c d : Counts) (l : Label) (fs : List Frame) (cs : List Closing) (t t' : Term) → Row k c t l d t' → Row k c (within nodes ns fs cs t) l d (within nodes ns fs cs t')
+  pub row_within : (k : Bool) (c d : Counts) (l : Label) (fs : List Frame) (cs : List Closing) (t t' : Term)
+      → Row k c t l d t' → Row k c (within nodes ns fs cs t) l d (within nodes ns fs cs t')
   row_within k c d l [] cs t t' r = r
   row_within k c d l (f ∷ fs) cs t t' r = row_within k c d l fs (outside_frame f cs) _ _ (row_plug (context_of nodes ns cs f) r)
 
@@ -43,25 +45,34 @@ module _ (nodes : List Node) (ns : List ℕ) where
   closed_in _ cs h = refl
 
   -- what the path closes is what is closed inside
-  pub closed_within : (outside : List Closing) (fs : List Frame) (cs : List Closing) (t : Term) → AreClosedBy outside fs cs → closed_regions outside (within nodes ns fs cs t) ≡ closed_regions cs t
+  pub closed_within : (outside : List Closing) (fs : List Frame) (cs : List Closing) (t : Term)
+      → AreClosedBy outside fs cs → closed_regions outside (within nodes ns fs cs t) ≡ closed_regions cs t
   closed_within outside [] cs t h = ap (λ (c : List Closing). closed_regions c t) (sym h)
-  closed_within outside (f ∷ fs) cs t h = closed_within outside fs (outside_frame f cs) (in_frame nodes ns cs f t) h.1 ∙ closed_plug (outside_frame f cs) (context_of nodes ns cs f) t ∙ ap (λ (c : List Closing). closed_regions c t) (closed_in f cs h.0)
+  closed_within outside (f ∷ fs) cs t h =
+      closed_within outside fs (outside_frame f cs) (in_frame nodes ns cs f t) h.1
+      ∙ closed_plug (outside_frame f cs) (context_of nodes ns cs f) t
+      ∙ ap (λ (c : List Closing). closed_regions c t) (closed_in f cs h.0)
 
   none_of_bracket : (o : Option Node) (xs : List CleanupTerm) → cleanups_with (acquire_in nodes ns o) xs ≡ xs
   none_of_bracket (Some (node.Bracket x a u v)) xs = refl
   none_of_bracket o xs = refl
 
-  cleanups_in : (f : Frame) (cs : List Closing) (xs : List CleanupTerm) (rest : List Frame) → cleanups_with (context_of nodes ns cs f) xs ++ cleanup_terms_of nodes ns (cleanups_of rest) ≡ xs ++ cleanup_terms_of nodes ns (cleanups_of (f ∷ rest))
+  cleanups_in : (f : Frame) (cs : List Closing) (xs : List CleanupTerm) (rest : List Frame)
+      → cleanups_with (context_of nodes ns cs f) xs ++ cleanup_terms_of nodes ns (cleanups_of rest)
+      ≡ xs ++ cleanup_terms_of nodes ns (cleanups_of (f ∷ rest))
   cleanups_in (frame.OnCancel f) cs xs rest = append_assoc xs (Finalizer (filled nodes ns f) ∷ []) (cleanup_terms_of nodes ns (cleanups_of rest))
   cleanups_in (frame.Using k r) cs xs rest = append_assoc xs (Release k (filled nodes ns r) ∷ []) (cleanup_terms_of nodes ns (cleanups_of rest))
   cleanups_in (frame.Acquire id) cs xs rest = rw (none_of_bracket (slice_get nodes id.0) xs) refl
   cleanups_in _ cs xs rest = refl
 
-  clean_in : (f : Frame) (cs : List Closing) (t : Term) (rest : List Frame) → cleanup_terms (in_frame nodes ns cs f t) ++ cleanup_terms_of nodes ns (cleanups_of rest) ≡ cleanup_terms t ++ cleanup_terms_of nodes ns (cleanups_of (f ∷ rest))
+  clean_in : (f : Frame) (cs : List Closing) (t : Term) (rest : List Frame)
+      → cleanup_terms (in_frame nodes ns cs f t) ++ cleanup_terms_of nodes ns (cleanups_of rest)
+      ≡ cleanup_terms t ++ cleanup_terms_of nodes ns (cleanups_of (f ∷ rest))
   clean_in f cs t rest = rw (cleanups_plug (context_of nodes ns cs f) t) (cleanups_in f cs (cleanup_terms t) rest)
 
   -- the clean-ups of the path are those inside, and then those of the contexts
-  pub clean_within : (fs : List Frame) (cs : List Closing) (t : Term) → cleanup_terms (within nodes ns fs cs t) ≡ cleanup_terms t ++ cleanup_terms_of nodes ns (cleanups_of fs)
+  pub clean_within : (fs : List Frame) (cs : List Closing) (t : Term)
+      → cleanup_terms (within nodes ns fs cs t) ≡ cleanup_terms t ++ cleanup_terms_of nodes ns (cleanups_of fs)
   clean_within [] cs t = sym (append-nil (cleanup_terms t))
   clean_within (f ∷ fs) cs t = clean_within fs (outside_frame f cs) (in_frame nodes ns cs f t) ∙ clean_in f cs t fs
 

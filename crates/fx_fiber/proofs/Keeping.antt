@@ -124,7 +124,14 @@ pub kept_at_first : (nodes code : List Node) (begin : Begin) (agrees : List Deed
 kept_at_first nodes code begin agrees finished rest trace s e is_code b a f r t sound counts progress =
     let kept : IsKept code (main_begin_of code) agrees false rest [] s = record {
       sound = sound;
-      lawful = record { labels = []; run = subst (λ (b : Origin). IsRun b [] (counts_of s) (progress_of code s)) (sym (main_begins code)) (counts, progress); traced = refl; deeds = []; are_deeds = refl; agreed = a };
+      lawful = record {
+        labels = [];
+        run = subst (λ (b : Origin). IsRun b [] (counts_of s) (progress_of code s)) (sym (main_begins code)) (counts, progress);
+        traced = refl;
+        deeds = [];
+        are_deeds = refl;
+        agreed = a;
+      };
       countable =
           let masks : s.masks.entries ≡ 0 = ap (λ (c : Counts). c.masks) counts in
           let few = code_work_fits is_code in

@@ -132,7 +132,8 @@ module _ (nodes : List Node) (s : Machine) (id : NodeId) (v : Arg) (part other :
   module _ (n : ℕ) (number : fill_arg (length s.registers) s.registers v ≡ Number n) (free : must_cancel_machine nodes s ≡ false) where
     chosen_step : (c : NodeId)
         →
-        ((k : Bool) → Row k (counts_of s) (If (Number n) (filled nodes s.registers part) (filled nodes s.registers other)) Silent (counts_of s) (filled nodes s.registers c))
+        ((k : Bool) → Row k (counts_of s) (If (Number n) (filled nodes s.registers part) (filled nodes s.registers other))
+        Silent (counts_of s) (filled nodes s.registers c))
         → Step (counts_of s) (progress_of nodes s) Silent (counts_of s) (progress_at nodes s.registers s.frames s.masks.regions s.cleanups (Eval c))
     chosen_step c go = row_at nodes s id (node.If v part other) at tt free (counts_of s) Silent _ (filled nodes s.registers c) _
         (ap (λ (a : Arg). If a (filled nodes s.registers part) (filled nodes s.registers other)) number) refl (λ k h. go k)
@@ -158,7 +159,13 @@ module _ (nodes : List Node) (s : Machine) (id : NodeId) (p : ℕ) (part : NodeI
 
   part_bound : IsBound nodes at.sound.bound (Some p) part
   part_bound =
-      record { binder = mask_levels.0; node = child nodes s id (node.Mask p part) at part _ (child_before nodes s.registers s.frames s.masks s.cleanups s.focus id (node.Mask p part) at.focus at.node at.sound 0 0 (omega arith)) mask_levels.1 }
+      record {
+        binder = mask_levels.0;
+        node =
+            child nodes s id (node.Mask p part) at part _
+            (child_before nodes s.registers s.frames s.masks s.cleanups s.focus id (node.Mask p part) at.focus at.node at.sound 0 0 (omega arith))
+            mask_levels.1;
+      }
 
   pub mask_reaches : p ≤ length s.registers
   mask_reaches = let e = mask_levels.0 in let f = at.sound.fits in omega arith
@@ -213,7 +220,9 @@ module _ (nodes : List Node) (s : Machine) (id : NodeId) (p : ℕ) (part : NodeI
       (progress_at nodes ns (frame.Masked ∷ s.frames) (entered s.masks).regions s.cleanups (Eval part))
   mask_step free ns e =
       row_at nodes s id (node.Mask p part) at tt free (one_more_mask (counts_of s)) Silent _ _ _ refl
-      (ap (λ (ms : List ℕ). progress_at nodes ms (frame.Masked ∷ s.frames) (entered s.masks).regions s.cleanups (Eval part)) e ∙ sym (running_named nodes s.registers s.masks.entries at.sound.bound part at.sound.fits (λ t. Masked s.masks.entries t) (Some p) s.frames s.masks.regions s.cleanups part_bound at.sound.frames_in))
+      (ap (λ (ms : List ℕ). progress_at nodes ms (frame.Masked ∷ s.frames) (entered s.masks).regions s.cleanups (Eval part)) e
+      ∙ sym (running_named nodes s.registers s.masks.entries at.sound.bound part at.sound.fits (λ t. Masked s.masks.entries t)
+      (Some p) s.frames s.masks.regions s.cleanups part_bound at.sound.frames_in))
       (λ k h. mask)
 
 -- what a poll leaves closed, whether it took its region off or not
@@ -264,6 +273,10 @@ module _ (nodes : List Node) (s : Machine) (id : NodeId) (p : ℕ) (part : NodeI
         → q ≡ progress_at nodes s.registers (frame.Opened region took_off ∷ s.frames) m.regions s.cleanups (Eval part)
         → Step (counts_of s) (progress_of nodes s) Silent d q
     poll_step number free d q same e =
-        rw same (row_at nodes s id (node.Poll p part) at tt free (counts_of s) Silent (Poll (Number region.0) (filled nodes s.registers part)) _ q (ap (λ (a : Arg). Poll a (filled nodes s.registers part)) number)
-        (e ∙ ap (λ (c : List Closing). running nodes s.registers s.cleanups (within nodes s.registers s.frames c (Opened region.0 (filled nodes s.registers part)))) (opened_again region.0 s.masks m took_off opens))
+        rw same (row_at nodes s id (node.Poll p part) at tt free (counts_of s) Silent (Poll (Number region.0) (filled nodes s.registers part)) _ q
+        (ap (λ (a : Arg). Poll a (filled nodes s.registers part)) number)
+        (e
+        ∙ ap (λ (c : List Closing). running nodes s.registers s.cleanups
+        (within nodes s.registers s.frames c (Opened region.0 (filled nodes s.registers part))))
+        (opened_again region.0 s.masks m took_off opens))
         (λ k h. poll))

@@ -44,6 +44,15 @@ pub mod Names
 pub mod Simple
 pub mod Moves
 pub mod Nexts
+pub mod StepLabels
+pub mod StartLaws
+pub mod RangeLaws
+pub mod PutsLaws
+pub mod OutcomeLaws
+pub mod WaitingLaws
+pub mod ShownLabels
+pub mod HeadlineLaws
 pub mod ForcedTerms
 pub mod PutScopes
 pub mod ScopedRuns
+pub mod AllWork

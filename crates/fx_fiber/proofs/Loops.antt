@@ -35,7 +35,13 @@ module _ (nodes : List Node) (s : Machine) (id : NodeId) (i count : ℕ) (part :
 
   for_bound : IsBound nodes at.sound.bound (Some i) part
   for_bound =
-      record { binder = for_levels.0; node = child nodes s id (node.For i count part) at part _ (child_before nodes s.registers s.frames s.masks s.cleanups s.focus id (node.For i count part) at.focus at.node at.sound 0 0 (omega arith)) for_levels.1 }
+      record {
+        binder = for_levels.0;
+        node =
+            child nodes s id (node.For i count part) at part _
+            (child_before nodes s.registers s.frames s.masks s.cleanups s.focus id (node.For i count part) at.focus at.node at.sound 0 0 (omega arith))
+            for_levels.1;
+      }
 
   loop_in : IsLoopIn nodes at.sound.bound (slice_get nodes id.0)
   loop_in = rw at.node for_bound
@@ -86,7 +92,8 @@ module _ (nodes : List Node) (s : Machine) (id : NodeId) (turn i count : ℕ) (p
       (at.focus, at.node) at at.free in
       let step = row_step nodes s.registers s.frames s.masks.regions (loop nodes s.registers i count part turn) loop_leaf s.cleanups (counts_of s)
       (counts_of s) Silent _ at.sound.closed free'
-      (λ k h. row_within nodes s.registers k (counts_of s) (counts_of s) Silent s.frames s.masks.regions (loop nodes s.registers i count part turn) t' (go k)) in
+      (λ k h. row_within nodes s.registers k (counts_of s) (counts_of s) Silent s.frames s.masks.regions
+      (loop nodes s.registers i count part turn) t' (go k)) in
       rw (here, e) step
 
   pub ended_step : count ≤ turn
@@ -152,6 +159,9 @@ module _ (nodes : List Node) (s : Machine) (id : NodeId) (turn i count : ℕ) (p
       let after : Term = loop_at nodes (with_number (Some i) turn s.registers) id (turn + 1) in
       turn_row (Let None (put i turn (waiting nodes s.registers (Some i) part)) (loop nodes s.registers i count part (turn + 1))) _
       (ap (λ (ms : List ℕ). progress_at nodes ms (frame.Loop id (turn + 1) ∷ s.frames) s.masks.regions s.cleanups (Eval part)) e
-      ∙ sym (running_named nodes s.registers turn at.sound.bound part at.sound.fits (λ t. Let None t after) (Some i) s.frames s.masks.regions s.cleanups part_bound at.sound.frames_in)
-      ∙ ap (λ (w : Term). running nodes s.registers s.cleanups (within nodes s.registers s.frames s.masks.regions (Let None (put i turn (waiting nodes s.registers (Some i) part)) w))) (sym (loop_stays turn (turn + 1)) ∙ loop_is (turn + 1)))
+      ∙ sym (running_named nodes s.registers turn at.sound.bound part at.sound.fits (λ t. Let None t after)
+      (Some i) s.frames s.masks.regions s.cleanups part_bound at.sound.frames_in)
+      ∙ ap (λ (w : Term). running nodes s.registers s.cleanups
+      (within nodes s.registers s.frames s.masks.regions (Let None (put i turn (waiting nodes s.registers (Some i) part)) w)))
+      (sym (loop_stays turn (turn + 1)) ∙ loop_is (turn + 1)))
       (λ k. loop_turns more)

@@ -128,7 +128,8 @@ module _ (nodes : List Node) (ns : List ℕ) (n e : ℕ) (b : NodeId) (fits : e 
       let len = length_with x n ns h in
       let filled_same = fill_scope (suc x) (length (with_number (Some x) n ns)) (with_number (Some x) n ns) (term_of nodes b.0) levels (omega arith) in
       rw (lower_below (length ns) x h)
-      (put_fill x n ns (with_number (Some x) n ns) (agree_below x n ns h) (number_at x n ns h) (suc x) (term_of nodes b.0) levels (omega arith) ∙ sym filled_same)
+      (put_fill x n ns (with_number (Some x) n ns) (agree_below x n ns h) (number_at x n ns h) (suc x) (term_of nodes b.0) levels (omega arith)
+      ∙ sym filled_same)
 
   -- a register for the name changes nothing outside its scope
   pub running_bound : (x : Option ℕ) (fs : List Frame) (cs : List Closing) (left : Option Unwound) (t : Term) → IsBound nodes e x b

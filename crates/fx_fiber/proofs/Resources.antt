@@ -50,8 +50,12 @@ module _ (nodes : List Node) (s : Machine) (id : NodeId) (x : Option ℕ) (u r :
       bound = bound_under in_scope.0 x;
       fits = fits_named x n in_scope.0 s.registers nodes u parts.0 fits;
       focus_in = parts.0.node;
-      frames_in =
-          (bound_under in_scope.0 x, omega arith, parts.1.node, frames_up nodes in_scope.0 (bound_under in_scope.0 x) inside.outer (left_of s.cleanups) in_scope.3 (under_above x in_scope.0));
+      frames_in = (
+        bound_under in_scope.0 x,
+        omega arith,
+        parts.1.node,
+        frames_up nodes in_scope.0 (bound_under in_scope.0 x) inside.outer (left_of s.cleanups) in_scope.3 (under_above x in_scope.0),
+      );
       closed = (tt, closed_outer);
       room = rw inside.frames at inside.given.sound.room;
       between = tt;
@@ -68,5 +72,7 @@ module _ (nodes : List Node) (s : Machine) (id : NodeId) (x : Option ℕ) (u r :
         (sym (running_named nodes ns n in_scope.0 u fits (λ t. InUse s.acquired t released) x inside.outer outer s.cleanups parts.0 in_scope.3)
         ∙ ap (λ (w : Term). running nodes ns s.cleanups (within nodes ns inside.outer outer (InUse s.acquired used w)))
         (sym (part_named nodes ns n in_scope.0 r fits x parts.1))
-        ∙ ap (λ (c : List Closing). running nodes ns s.cleanups (within nodes ns inside.outer (all_but_innermost c) (InUse s.acquired used (put_named x n (waiting nodes ns x r))))) (sym shut))
+        ∙ ap (λ (c : List Closing). running nodes ns s.cleanups
+        (within nodes ns inside.outer (all_but_innermost c) (InUse s.acquired used (put_named x n (waiting nodes ns x r)))))
+        (sym shut))
         (λ k. rw bracket.1 acquired)

@@ -71,11 +71,17 @@ module _ (nodes : List Node) (s : Machine) (f : Frame) (v : Done) (inside : Retu
         → p ≡ running nodes (with_number x n s.registers) s.cleanups
         (within nodes (with_number x n s.registers) inside.outer s.masks.regions (filled nodes (with_number x n s.registers) b))
         →
-        ((k : Bool) → Row k (counts_of s) (in_frame nodes s.registers s.masks.regions f (Finished v)) Silent (counts_of s) (put_named x n (waiting nodes s.registers x b)))
+        ((k : Bool) → Row k (counts_of s) (in_frame nodes s.registers s.masks.regions f (Finished v))
+        Silent (counts_of s) (put_named x n (waiting nodes s.registers x b)))
         → Step (counts_of s) (progress_of nodes s) Silent (counts_of s) p
     named_step p e go =
         given_step (counts_of s) Silent _ p
-        (e ∙ sym (running_named nodes s.registers n frames_in.0 b fits (λ t. t) x inside.outer s.masks.regions s.cleanups bound frames_in.3) ∙ ap (λ (c : List Closing). running nodes s.registers s.cleanups (within nodes s.registers inside.outer c (put_named x n (waiting nodes s.registers x b)))) (sym same)) go
+        (e
+        ∙ sym (running_named nodes s.registers n frames_in.0 b fits (λ t. t) x inside.outer s.masks.regions s.cleanups bound frames_in.3)
+        ∙ ap (λ (c : List Closing). running nodes s.registers s.cleanups
+        (within nodes s.registers inside.outer c (put_named x n (waiting nodes s.registers x b))))
+        (sym same))
+        go
 
     pub named_sound : taken_off (f ∷ inside.outer) ≡ taken_off inside.outer
         → IsSound nodes (with_number x n s.registers) inside.outer s.masks s.cleanups (Eval b)

@@ -46,7 +46,7 @@ module _ (nodes : List Node) (ns : List ℕ) (fs : List Frame) (cs : List Closin
       by_shut : (a b : Bool) → a ≡ false → (a && b) ≡ true → ⊥
       by_shut a b e h = let no : (a && b) ≡ false = rw e refl in cc
 
-  -- a request that is found at an open place
+  -- a request that is seen at an open place
   pub seen_step : (left : Option Unwound) (c : Counts) → AreClosedBy (closed_outside left) fs cs → is_none_closed cs ≡ true
       → (is_none_closed cs && (c.known || is_canceled_form t)) ≡ false
       → Step c (running nodes ns left (within nodes ns fs cs t)) (Shows event.Seen) (known_canceled c) (running nodes ns left (within nodes ns fs cs t))

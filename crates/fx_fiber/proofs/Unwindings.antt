@@ -1,4 +1,4 @@
--- Cancellation, a request that is found, and unwinding.
+-- Cancellation, a request that is seen, and unwinding.
 use Rattle.std.proofs.Common.{◌≡◌, ℕ, true, false, Option, Some, None, List, [], ◌∷◌, refl, arith}
 use Rattle.std.specs.Prelude.{◌&&◌, ◌||◌}
 use Rattle.fx_term.specs.declared.node.NodeId.{NodeId}

@@ -51,7 +51,7 @@ part_lowers (outcome.Errored n) x e a b c = let p = work_put e n b in omega arit
 part_lowers outcome.Canceled x e a b c = omega arith
 
 -- a context has its own work beside that of its part
-work_plug : (f : Context) (a : Term) → 1 + work (plug f a) ≡ work a + work (plug f (Finished (Val 0)))
+pub work_plug : (f : Context) (a : Term) → 1 + work (plug f a) ≡ work a + work (plug f (Finished (Val 0)))
 work_plug (LetIn x b) a = omega arith
 work_plug _ a = omega arith
 

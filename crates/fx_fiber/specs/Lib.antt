@@ -17,3 +17,11 @@ pub mod MaskLaws
 pub mod Work
 pub mod Simple
 pub mod Scopes
+pub mod Outside
+pub mod WaitsFor
+pub mod NeedLeft
+pub mod PutsLeft
+pub mod Report
+pub mod LawfulReport
+pub mod Headline
+pub mod Causes

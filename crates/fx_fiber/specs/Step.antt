@@ -41,7 +41,7 @@ abbrev pub must_cancel_at : Bool → Progress → Bool
 must_cancel_at known (Runs t) = must_cancel known t
 must_cancel_at known _ = false
 
--- A step of a fiber. The world's answers are read from the labels
+-- A step of a fiber. The answers of the outside are read from the labels
 pub data Step (c : Counts) : Progress → Label → Counts → Progress → Type 0 where
   cancelled : {t : Term} → must_cancel c.known t ≡ true → Step c (Runs t) (Shows event.Cancelled) c (Unwinds (cleanup_terms t))
   seen : {t : Term} → must_cancel c.known t ≡ false → is_open t ≡ true → Step c (Runs t) (Shows event.Seen) (known_canceled c) (Runs t)

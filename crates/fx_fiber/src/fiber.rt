@@ -48,7 +48,8 @@ impl<P: Port> Fiber<P> {
         requires fresh { P.agrees port [] }
         ensures port { IfOk result (λ fiber. fiber.port ≡ port) }
         ensures trace { IfOk result (λ fiber. fiber.trace ≡ []) }
-        ensures counts { IfOk result (λ fiber. fiber.counts ≡ first_counts (main_origin (root_term code.now))) }
+        ensures counts { IfOk result
+            (λ fiber. fiber.counts ≡ first_counts (main_origin (root_term code.now))) }
         ensures progress { IfOk result (λ fiber. progress code.now fiber ≡ Runs (root_term code.now)) }
     {
         let state = State::new(alloc, code, port)?;
@@ -67,7 +68,8 @@ impl<P: Port> Fiber<P> {
     /// The events so far, the first one first.
     pub fn trace(&self) -> &[Event]
         ensures events { result.now ≡ self.now.trace }
-        ensures lawful { IsLawful P.code (P.beginning self.now.port) (P.agrees self.now.port) self.now.trace self.now.counts (progress P.code self.now) }
+        ensures lawful { IsLawful P.code (P.beginning self.now.port) (P.agrees self.now.port)
+            self.now.trace self.now.counts (progress P.code self.now) }
     {
         self.state.trace()
     }
@@ -86,7 +88,8 @@ impl<P: Port> Fiber<P> {
     pub fn step(&mut self, code: &Code, shared: &mut P::Shared) -> Result<Stepped, Memory>
         requires code { code.now ≡ P.code }
         requires going { has_ended (progress P.code self.old) ≡ false }
-        ensures ok { IfOk result (λ answer. DoesStep P.calls P.code self.old shared.old answer self.new shared.new) }
+        ensures ok { IfOk result (λ answer. DoesStep P.calls P.code
+            self.old shared.old answer self.new shared.new) }
         ensures err { OnErr result (IsUnchanged P.code self.old self.new × (shared.new ≡ shared.old)) }
         ensures number { P.number self.new.port ≡ P.number self.old.port }
         ensures beginning { P.beginning self.new.port ≡ P.beginning self.old.port }

@@ -30,7 +30,8 @@ pub trait Port: Sized {
     // the numbers that are left for the fibers that it starts
     ghost rest: { Self → Range };
 
-    // what the port says of the deeds of its fiber: that of no deed is asked where a fiber is made, and each call keeps it by its deed
+    // what the port says of the deeds of its fiber: that of no deed is asked where a fiber is made,
+    // and each call keeps it by its deed
     ghost agrees: { Self → List Deed → Type 0 };
 
     // what each call does
@@ -43,7 +44,8 @@ pub trait Port: Sized {
         ensures beginning { beginning self.new ≡ beginning self.old }
         ensures rest { rest self.new ≡ rest self.old }
         ensures finished { has_finished self.new ≡ has_finished self.old }
-        ensures deed { OnTrue result ((deeds : List Deed) → agrees self.old deeds → agrees self.new (deeds ++ Saw ∷ [])) }
+        ensures deed { OnTrue result ((deeds : List Deed)
+            → agrees self.old deeds → agrees self.new (deeds ++ Saw ∷ [])) }
         ensures unchanged { OnFalse result ((self.new ≡ self.old) × (shared.new ≡ shared.old)) };
 
     /// Tells the outside how the fiber ended.
@@ -54,5 +56,6 @@ pub trait Port: Sized {
         ensures beginning { beginning self.new ≡ beginning self.old }
         ensures rest { rest self.new ≡ rest self.old }
         ensures finished { has_finished self.new ≡ true }
-        ensures deed { (deeds : List Deed) → agrees self.old deeds → agrees self.new (deeds ++ Ended outcome ∷ []) };
+        ensures deed { (deeds : List Deed)
+            → agrees self.old deeds → agrees self.new (deeds ++ Ended outcome ∷ []) };
 }

@@ -3,7 +3,7 @@
 /// What a step of a fiber did.
 #[derive(Clone, Copy, PartialEq, Eq, Debug)]
 pub enum Stepped {
-    /// It made a rule, and the fiber goes on.
+    /// It took one step, and the fiber goes on.
     Went,
     /// It made no rule, since the fiber waits; nothing has changed.
     Waits,

@@ -46,20 +46,22 @@ impl Frames {
 
     /// The innermost context.
     pub fn last(&self) -> Option<Frame>
-        ensures { MatchOption result (self.now ≡ []) (λ frame. (outer : List Frame) × (self.now ≡ frame ∷ outer)) }
+        ensures { MatchOption result (self.now ≡ [])
+            (λ frame. (outer : List Frame) × (self.now ≡ frame ∷ outer)) }
     {
         self.items.last().copied()
     }
 
     /// Takes the innermost context off.
     pub fn pop(&mut self) -> Option<Frame>
-        ensures taken { MatchOption result ((self.old ≡ []) × (self.new ≡ [])) (λ frame. self.old ≡ frame ∷ self.new) }
+        ensures taken { MatchOption result ((self.old ≡ []) × (self.new ≡ []))
+            (λ frame. self.old ≡ frame ∷ self.new) }
         ensures rest { (frame : Frame) (outer : List Frame) → self.old ≡ frame ∷ outer → self.new ≡ outer }
     {
         self.items.pop()
     }
 
-    /// Puts a context in the stead of the innermost, for which there is room.
+    /// Puts a context in place of the innermost, for which there is room.
     pub fn replace(&mut self, frame: Frame)
         requires { (inner : Frame) × (outer : List Frame) × (self.old ≡ inner ∷ outer) }
         ensures { (inner : Frame) (outer : List Frame) → self.old ≡ inner ∷ outer → self.new ≡ frame ∷ outer }

@@ -50,7 +50,8 @@ impl Unwinding {
 
     /// Takes the next clean-up.
     pub fn next(&mut self) -> Option<Cleanup>
-        ensures { MatchOption result ((self.old ≡ []) × (self.new ≡ [])) (λ cleanup. self.old ≡ cleanup ∷ self.new) }
+        ensures { MatchOption result ((self.old ≡ []) × (self.new ≡ []))
+            (λ cleanup. self.old ≡ cleanup ∷ self.new) }
     {
         while let Some(frame) = self.items.pop() {
             if let Some(cleanup) = cleanup_of(frame) {

@@ -102,14 +102,16 @@ impl Masks {
     /// Takes the innermost off, a region that is left or a seal.
     pub fn leave(&mut self)
         requires { self.old.regions ≢ [] }
-        ensures { (c : Closing) (outer : List Closing) → self.old.regions ≡ c ∷ outer → self.new ≡ record self.old { regions = outer } }
+        ensures { (c : Closing) (outer : List Closing)
+            → self.old.regions ≡ c ∷ outer → self.new ≡ record self.old { regions = outer } }
     {
         let _ = self.members.pop();
     }
 
     /// Opens the region where it is the innermost, and answers whether it was.
     pub fn open(&mut self, region: Region) -> bool
-        ensures innermost { (outer : List Closing) → self.old.regions ≡ closing.Region region.0 ∷ outer → IsTrue result }
+        ensures innermost { (outer : List Closing) → self.old.regions ≡ closing.Region region.0 ∷ outer
+            → IsTrue result }
         ensures opened { MatchBool result (IsOpened region.0 self.old self.new) (self.new ≡ self.old) }
         ensures regions { self.new.regions ≡ without_region region.0 self.old.regions }
     {

@@ -20,3 +20,4 @@ pub mod SumBelow
 pub mod FillNothing
 pub mod NameUses
 pub mod CoreTerms
+pub mod QueueLaws

@@ -13,3 +13,5 @@ pub mod WellPlaced
 pub mod Pending
 pub mod Code
 pub mod Registers
+pub mod Queue
+pub mod Script

@@ -2,6 +2,7 @@
 ghost use Rattle.std.specs.Prelude.{◌≡◌, ◌+◌, ◌^◌, ◌<◌, Some, length, slice_get, IfOk, IfErr, OnOk, IsOkUnless};
 ghost use Rattle.fx_term.specs.Code.{IsCode, IsFault, IsRefusal};
 
+mod brand;
 mod children;
 mod scope;
 mod signature;
@@ -12,6 +13,7 @@ mod walk;
 use crate::code::tree::check_tree;
 use crate::code::walk::check_names;
 use crate::node::{Node, NodeId};
+pub use brand::CodeBrand;
 use std::alloc::{AllocError, AllocFailed, Global};
 use std::marker::Model;
 use thiserror::Error;

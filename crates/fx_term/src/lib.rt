@@ -1,5 +1,5 @@
-//! The words that all other crates speak: how a fiber ends, what its trace shows, and the checked
-//! code of a script.
+//! The words that all other crates speak: how a fiber ends, what its trace shows, what a queue holds,
+//! and the checked code of a script.
 //!
 //! A [`Code`] is one well-scoped term, kept as a list of nodes. Its rules, in the order in which
 //! [`Code::build`] tests them:
@@ -19,19 +19,23 @@ mod begin;
 mod code;
 mod done;
 mod event;
+mod item;
 pub mod laws;
 mod memory;
 mod name_kind;
 mod node;
 mod outcome;
+mod queue_event;
 mod registers;
 
 pub use begin::Begin;
-pub use code::{Code, CodeFault, MOST_TURNS, turns_of_loop};
+pub use code::{Code, CodeBrand, CodeFault, MOST_TURNS, turns_of_loop};
 pub use done::Done;
 pub use event::Event;
+pub use item::Item;
 pub use memory::Memory;
 pub use name_kind::NameKind;
 pub use node::{Arg, Node, NodeId};
 pub use outcome::Outcome;
+pub use queue_event::QueueEvent;
 pub use registers::Registers;

@@ -22,7 +22,7 @@ pub enum Node {
     Canceled,
     /// Does not end (`never`).
     Never,
-    /// Gives way to other fibers, and gives 0 (`cede`).
+    /// Yields to other fibers, and gives 0 (`cede`).
     Cede,
     /// The first part's value, by this slot, in the second part (`flatMap`).
     Let(Option<u32>, NodeId, NodeId),

@@ -33,7 +33,8 @@ use Rattle.fx_text.proofs.ResourceLaws.{resources_push, resources_kept, roots_pu
 
 -- ---- the scope after resources
 
-under_push : (names : List CodeBound) (turns : ℕ) (r : CodeResource) → scope (names ++ bounds_of (r ∷ [])) turns ≡ under kind.Value r.name.now (scope names turns)
+under_push : (names : List CodeBound) (turns : ℕ) (r : CodeResource)
+    → scope (names ++ bounds_of (r ∷ [])) turns ≡ under kind.Value r.name.now (scope names turns)
 under_push names turns r = ap (λ (l : List Bound). record { names = l; turns = turns }) (map-append view_bound names (bounds_of (r ∷ [])))
 
 -- in the scope of the names of resources

@@ -225,7 +225,8 @@ module _ (p : Scope) (x : List ℕ) (a : Term) (first : StandsAt p a) where
     handle_stands : StandsAt p (Handle a (Some (slot p)) b)
     handle_stands = let h = let_stands in record { scope = record { levels = h.scope.levels; scoped = h.scope.scoped }; turns = h.turns }
 
-  bracket_stands : (s : ℕ) (u r : Term) → s ≡ slot p → StandsAt (under kind.Value x p) u → StandsAt (under kind.Value x p) r → StandsAt p (Bracket (Some s) a u r)
+  bracket_stands : (s : ℕ) (u r : Term) → s ≡ slot p → StandsAt (under kind.Value x p) u → StandsAt (under kind.Value x p) r
+      → StandsAt p (Bracket (Some s) a u r)
   bracket_stands s u r is used released =
       let at = is ∙ slot_is p in
       let inner = inner_scope kind.Value x p u used.scope in

@@ -25,9 +25,7 @@ fn index_of(names: &[Bound<'_>], kind: NameKind, name: &[u8]) -> Option<usize>
         names.now }
     ensures within { IfSome result (λ i. i < length names.now) }
 {
-    names
-        .iter()
-        .position(|b| b.name == name && b.kind == kind)
+    names.iter().position(|b| b.name == name && b.kind == kind)
 }
 
 /// Whether the name is in scope.

@@ -28,10 +28,12 @@ pub fn ending_exists()
 /// All runs of a simple term that halt have one ending: what waits in one of them ends in none.
 pub fn ending_is_one()
     ensures term { (t : Term) (e e' : Ending) → IsSimple t → EndsAlone t e → EndsAlone t e' → e ≡ e' }
-    ensures code { (nodes : List Node) (e e' : Ending) → IsCode nodes → EndsAlone (root_term nodes) e → EndsAlone (root_term nodes) e' → e ≡ e' }
+    ensures code { (nodes : List Node) (e e' : Ending) → IsCode nodes
+        → EndsAlone (root_term nodes) e → EndsAlone (root_term nodes) e' → e ≡ e' }
 {}
 
 /// They also have the same labels, so they show the same events.
 pub fn labels_are_one()
-    ensures { (t : Term) (e e' : Ending) (a : EndsAlone t e) (b : EndsAlone t e') → IsSimple t → a.labels ≡ b.labels }
+    ensures { (t : Term) (e e' : Ending) (a : EndsAlone t e) (b : EndsAlone t e')
+        → IsSimple t → a.labels ≡ b.labels }
 {}

@@ -24,8 +24,11 @@ fn interruption<P: Port>(
     shared: &mut P::Shared,
     at_canceled: bool,
 ) -> Option<Interruption>
-    ensures first { let opened = is_open_machine machine.now in ComesFirst P.calls opened (opened && (machine.now.known || at_canceled)) result port.old shared.old port.new shared.new }
-    ensures saw { result ≡ Some Interruption.Request → (deeds : List Deed) → P.agrees port.old deeds → P.agrees port.new (deeds ++ Saw ∷ []) }
+    ensures first { let opened = is_open_machine machine.now in
+        ComesFirst P.calls opened (opened && (machine.now.known || at_canceled)) result
+        port.old shared.old port.new shared.new }
+    ensures saw { result ≡ Some Interruption.Request
+        → (deeds : List Deed) → P.agrees port.old deeds → P.agrees port.new (deeds ++ Saw ∷ []) }
     ensures number { P.number port.new ≡ P.number port.old }
     ensures beginning { P.beginning port.new ≡ P.beginning port.old }
     ensures rest { P.rest port.new ≡ P.rest port.old }
@@ -56,7 +59,8 @@ fn advance<P: Port>(
     requires going { IsGoing machine.old.focus }
     requires masks_countable { machine.old.masks.entries < 2 ^ 63 }
     requires resources_countable { machine.old.acquired < 2 ^ 63 }
-    ensures ok { IfOk result (λ made. Advances P.calls P.agrees P.code machine.old port.old shared.old made machine.new port.new shared.new) }
+    ensures ok { IfOk result (λ made. Advances P.calls P.agrees P.code
+        machine.old port.old shared.old made machine.new port.new shared.new) }
     ensures same { OnErr result (IsSame P.code machine.old machine.new) }
     ensures unchanged { OnErr result ((port.new ≡ port.old) × (shared.new ≡ shared.old)) }
     ensures number { P.number port.new ≡ P.number port.old }
@@ -113,7 +117,9 @@ impl<P: Port> Model for State<P> {
       focus = f.machine.focus;
     } };
 
-    ghost invariant = { λ f. (P.number f.port ≡ f.id) × IsKept P.code (P.beginning f.port) (P.agrees f.port) (P.has_finished f.port) (P.rest f.port) f.trace.items f.machine };
+    ghost invariant = { λ f. (P.number f.port ≡ f.id)
+        × IsKept P.code (P.beginning f.port) (P.agrees f.port) (P.has_finished f.port)
+        (P.rest f.port) f.trace.items f.machine };
 }
 
 impl<P: Port> State<P> {
@@ -137,7 +143,8 @@ impl<P: Port> State<P> {
         requires fresh { P.agrees port [] }
         ensures port { IfOk result (λ state. state.port ≡ port) }
         ensures trace { IfOk result (λ state. state.trace ≡ []) }
-        ensures counts { IfOk result (λ state. state.counts ≡ first_counts (main_origin (root_term code.now))) }
+        ensures counts { IfOk result
+            (λ state. state.counts ≡ first_counts (main_origin (root_term code.now))) }
         ensures progress { IfOk result (λ state. progress code.now state ≡ Runs (root_term code.now)) }
     {
         let mut trace = Vec::new(alloc);
@@ -161,7 +168,8 @@ impl<P: Port> State<P> {
     /// The events so far, the first one first.
     pub fn trace(&self) -> &[Event]
         ensures events { result.now ≡ self.now.trace }
-        ensures lawful { IsLawful P.code (P.beginning self.now.port) (P.agrees self.now.port) self.now.trace self.now.counts (progress P.code self.now) }
+        ensures lawful { IsLawful P.code (P.beginning self.now.port) (P.agrees self.now.port)
+            self.now.trace self.now.counts (progress P.code self.now) }
     {
         &self.trace
     }
@@ -180,7 +188,8 @@ impl<P: Port> State<P> {
     pub fn step(&mut self, code: &Code, shared: &mut P::Shared) -> Result<Stepped, Memory>
         requires code { code.now ≡ P.code }
         requires going { has_ended (progress P.code self.old) ≡ false }
-        ensures ok { IfOk result (λ answer. DoesStep P.calls P.code self.old shared.old answer self.new shared.new) }
+        ensures ok { IfOk result (λ answer. DoesStep P.calls P.code
+            self.old shared.old answer self.new shared.new) }
         ensures err { OnErr result (IsUnchanged P.code self.old self.new × (shared.new ≡ shared.old)) }
         ensures number { P.number self.new.port ≡ P.number self.old.port }
         ensures beginning { P.beginning self.new.port ≡ P.beginning self.old.port }

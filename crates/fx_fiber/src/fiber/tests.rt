@@ -6,7 +6,7 @@ ghost use Rattle.fx_fiber.specs.Deed.{Saw, Ended};
 
 use super::*;
 use crate::begin::main_begin;
-use fx_term::{Arg, Begin, Node, NodeId, Outcome};
+use fx_term::{Arg, Begin, CodeBrand, Node, NodeId, Outcome};
 use std::cell::Cell;
 use std::marker::{Brand, PhantomData};
 use std::process::Abort;
@@ -19,15 +19,6 @@ mod masking;
 mod resources;
 mod unwinding;
 
-/// Which code a fiber runs. Each run picks it.
-trait Naming {
-    ghost nodes: { List Node };
-}
-
-impl Naming for Brand {
-    ghost nodes = { [] };
-}
-
 /// How many looks there were, and at which the fiber is requested, from 1 on.
 #[derive(Drop)]
 struct Looks {
@@ -37,14 +28,14 @@ struct Looks {
 
 /// A port that answers one look at most with a request, and keeps the end that it was told.
 #[derive(Drop)]
-struct TestPort<J: Naming> {
+struct TestPort<J: CodeBrand> {
     begin: Begin,
     saw: bool,
     told: Option<Outcome>,
     of: PhantomData<J>,
 }
 
-impl<J: Naming> Port for TestPort<J> {
+impl<J: CodeBrand> Port for TestPort<J> {
     type Shared = Looks;
 
     ghost code = { J.nodes };
@@ -92,7 +83,7 @@ struct Ran {
 }
 
 /// Runs the main fiber of a code for so many steps at most.
-fn drive<J: Naming>(
+fn drive<J: CodeBrand>(
     alloc: Global,
     code: &Code,
     request: Option<u32>,

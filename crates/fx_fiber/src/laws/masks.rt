@@ -17,26 +17,36 @@ ghost use Rattle.fx_fiber.specs.MaskLaws.{forced_after, IsPlain, IsScopedWithout
 /// what begins with a request that is seen: seen before the mask is entered, it leaves out the
 /// finalizers that stand round the first leaf of the term.
 pub fn uncancelable_poll_is_identity()
-    ensures same { (scope : ℕ → Option NameKind) (p : ℕ) (t : Term) → IsPlain t → IsScoped (with_name p kind.OtherPoll scope) t → ShowTheSameUnlessSeenFirst (Mask p (Poll (Slot p) t)) t }
-    ensures all { (scope : ℕ → Option NameKind) (p : ℕ) (t : Term) → IsPlain t → IsScoped (with_name p kind.OtherPoll scope) t → ShowsAllOf (Mask p (Poll (Slot p) t)) t }
+    ensures same { (scope : ℕ → Option NameKind) (p : ℕ) (t : Term)
+        → IsPlain t → IsScoped (with_name p kind.OtherPoll scope) t
+        → ShowTheSameUnlessSeenFirst (Mask p (Poll (Slot p) t)) t }
+    ensures all { (scope : ℕ → Option NameKind) (p : ℕ) (t : Term)
+        → IsPlain t → IsScoped (with_name p kind.OtherPoll scope) t
+        → ShowsAllOf (Mask p (Poll (Slot p) t)) t }
 {}
 
 /// A mask directly inside another, where the poll of neither is used, shows what the outer one alone
 /// shows.
 pub fn uncancelable_ignored_poll_eliminates_nesting()
-    ensures { (scope : ℕ → Option NameKind) (p r : ℕ) (t : Term) → p ≢ r → IsPlain t → IsScopedWithout scope p r t → ShowTheSame (Mask p (Mask r t)) (Mask p t) }
+    ensures { (scope : ℕ → Option NameKind) (p r : ℕ) (t : Term)
+        → p ≢ r → IsPlain t → IsScopedWithout scope p r t
+        → ShowTheSame (Mask p (Mask r t)) (Mask p t) }
 {}
 
 /// Polls of two masks in the inverse order open the inner mask alone, so the term inside is masked as
 /// if the outer mask stood there alone.
 pub fn uncancelable_poll_inverse_nest_is_uncancelable()
-    ensures { (scope : ℕ → Option NameKind) (p r : ℕ) (t : Term) → p ≢ r → IsPlain t → IsScopedWithout scope p r t → ShowTheSame (Mask p (Mask r (Poll (Slot p) (Poll (Slot r) t)))) (Mask p t) }
+    ensures { (scope : ℕ → Option NameKind) (p r : ℕ) (t : Term)
+        → p ≢ r → IsPlain t → IsScopedWithout scope p r t
+        → ShowTheSame (Mask p (Mask r (Poll (Slot p) (Poll (Slot r) t)))) (Mask p t) }
 {}
 
 /// A finalizer directly inside a mask whose poll is not used shows nothing, since the place that it
 /// stands at is never canceled.
 pub fn uncancelable_cancels_associated_finalizer()
-    ensures { (scope : ℕ → Option NameKind) (p : ℕ) (t f : Term) → IsPlain t → IsScoped (with_name p kind.OtherPoll scope) t → ShowTheSame (Mask p (OnCancel t f)) (Mask p t) }
+    ensures { (scope : ℕ → Option NameKind) (p : ℕ) (t f : Term)
+        → IsPlain t → IsScoped (with_name p kind.OtherPoll scope) t
+        → ShowTheSame (Mask p (OnCancel t f)) (Mask p t) }
 {}
 
 /// A term that is forced after a value shows what it shows alone, but for what begins with a request

@@ -21,7 +21,10 @@ pub fn code_is_core()
 /// inner before outer. One that has not ended has done nothing that cannot go on so. Its resources
 /// are numbered 0, 1, 2 and so on, in the order in which it acquires them.
 pub fn ended_run_is_balanced()
-    ensures ended { (b : Origin) (labels : List Label) (d : Counts) (o : Outcome) → IsCore b.term → IsRun b labels d (HasEnded o) → IsBalanced (events labels) }
-    ensures so_far { (b : Origin) (labels : List Label) (d : Counts) (q : Progress) → IsCore b.term → IsRun b labels d q → IsBalancedSoFar (events labels) }
-    ensures in_order { (b : Origin) (labels : List Label) (d : Counts) (q : Progress) → IsRun b labels d q → acquired_numbers (events labels) ≡ range_with_len 0 d.acquired }
+    ensures ended { (b : Origin) (labels : List Label) (d : Counts) (o : Outcome)
+        → IsCore b.term → IsRun b labels d (HasEnded o) → IsBalanced (events labels) }
+    ensures so_far { (b : Origin) (labels : List Label) (d : Counts) (q : Progress)
+        → IsCore b.term → IsRun b labels d q → IsBalancedSoFar (events labels) }
+    ensures in_order { (b : Origin) (labels : List Label) (d : Counts) (q : Progress)
+        → IsRun b labels d q → acquired_numbers (events labels) ≡ range_with_len 0 d.acquired }
 {}

@@ -27,7 +27,8 @@ impl Machine {
     /// An error in a `let` is its result.
     pub fn let_error(&mut self) -> Made
         ghost nodes: { List Node }
-        requires { (name : Option ℕ) × (second : NodeId) × (e : ℕ) × ReturnsInto nodes self.old (Frame.Let name second) (Done.Err e) }
+        requires { (name : Option ℕ) × (second : NodeId) × (e : ℕ)
+            × ReturnsInto nodes self.old (Frame.Let name second) (Done.Err e) }
         ensures { MakesRule nodes self.old result self.new }
     {
         let _ = self.frames.pop();
@@ -37,7 +38,8 @@ impl Machine {
     /// A value in a `handle` is its result.
     pub fn handle_value(&mut self) -> Made
         ghost nodes: { List Node }
-        requires { (name : Option ℕ) × (handler : NodeId) × (n : ℕ) × ReturnsInto nodes self.old (Frame.Handle name handler) (Done.Val n) }
+        requires { (name : Option ℕ) × (handler : NodeId) × (n : ℕ)
+            × ReturnsInto nodes self.old (Frame.Handle name handler) (Done.Val n) }
         ensures { MakesRule nodes self.old result self.new }
     {
         let _ = self.frames.pop();

@@ -1,7 +1,8 @@
 //! The table: which rule is made, by the place and the innermost context.
 ghost use Rattle.std.specs.Prelude.{◌≡◌, ◌^◌, ◌<◌, Some, [], IfOk, OnErr};
 ghost use Rattle.fx_term.specs.declared.node.Node.TheVariants as node;
-ghost use Rattle.fx_fiber.specs.Methods.{MakesRule, Interrupts, IsSame, StandsAt, IsBeforeTurn, ReturnsInto, ReturnsOut, IsReturning, IsLeafNode, IsInterrupted};
+ghost use Rattle.fx_fiber.specs.Methods.{MakesRule, Interrupts, IsSame, StandsAt, IsBeforeTurn, ReturnsInto};
+ghost use Rattle.fx_fiber.specs.Methods.{ReturnsOut, IsReturning, IsLeafNode, IsInterrupted};
 
 use crate::machine::Machine;
 use crate::machine::interruption::Interruption;
@@ -90,7 +91,7 @@ impl Machine {
             (Some(Frame::Acquire(id)), Done::Val(n)) => self.acquire_rule(id, code.node(id), n),
             (Some(Frame::Acquire(_)), Done::Err(_)) => Ok(self.acquire_fails()),
             (Some(Frame::Using(k, release)), done) => self.used(k, release, done),
-            (Some(Frame::Releasing(k, used)), done) => Ok(self.released(k, used, done)),
+            (Some(Frame::Releasing(k, result)), done) => Ok(self.released(k, result, done)),
             (None, done) => Ok(self.end_rule(done)),
         }
     }
@@ -104,10 +105,10 @@ impl Machine {
         ensures ok { IfOk result (λ made. MakesRule nodes self.old made self.new) }
         ensures err { OnErr result (IsSame nodes self.old self.new) }
     {
-        let Node::Bracket(name, _, used, release) = node else {
+        let Node::Bracket(name, _, use_part, release) = node else {
             unreachable!();
         };
-        self.acquired(name, used, release, n)
+        self.acquired(name, use_part, release, n)
     }
 
     /// The rule of a result in no context: the end of the fiber, or of a clean-up.

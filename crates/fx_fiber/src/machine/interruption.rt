@@ -1,6 +1,6 @@
 //! What comes before the rule of an open place.
 
-/// What is made at an open place in the stead of the rule that stands there.
+/// What is made at an open place in place of the rule that stands there.
 #[derive(Clone, Copy, PartialEq, Eq, Debug)]
 pub(crate) enum Interruption {
     /// Cancellation is the one rule.

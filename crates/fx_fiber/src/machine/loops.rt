@@ -41,7 +41,8 @@ impl Machine {
     /// A `for` becomes its loop, before the turn 0.
     pub fn for_begins(&mut self, id: NodeId) -> Made
         ghost nodes: { List Node }
-        requires at { (name : ℕ) × (count : ℕ) × (part : NodeId) × StandsAt nodes self.old id (node.For name count part) }
+        requires at { (name : ℕ) × (count : ℕ) × (part : NodeId)
+            × StandsAt nodes self.old id (node.For name count part) }
         ensures { MakesRule nodes self.old result self.new }
     {
         self.focus = Focus::Turn(id, 0);
@@ -92,7 +93,8 @@ impl Machine {
     /// The error of a turn is that of the loop (the rule `let_error`).
     pub fn turn_error(&mut self) -> Made
         ghost nodes: { List Node }
-        requires { (id : NodeId) × (turn : ℕ) × (e : ℕ) × ReturnsInto nodes self.old (Frame.Loop id turn) (Done.Err e) }
+        requires { (id : NodeId) × (turn : ℕ) × (e : ℕ)
+            × ReturnsInto nodes self.old (Frame.Loop id turn) (Done.Err e) }
         ensures { MakesRule nodes self.old result self.new }
     {
         let _ = self.frames.pop();

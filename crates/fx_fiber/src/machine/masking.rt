@@ -33,7 +33,11 @@ impl Machine {
     /// Enters the context of a mask, whose region closes what stands in it.
     fn close_region(&mut self) -> Result<(), Memory>
         requires { self.old.masks.entries < 2 ^ 63 }
-        ensures ok { OnOk result (self.new ≡ record self.old { frames = Frame.Masked ∷ self.old.frames; masks = entered self.old.masks }) }
+        ensures ok { OnOk result
+            (self.new ≡ record self.old {
+              frames = Frame.Masked ∷ self.old.frames;
+              masks = entered self.old.masks;
+            }) }
         ensures err { OnErr result (self.new ≡ self.old) }
     {
         self.frames.push(Frame::Masked)?;
@@ -90,7 +94,8 @@ impl Machine {
     /// A result in an `oncancel` is its result, and the finalizer is not run.
     pub fn oncancel_ends(&mut self) -> Made
         ghost nodes: { List Node }
-        requires { (finalizer : NodeId) × (done : Done) × ReturnsInto nodes self.old (Frame.OnCancel finalizer) done }
+        requires { (finalizer : NodeId) × (done : Done)
+            × ReturnsInto nodes self.old (Frame.OnCancel finalizer) done }
         ensures { MakesRule nodes self.old result self.new }
     {
         let _ = self.frames.pop();

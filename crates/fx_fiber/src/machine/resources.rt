@@ -29,12 +29,13 @@ impl Machine {
     pub fn acquired(
         &mut self,
         name: Option<u32>,
-        used: NodeId,
+        use_part: NodeId,
         release: NodeId,
         n: u64,
     ) -> Result<Made, Memory>
         ghost nodes: { List Node }
-        requires inside { (bracket : NodeId) × IsBracketAt nodes bracket name used release × ReturnsInto nodes self.old (Frame.Acquire bracket) (Done.Val n) }
+        requires inside { (bracket : NodeId) × IsBracketAt nodes bracket name use_part release
+            × ReturnsInto nodes self.old (Frame.Acquire bracket) (Done.Val n) }
         requires countable { self.old.acquired < 2 ^ 63 }
         ensures ok { IfOk result (λ made. MakesRule nodes self.old made self.new) }
         ensures err { OnErr result (IsSame nodes self.old self.new) }
@@ -44,14 +45,15 @@ impl Machine {
         self.frames.replace(Frame::Using(number, release));
         self.masks.leave();
         self.acquired = number + 1;
-        self.focus = Focus::Eval(used);
+        self.focus = Focus::Eval(use_part);
         Ok(Made::Shows(Event::Acquired(number)))
     }
 
     /// An error of the acquire part is that of the bracket, and nothing is released.
     pub fn acquire_fails(&mut self) -> Made
         ghost nodes: { List Node }
-        requires { (bracket : NodeId) × (e : ℕ) × ReturnsInto nodes self.old (Frame.Acquire bracket) (Done.Err e) }
+        requires { (bracket : NodeId) × (e : ℕ)
+            × ReturnsInto nodes self.old (Frame.Acquire bracket) (Done.Err e) }
         ensures { MakesRule nodes self.old result self.new }
     {
         let _ = self.frames.pop();
@@ -73,14 +75,14 @@ impl Machine {
     }
 
     /// A release that has a result ends the bracket.
-    pub fn released(&mut self, resource: u64, used: Done, done: Done) -> Made
+    pub fn released(&mut self, resource: u64, use_result: Done, done: Done) -> Made
         ghost nodes: { List Node }
-        requires inside { ReturnsInto nodes self.old (Frame.Releasing resource used) done }
+        requires inside { ReturnsInto nodes self.old (Frame.Releasing resource use_result) done }
         ensures { MakesRule nodes self.old result self.new }
     {
         let _ = self.frames.pop();
         self.masks.leave();
-        self.focus = Focus::Return(after_release(done, used));
+        self.focus = Focus::Return(after_release(done, use_result));
         Made::Shows(Event::End(resource))
     }
 }

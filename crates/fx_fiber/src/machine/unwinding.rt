@@ -74,7 +74,8 @@ impl Machine {
     /// The result of a finalizer is dropped, an error too.
     pub fn finalizer_ends(&mut self) -> Made
         ghost nodes: { List Node }
-        requires { (done : Done) × (unwound : Unwound) × ReturnsOut nodes self.old done × (self.old.cleanups ≡ Some unwound) × (unwound.resource ≡ None) }
+        requires { (done : Done) × (unwound : Unwound) × ReturnsOut nodes self.old done
+            × (self.old.cleanups ≡ Some unwound) × (unwound.resource ≡ None) }
         ensures { MakesRule nodes self.old result self.new }
     {
         self.focus = Focus::Unwinding;
@@ -84,7 +85,8 @@ impl Machine {
     /// So is the result of a release.
     pub fn release_ends(&mut self, number: u64) -> Made
         ghost nodes: { List Node }
-        requires { (done : Done) × (unwound : Unwound) × ReturnsOut nodes self.old done × (self.old.cleanups ≡ Some unwound) × (unwound.resource ≡ Some number) }
+        requires { (done : Done) × (unwound : Unwound) × ReturnsOut nodes self.old done
+            × (self.old.cleanups ≡ Some unwound) × (unwound.resource ≡ Some number) }
         ensures { MakesRule nodes self.old result self.new }
     {
         self.focus = Focus::Unwinding;

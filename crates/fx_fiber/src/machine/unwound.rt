@@ -16,7 +16,9 @@ pub struct Unwound {
 impl Unwound {
     /// Takes the next clean-up, which is the one that the fiber is in from now on.
     pub fn next(&mut self) -> Option<Cleanup>
-        ensures { MatchOption result ((self.old.left ≡ []) × (self.new.left ≡ [])) (λ cleanup. (self.old.left ≡ cleanup ∷ self.new.left) × (self.new.resource ≡ resource_of cleanup)) }
+        ensures { MatchOption result ((self.old.left ≡ []) × (self.new.left ≡ []))
+            (λ cleanup. (self.old.left ≡ cleanup ∷ self.new.left)
+            × (self.new.resource ≡ resource_of cleanup)) }
     {
         let next = self.left.next();
         self.resource = match next {

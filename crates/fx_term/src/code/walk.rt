@@ -66,7 +66,8 @@ fn push_parts(
     turns: u32,
 ) -> Result<(), CodeFault>
     requires { HasRightTurns turns (Some node) }
-    ensures pushed { OnOk result (ArePushed path.now (spots_below (Some node) path.now turns) stack.old.items stack.new.items) }
+    ensures pushed { OnOk result (ArePushed path.now
+        (spots_below (Some node) path.now turns) stack.old.items stack.new.items) }
     ensures memory { IfErr result (λ fault. fault ≡ CodeFault.Memory) }
 {
     let parts = node.parts();

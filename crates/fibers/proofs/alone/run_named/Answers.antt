@@ -3,20 +3,26 @@ use Rattle.fibers.proofs.RunsAlone.{made_a_rule, step_lowers_work, ran_a_step, i
 use Rattle.fibers.proofs.alone.run_named.Goals as goal
 
 pub returns-in-Waits : goal.returns-in-Waits
-returns-in-Waits g c = record { ending = is_blocked c.args.code.now g.J.Naming.nodes c.requires.code c.loop-nobody.fiber _ _ _ _ _ c.len.ensures.code c.in-Waits.is c.in_ok-step.ensures.ok c.loop-nobody.invariant }
+returns-in-Waits g c = record {
+  ending = is_blocked c.args.code.now g.J.CodeBrand.nodes c.requires.code c.loop-nobody.fiber _ _ _ _ _ c.len.ensures.code c.in-Waits.is
+      c.in_ok-step.ensures.ok c.loop-nobody.invariant;
+}
 
 pub loop-nobody-smaller : goal.loop-nobody-smaller
-loop-nobody-smaller g c = step_lowers_work _ g.J.Naming.nodes _ _ _ _ c.in_ok-step.field-0 (made_a_rule c.in-Ended.is) c.in_ok-step.ensures.ok
+loop-nobody-smaller g c = step_lowers_work _ g.J.CodeBrand.nodes _ _ _ _ c.in_ok-step.field-0 (made_a_rule c.in-Ended.is) c.in_ok-step.ensures.ok
 
 pub loop-nobody-preserved : goal.loop-nobody-preserved
-loop-nobody-preserved g c = ran_a_step _ g.J.Naming.nodes _ _ _ _ _ c.in_ok-step.field-0 (made_a_rule c.in-Ended.is) c.in_ok-step.ensures.ok c.loop-nobody.invariant
+loop-nobody-preserved g c =
+    ran_a_step _ g.J.CodeBrand.nodes _ _ _ _ _ c.in_ok-step.field-0 (made_a_rule c.in-Ended.is) c.in_ok-step.ensures.ok c.loop-nobody.invariant
 
 pub last_outcome-requires : goal.last_outcome-requires
 last_outcome-requires g c =
-    let over = has_outcome c.args.code.now g.J.Naming.nodes c.requires.code c.loop-nobody.fiber c.len.ensures.code (sym c.has_ended.ensures.ended ∙ c.loop-nobody-test.false) c.loop-nobody.invariant in
+    let ended = sym c.has_ended.ensures.ended ∙ c.loop-nobody-test.false in
+    let over = has_outcome c.args.code.now g.J.CodeBrand.nodes c.requires.code c.loop-nobody.fiber c.len.ensures.code ended c.loop-nobody.invariant in
     (over.outcome, rw c.trace.ensures.events over.shown)
 
 pub returns : goal.returns
 returns g c =
-    let over = has_outcome c.args.code.now g.J.Naming.nodes c.requires.code c.loop-nobody.fiber c.len.ensures.code (sym c.has_ended.ensures.ended ∙ c.loop-nobody-test.false) c.loop-nobody.invariant in
+    let ended = sym c.has_ended.ensures.ended ∙ c.loop-nobody-test.false in
+    let over = has_outcome c.args.code.now g.J.CodeBrand.nodes c.requires.code c.loop-nobody.fiber c.len.ensures.code ended c.loop-nobody.invariant in
     record { ending = outcome_shown c.args.code.now _ _ _ c.trace.ensures.events over c.last_outcome.ensures }

@@ -10,7 +10,8 @@ pub interrupted-requires : goal.interrupted-requires
 interrupted-requires g c =
     let here = c.in_ok-id-in-Eval in
     let inside = inside_leaf g.P.Port.code c.enter.new.self here.id here.node _ here.ensures.at here.ensures.leaf c.is_canceled.ensures in
-    is_interrupted g.P.Port.calls g.P.Port.agrees g.P.Port.code c.args.machine.now c.enter.new.self _ _ _ _ _ here.ensures.same inside c.in-Some.first c.in-Some.ensures.first
+    is_interrupted g.P.Port.calls g.P.Port.agrees g.P.Port.code c.args.machine.now c.enter.new.self _ _ _ _ _
+    here.ensures.same inside c.in-Some.first c.in-Some.ensures.first
 
 pub leaf_rule-requires : goal.leaf_rule-requires
 leaf_rule-requires g c =
@@ -18,7 +19,8 @@ leaf_rule-requires g c =
     let inside = inside_leaf g.P.Port.code c.enter.new.self here.id here.node _ here.ensures.at here.ensures.leaf c.is_canceled.ensures in (
       record {
         at = here.ensures.at;
-        free = is_free g.P.Port.calls g.P.Port.agrees g.P.Port.code c.args.machine.now c.enter.new.self _ _ _ _ _ here.ensures.same inside c.in-None.ensures.first;
+        free =
+            is_free g.P.Port.calls g.P.Port.agrees g.P.Port.code c.args.machine.now c.enter.new.self _ _ _ _ _ here.ensures.same inside c.in-None.ensures.first;
       },
       (
         here.ensures.leaf,
@@ -35,7 +37,8 @@ returns-in-Some-clause-ok g c =
     let here = c.in_ok-id-in-Eval in
     let inside = inside_leaf g.P.Port.code c.enter.new.self here.id here.node _ here.ensures.at here.ensures.leaf c.is_canceled.ensures in
     IfOk-weaker c.interrupted.result (λ m. Interrupts g.P.Port.code c.enter.new.self c.in-Some.first m c.interrupted.new.self) _
-    (λ m h. interrupted_advances g.P.Port.calls g.P.Port.agrees g.P.Port.code c.args.machine.now c.enter.new.self _ _ _ _ _ here.ensures.same inside c.in-Some.first m _ c.in-Some.ensures.first c.in-Some.ensures.saw h)
+    (λ m h. interrupted_advances g.P.Port.calls g.P.Port.agrees g.P.Port.code c.args.machine.now c.enter.new.self _ _ _ _ _
+    here.ensures.same inside c.in-Some.first m _ c.in-Some.ensures.first c.in-Some.ensures.saw h)
     c.interrupted.ensures.ok
 
 pub returns-in-None-clause-ok : goal.returns-in-None-clause-ok
@@ -43,7 +46,8 @@ returns-in-None-clause-ok g c =
     let here = c.in_ok-id-in-Eval in
     let inside = inside_leaf g.P.Port.code c.enter.new.self here.id here.node _ here.ensures.at here.ensures.leaf c.is_canceled.ensures in
     IfOk-weaker c.leaf_rule.result (λ m. MakesRule g.P.Port.code c.enter.new.self m c.leaf_rule.new.self) _
-    (λ m h. rule_advances g.P.Port.calls g.P.Port.agrees g.P.Port.code c.args.machine.now c.enter.new.self _ _ _ _ _ here.ensures.same inside m _ c.in-None.ensures.first h)
+    (λ m h. rule_advances g.P.Port.calls g.P.Port.agrees g.P.Port.code c.args.machine.now c.enter.new.self _ _ _ _ _
+    here.ensures.same inside m _ c.in-None.ensures.first h)
     c.leaf_rule.ensures.ok
 
 pub returns-in-None-interruption-clause-ok : goal.returns-in-None-interruption-clause-ok
@@ -51,7 +55,8 @@ returns-in-None-interruption-clause-ok g c =
     let s = c.args.machine.now in
     let inside = inside_result g.P.Port.code s c.in-Return.done c.requires.sound c.in-Return.is in
     IfOk-weaker c.result_rule.result (λ m. MakesRule g.P.Port.code s m c.result_rule.new.self) _
-    (λ m h. rule_advances g.P.Port.calls g.P.Port.agrees g.P.Port.code s s _ _ _ _ _ (same_here g.P.Port.code s c.requires.sound) inside m _ c.in-None-interruption.ensures.first h)
+    (λ m h. rule_advances g.P.Port.calls g.P.Port.agrees g.P.Port.code s s _ _ _ _ _
+    (same_here g.P.Port.code s c.requires.sound) inside m _ c.in-None-interruption.ensures.first h)
     c.result_rule.ensures.ok
 
 pub returns-in-None-interruption-2-clause-ok : goal.returns-in-None-interruption-2-clause-ok
@@ -59,5 +64,6 @@ returns-in-None-interruption-2-clause-ok g c =
     let s = c.args.machine.now in
     let inside = inside_loop g.P.Port.code s c.in-Turn.id c.in-Turn.turn c.requires.sound c.in-Turn.is in
     IfOk-weaker c.turn_rule.result (λ m. MakesRule g.P.Port.code s m c.turn_rule.new.self) _
-    (λ m h. rule_advances g.P.Port.calls g.P.Port.agrees g.P.Port.code s s _ _ _ _ _ (same_here g.P.Port.code s c.requires.sound) inside m _ c.in-None-interruption-2.ensures.first h)
+    (λ m h. rule_advances g.P.Port.calls g.P.Port.agrees g.P.Port.code s s _ _ _ _ _
+    (same_here g.P.Port.code s c.requires.sound) inside m _ c.in-None-interruption-2.ensures.first h)
     c.turn_rule.ensures.ok

@@ -15,7 +15,9 @@ returns g c =
       rule = (
         given_is_no_cede g.nodes c.args.self.now (Err c.requires.1) inside.given,
         rw (c.leave.ensures _ _ shut)
-            (given_step g.nodes c.args.self.now (frame.Acquire c.requires.0) (Err c.requires.1) inside _ _ _ _ (simp (c.pop.ensures.rest _ _ inside.frames, inside.given.focus, shut) refl) (λ k. fails_row g.nodes c.args.self.now.registers k _ c.requires.1 (slice_get g.nodes c.requires.0.0))),
+            (given_step g.nodes c.args.self.now (frame.Acquire c.requires.0) (Err c.requires.1) inside _ _ _ _
+            (simp (c.pop.ensures.rest _ _ inside.frames, inside.given.focus, shut) refl)
+            (λ k. fails_row g.nodes c.args.self.now.registers k _ c.requires.1 (slice_get g.nodes c.requires.0.0))),
       );
       is_local = tt;
     }

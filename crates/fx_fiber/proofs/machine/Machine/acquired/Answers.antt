@@ -13,9 +13,9 @@ returns-clause-ok g c =
     record {
       sound =
           rw (c.leave.ensures _ _ shut, c.replace.ensures _ _ inside.frames, c.in_ok-bind.ensures.ok)
-          (acquired_sound g.nodes c.args.self.now id c.args.name c.args.used c.args.release c.args.n inside bracket _ shut);
+          (acquired_sound g.nodes c.args.self.now id c.args.name c.args.use_part c.args.release c.args.n inside bracket _ shut);
       rule =
           rw (c.leave.ensures _ _ shut, c.replace.ensures _ _ inside.frames, c.in_ok-bind.ensures.ok)
-          (acquired_step g.nodes c.args.self.now id c.args.name c.args.used c.args.release c.args.n inside bracket _ shut);
+          (acquired_step g.nodes c.args.self.now id c.args.name c.args.use_part c.args.release c.args.n inside bracket _ shut);
       is_local = tt;
     }

@@ -11,7 +11,8 @@ returns-clause-ok g c =
     record {
       sound =
           rw (c.pop.ensures.rest _ _ inside.frames, c.in_ok-bind.ensures.ok)
-          (named_sound g.nodes c.args.self.now (frame.Handle c.args.name c.args.handler) (Err c.args.e) inside c.args.name c.args.handler c.args.e (λ e h. h) refl refl);
+          (named_sound g.nodes c.args.self.now (frame.Handle c.args.name c.args.handler) (Err c.args.e)
+          inside c.args.name c.args.handler c.args.e (λ e h. h) refl refl);
       rule = (
         given_is_no_cede g.nodes c.args.self.now (Err c.args.e) inside.given,
         named_step g.nodes c.args.self.now (frame.Handle c.args.name c.args.handler) (Err c.args.e) inside c.args.name c.args.handler c.args.e

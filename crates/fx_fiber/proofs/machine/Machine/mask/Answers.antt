@@ -11,7 +11,8 @@ bind-requires g c = mask_reaches g.nodes c.args.self.now c.requires.0.0 c.args.n
 pub returns-in_err-close_region-clause-err : goal.returns-in_err-close_region-clause-err
 returns-in_err-close_region-clause-err g c =
     on_any_error {P = IsSame g.nodes c.args.self.now c.close_region.new.self} _
-    (mask_register_stays g.nodes c.args.self.now c.requires.0.0 c.args.name c.args.part c.requires.0.1.at c.entries.result _ (rw (c.in_err-close_region.ensures.err, c.in_ok-bind.ensures.ok) refl))
+    (mask_register_stays g.nodes c.args.self.now c.requires.0.0 c.args.name c.args.part c.requires.0.1.at c.entries.result _
+    (rw (c.in_err-close_region.ensures.err, c.in_ok-bind.ensures.ok) refl))
 
 pub returns-clause-ok : goal.returns-clause-ok
 returns-clause-ok g c =
@@ -22,7 +23,8 @@ returns-clause-ok g c =
       rule = (
         leaf_is_no_cede g.nodes c.args.self.now c.requires.0.0 (node.Mask c.args.name c.args.part) stands.at tt (λ e. cc),
         rw (c.in_ok-close_region.ensures.ok)
-            (mask_step g.nodes c.args.self.now c.requires.0.0 c.args.name c.args.part stands.at stands.free _ (rw (c.in_ok-bind.ensures.ok, c.entries.ensures) refl)),
+            (mask_step g.nodes c.args.self.now c.requires.0.0 c.args.name c.args.part stands.at stands.free _
+            (rw (c.in_ok-bind.ensures.ok, c.entries.ensures) refl)),
       );
       is_local = tt;
     }

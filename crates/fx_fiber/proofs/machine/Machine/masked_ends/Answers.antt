@@ -13,7 +13,9 @@ returns g c =
       rule = (
         given_is_no_cede g.nodes c.args.self.now (c.requires.0) inside.given,
         rw (c.leave.ensures _ _ shut)
-            (given_step g.nodes c.args.self.now (frame.Masked) (c.requires.0) inside _ _ _ _ (simp (c.pop.ensures.rest _ _ inside.frames, inside.given.focus, shut) refl) (λ k. masked_ends)),
+            (given_step g.nodes c.args.self.now (frame.Masked) (c.requires.0) inside _ _ _ _
+            (simp (c.pop.ensures.rest _ _ inside.frames, inside.given.focus, shut) refl)
+            (λ k. masked_ends)),
       );
       is_local = tt;
     }

@@ -24,7 +24,8 @@ returns-in-Some-Finalizer g c =
       rule = (
         rw (c.requires.1, c.in-Some.is) refl,
         rw (c.requires.1, c.in-Some.is)
-            (finalizer_begins g.nodes s.registers s.frames s.masks c.in-Some.unwound c.next.new.self sound (counts_of s) c.in-Some-Finalizer.finalizer taken.0 taken.1),
+            (finalizer_begins g.nodes s.registers s.frames s.masks c.in-Some.unwound c.next.new.self sound (counts_of s)
+            c.in-Some-Finalizer.finalizer taken.0 taken.1),
       );
       is_local = tt;
     }
@@ -35,9 +36,11 @@ returns-in-Some-Release g c =
     let sound = rw (c.requires.1, c.in-Some.is) at c.requires.0 in
     let taken = rw c.in-Some-Release.field-0-is at c.in-Some-Release.ensures in
     record {
-      sound = release_sound g.nodes s.registers s.frames s.masks c.in-Some.unwound c.next.new.self sound c.in-Some-Release.number c.in-Some-Release.release taken.0;
+      sound =
+          release_sound g.nodes s.registers s.frames s.masks c.in-Some.unwound c.next.new.self sound c.in-Some-Release.number c.in-Some-Release.release taken.0;
       rule =
           rw (c.requires.1, c.in-Some.is)
-          (release_begins g.nodes s.registers s.frames s.masks c.in-Some.unwound c.next.new.self sound (counts_of s) c.in-Some-Release.number c.in-Some-Release.release taken.0 taken.1);
+          (release_begins g.nodes s.registers s.frames s.masks c.in-Some.unwound c.next.new.self sound (counts_of s)
+          c.in-Some-Release.number c.in-Some-Release.release taken.0 taken.1);
       is_local = tt;
     }

@@ -10,6 +10,8 @@ returns-clause-ok g c =
     record {
       sound = search rules;
       rule = rw c.in_ok-seal.ensures.ok
-          (given_step g.nodes c.args.self.now (frame.Using c.args.resource c.args.release) (c.args.done) inside _ _ _ _ (rw (c.replace.ensures _ _ inside.frames) refl) (λ k. used));
+          (given_step g.nodes c.args.self.now (frame.Using c.args.resource c.args.release) (c.args.done) inside _ _ _ _
+          (rw (c.replace.ensures _ _ inside.frames) refl)
+          (λ k. used));
       is_local = tt;
     }

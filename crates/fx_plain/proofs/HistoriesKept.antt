@@ -1,0 +1,199 @@
+-- Each queue of a whole machine is the rest of a legal history, whose cut to each fiber is what its labels do there.
+use Rattle.std.specs.Prelude.{if◌then◌else◌}
+use Rattle.std.proofs.Common.{◌≡◌, ℕ, Bool, true, false, Option, Some, None, List, [], ◌∷◌, ◌++◌, length, drop, refl, sym, ◌∙◌, ap, subst, inl, inr, append-nil}
+use Rattle.std.specs.Prelude.{◌==◌, nat_lt, slice_index}
+use Rattle.std.specs.List.{cons_option}
+use Rattle.std.proofs.lemmas.Bool.{cases_eq, eq-eqb, ne_eqb}
+use Rattle.std.proofs.lemmas.Option.{none-some, same_Some}
+use Rattle.std.proofs.lemmas.List.Elements.{filter-append, filter_map-append}
+use Rattle.fx_term.specs.declared.event.Event.{Event}
+use Rattle.fx_term.specs.declared.event.Event.TheVariants as event
+use Rattle.fx_fiber.specs.Row.{Counts, Label, Silent, Shows, Learns, Starts}
+use Rattle.fx_fiber.specs.Step.{Progress, Step}
+use Rattle.fx_fiber.specs.Run.{events}
+use Rattle.fx_fiber.proofs.Keeping.{events_append}
+use Rattle.fx_term.specs.declared.item.Item.{Item}
+use Rattle.fx_term.specs.declared.queue_event.QueueEvent.{QueueEvent}
+use Rattle.fx_term.specs.declared.queue_event.QueueEvent.TheVariants.{Put, Got}
+use Rattle.fx_term.specs.Queue.{fiber_of, cut, QueueState, empty_queue, items_of, with_put, after_got, replayed_from, replayed, queue_event, queue_events}
+use Rattle.fx_term.specs.Queue.{values_put}
+use Rattle.fx_term.specs.Script.{ScriptView}
+use Rattle.fx_plain.specs.WholeMachine.{StartedFiber, WholeMachine, opening, front, has_room, IsAnswered, queues_after, moved}
+use Rattle.fx_plain.proofs.Maps.{at_that, at_other, same_number}
+use Rattle.fx_fiber.proofs.StepLabels.{IsProper, step_tells}
+use Rattle.fx_term.proofs.QueueLaws.{replayed_append, length-numbered, elements_are_offers}
+use Rattle.fx_plain.proofs.WholeMachineSteps.{still_itself, still_other, still_none, child_is_there}
+use Rattle.fx_plain.proofs.RangesKept.{HasRanges, fresh, child_is_another}
+use Rattle.fx_plain.proofs.FamilyKept.{labels_of_fiber, labels_of}
+
+abbrev capacity_of : ScriptView → ℕ → ℕ
+capacity_of s q = slice_index s.capacities q
+
+pub record HasHistories (s : ScriptView) (m : WholeMachine) : Type 0 where
+  pub history : ℕ → List QueueEvent
+  pub state : ℕ → QueueState
+  pub legal : (q : ℕ) → replayed (capacity_of s q) (history q) ≡ Some (state q)
+  pub items : (q : ℕ) → (state q).items ≡ m.queues q
+  pub cuts : (q f : ℕ) → cut f (history q) ≡ queue_events q f (events (labels_of m f))
+
+pub opening_has_histories : (s : ScriptView) → HasHistories s (opening s)
+opening_has_histories s = record {
+  history = λ q. [];
+  state = λ q. empty_queue;
+  legal = λ q. refl;
+  items = λ q. refl;
+  cuts = λ q f. elim (cases_eq f 0) [
+    | inl e ↦ sym (ap (λ (o : Option StartedFiber). queue_events q f (events (labels_of_fiber o))) (at_that 0 _ (λ g. None) f e))
+    | inr ne ↦ sym (ap (λ (o : Option StartedFiber). queue_events q f (events (labels_of_fiber o))) (at_other 0 _ (λ g. None) f ne))
+  ];
+}
+
+-- a fiber's events are its own
+own_put : (f n : ℕ) (b : Bool) (xs : List QueueEvent) → cut f xs ≡ xs
+    → cut f (cons_option (if b then Some (Put f n) else None) xs) ≡ cons_option (if b then Some (Put f n) else None) xs
+own_put f n true xs e = rw (same_number f) (ap (λ (ys : List QueueEvent). Put f n ∷ ys) e)
+own_put f n false xs e = e
+
+own_get : (f n : ℕ) (b : Bool) (xs : List QueueEvent) → cut f xs ≡ xs
+    → cut f (cons_option (if b then Some (Got f n) else None) xs) ≡ cons_option (if b then Some (Got f n) else None) xs
+own_get f n true xs e = rw (same_number f) (ap (λ (ys : List QueueEvent). Got f n ∷ ys) e)
+own_get f n false xs e = e
+
+cut_own : (q f : ℕ) (es : List Event) → cut f (queue_events q f es) ≡ queue_events q f es
+cut_own q f [] = refl
+cut_own q f (event.Put r n ∷ es) = own_put f n (r == q) (queue_events q f es) (cut_own q f es)
+cut_own q f (event.Got r n ∷ es) = own_get f n (r == q) (queue_events q f es) (cut_own q f es)
+cut_own q f (_ ∷ es) = cut_own q f es
+
+other_put : (f g n : ℕ) (b : Bool) (xs : List QueueEvent) → (f ≡ g → ⊥) → cut g xs ≡ [] → cut g (cons_option (if b then Some (Put f n) else None) xs) ≡ []
+other_put f g n true xs ne e = rw (ne_eqb f g ne) e
+other_put f g n false xs ne e = e
+
+other_get : (f g n : ℕ) (b : Bool) (xs : List QueueEvent) → (f ≡ g → ⊥) → cut g xs ≡ [] → cut g (cons_option (if b then Some (Got f n) else None) xs) ≡ []
+other_get f g n true xs ne e = rw (ne_eqb f g ne) e
+other_get f g n false xs ne e = e
+
+cut_other : (q f g : ℕ) (es : List Event) → (f ≡ g → ⊥) → cut g (queue_events q f es) ≡ []
+cut_other q f g [] ne = refl
+cut_other q f g (event.Put r n ∷ es) ne = other_put f g n (r == q) (queue_events q f es) ne (cut_other q f g es ne)
+cut_other q f g (event.Got r n ∷ es) ne = other_get f g n (r == q) (queue_events q f es) ne (cut_other q f g es ne)
+cut_other q f g (_ ∷ es) ne = cut_other q f g es ne
+
+-- a queue after the events of one step
+record Goes (capacity : ℕ) (st : QueueState) (more : List QueueEvent) (items : List Item) : Type 0 where
+  pub next : QueueState
+  pub legal : replayed_from capacity (Some st) more ≡ Some next
+  pub items_are : next.items ≡ items
+
+stays : (capacity : ℕ) (st : QueueState) (items : List Item) → st.items ≡ items → Goes capacity st [] items
+stays capacity st items e = record { next = st; legal = refl; items_are = e }
+
+-- a put that finds room
+puts : (capacity f n : ℕ) (st : QueueState) (items : List Item) (nth : ℕ) → st.items ≡ items → length (items_of f st.put) ≡ nth
+    → nat_lt (length items) capacity ≡ true
+    → Goes capacity st (Put f n ∷ []) (items ++ record { fiber = f; nth = nth; value = n } ∷ [])
+puts capacity f n st items nth e count room = record {
+  next = with_put st (record { fiber = f; nth = length (items_of f st.put); value = n });
+  legal = rw (ap (λ (xs : List Item). nat_lt (length xs) capacity) e, room) refl;
+  items_are = rw (e, count) refl;
+}
+
+-- a get that finds a front
+gets : (capacity f n : ℕ) (st : QueueState) (items : List Item) → st.items ≡ items → front items ≡ Some n → Goes capacity st (Got f n ∷ []) (drop 1 items)
+gets capacity f n st [] e is = absurd (none-some n is)
+gets capacity f n st (x ∷ rest) e is =
+    let same : x.value ≡ n = same_Some x.value n is in
+    let legal : after_got st f n st.items ≡ after_got st f n (x ∷ rest) = ap (after_got st f n) e in
+    record {
+      next = record st { taken = st.taken ++ record { taker = f; item = x } ∷ []; items = rest };
+      legal = legal ∙ rw (eq-eqb x.value n same) refl;
+      items_are = refl;
+    }
+
+module _ (s : ScriptView) (m : WholeMachine) (f : ℕ) (x : StartedFiber) (d : Counts) (p : Progress) (at : m.fibers f ≡ Some x) (ranges : HasRanges s m)
+    (h : HasHistories s m) where
+  -- how many elements the fiber put into a queue so far
+  put_so_far : (q : ℕ) → length (items_of f (h.state q).put) ≡ length (values_put q (events x.labels))
+  put_so_far q =
+      let trace : events (labels_of m f) ≡ events x.labels = ap (λ (o : Option StartedFiber). events (labels_of_fiber o)) at in
+      ap length (elements_are_offers (capacity_of s q) q f (h.history q) (h.state q) (events x.labels) (h.legal q) (h.cuts q f ∙ ap (queue_events q f) trace))
+      ∙ length-numbered f 0 (values_put q (events x.labels))
+
+  module _ (q : ℕ) where
+    abbrev GoesBy : Label → Type 0
+    GoesBy l = Goes (capacity_of s q) (h.state q) (queue_events q f (events (l ∷ []))) (queues_after f x.labels l m.queues q)
+
+    goes_put : (r n : ℕ) → has_room s m r ≡ true → GoesBy (Shows (event.Put r n))
+    goes_put r n room = elim (cases_eq q r) [
+      | inl e ↦ rw (eq-eqb r q (sym e), eq-eqb q r e) (subst
+          (λ (k : ℕ). Goes (capacity_of s q) (h.state q) (Put f n ∷ [])
+          (m.queues k ++ record { fiber = f; nth = length (values_put k (events x.labels)); value = n } ∷ [])) e
+          (puts (capacity_of s q) f n (h.state q) (m.queues q) (length (values_put q (events x.labels))) (h.items q) (put_so_far q)
+          (subst (λ (k : ℕ). has_room s m k ≡ true) (sym e) room)))
+      | inr ne ↦ rw (ne_eqb r q (λ e. ne (sym e)), ne_eqb q r ne) (stays (capacity_of s q) (h.state q) (m.queues q) (h.items q))
+    ]
+
+    goes_get : (r n : ℕ) → front (m.queues r) ≡ Some n → GoesBy (Shows (event.Got r n))
+    goes_get r n is = elim (cases_eq q r) [
+      | inl e ↦ rw (eq-eqb r q (sym e), eq-eqb q r e) (subst (λ (k : ℕ). Goes (capacity_of s q) (h.state q) (Got f n ∷ []) (drop 1 (m.queues k))) e
+          (gets (capacity_of s q) f n (h.state q) (m.queues q) (h.items q) (subst (λ (k : ℕ). front (m.queues k) ≡ Some n) (sym e) is)))
+      | inr ne ↦ rw (ne_eqb r q (λ e. ne (sym e)), ne_eqb q r ne) (stays (capacity_of s q) (h.state q) (m.queues q) (h.items q))
+    ]
+
+    goes_on : (l : Label) → IsProper l → IsAnswered s m f l → GoesBy l
+    goes_on (Shows (event.Put r n)) proper a = goes_put r n a
+    goes_on (Shows (event.Got r n)) proper a = goes_get r n a
+    goes_on (Learns g o (event.Joined k v)) proper a = stays (capacity_of s q) (h.state q) (m.queues q) (h.items q)
+    goes_on (Learns g o (event.Awaited k)) proper a = stays (capacity_of s q) (h.state q) (m.queues q) (h.items q)
+    goes_on (Learns g o (event.First k)) proper a = stays (capacity_of s q) (h.state q) (m.queues q) (h.items q)
+    goes_on (Learns g o _) proper a = absurd proper
+    goes_on _ proper a = stays (capacity_of s q) (h.state q) (m.queues q) (h.items q)
+
+  module _ (l : Label) (st : Step x.counts x.progress l d p) where
+    -- the labels of the other fibers are as they were
+    labels_of_other : (g : ℕ) → (g ≡ f → ⊥) → labels_of (moved m f x l d p) g ≡ labels_of m g
+    labels_of_other g ne = by_fiber (m.fibers g) refl
+      where
+        free : (l : Label) → Step x.counts x.progress l d p → m.fibers g ≡ None → labels_of (moved m f x l d p) g ≡ []
+        free Silent st e = ap labels_of_fiber (still_none m f x d p Silent g ne (λ k b i. cc) e)
+        free (Shows v) st e = ap labels_of_fiber (still_none m f x d p (Shows v) g ne (λ k b i. cc) e)
+        free (Learns k o v) st e = ap labels_of_fiber (still_none m f x d p (Learns k o v) g ne (λ j b i. cc) e)
+        free (Starts k b) st e = elim (cases_eq g k) [
+          | inl same ↦ ap (labels_of (moved m f x (Starts k b) d p)) same
+              ∙ ap labels_of_fiber (child_is_there m f x d p k b (child_is_another s m f x d p at ranges k b st))
+          | inr apart ↦ ap labels_of_fiber (still_none m f x d p (Starts k b) g ne (λ j c i e. apart (e ∙ (let z = i in cc))) e)
+        ]
+
+        by_fiber : (o : Option StartedFiber) → m.fibers g ≡ o → labels_of (moved m f x l d p) g ≡ labels_of m g
+        by_fiber None e = free l st e ∙ sym (ap labels_of_fiber e)
+        by_fiber (Some y) e = ap labels_of_fiber (still_other m f x d p l g y ne (fresh s m f x d p at ranges l st) e) ∙ sym (ap labels_of_fiber e)
+
+    cuts_kept : (q g : ℕ) → cut g (h.history q ++ queue_events q f (events (l ∷ []))) ≡ queue_events q g (events (labels_of (moved m f x l d p) g))
+    cuts_kept q g = filter-append (λ e. fiber_of e == g) (h.history q) (queue_events q f (events (l ∷ []))) ∙ elim (cases_eq g f) [
+      | inl same ↦ subst (λ (k : ℕ). cut k (h.history q) ++ cut k (queue_events q f (events (l ∷ []))) ≡ queue_events q k
+          (events (labels_of (moved m f x l d p) k))) (sym same) itself
+      | inr ne ↦
+          ap (λ (ys : List QueueEvent). cut g (h.history q) ++ ys) (cut_other q f g (events (l ∷ [])) (λ e. ne (sym e)))
+          ∙ append-nil (cut g (h.history q)) ∙ h.cuts q g ∙ ap (λ (ls : List Label). queue_events q g (events ls)) (sym (labels_of_other g ne))
+    ]
+      where
+        itself : cut f (h.history q) ++ cut f (queue_events q f (events (l ∷ []))) ≡ queue_events q f (events (labels_of (moved m f x l d p) f))
+        itself =
+            ap (λ (ys : List QueueEvent). cut f (h.history q) ++ ys) (cut_own q f (events (l ∷ [])))
+            ∙ ap (λ (ys : List QueueEvent). ys ++ queue_events q f (events (l ∷ [])))
+            (h.cuts q f ∙ ap (λ (o : Option StartedFiber). queue_events q f (events (labels_of_fiber o))) at)
+            ∙ sym (filter_map-append (queue_event q f) (events x.labels) (events (l ∷ [])))
+            ∙ ap (queue_events q f) (sym (events_append x.labels (l ∷ [])))
+            ∙ sym (ap (λ (o : Option StartedFiber). queue_events q f (events (labels_of_fiber o))) (still_itself m f x d p l))
+
+    pub histories_kept : IsAnswered s m f l → HasHistories s (moved m f x l d p)
+    histories_kept a = record {
+      history = λ q. h.history q ++ queue_events q f (events (l ∷ []));
+      state = λ q. (goes_on q l (step_tells st).proper a).next;
+      legal =
+          λ q. replayed_append (capacity_of s q) (Some empty_queue) (h.history q) (queue_events q f (events (l ∷ [])))
+          ∙ ap (λ (t : Option QueueState). replayed_from (capacity_of s q) t (queue_events q f (events (l ∷ [])))) (h.legal q)
+          ∙ (goes_on q l (step_tells st).proper a).legal;
+      items = λ q. (goes_on q l (step_tells st).proper a).items_are;
+      cuts = cuts_kept;
+    }

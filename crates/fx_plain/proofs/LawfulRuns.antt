@@ -1,0 +1,291 @@
+-- The report of a chosen run is lawful.
+use Rattle.std.specs.Prelude.{if◌then◌else◌}
+use Rattle.std.proofs.Common.{◌≡◌, ℕ, All, ◌<◌, Bool, true, false, Option, Some, None, List, length, refl, sym, ◌∙◌, ap, inl, inr}
+use Rattle.std.specs.Prelude.{nat_lt, slice_get, slice_index}
+use Rattle.std.specs.List.{list_any}
+use Rattle.std.proofs.lemmas.Bool.{or_cases, or_left, or_right}
+use Rattle.std.proofs.lemmas.Option.{none-some, same_Some, get_or_from_slice_get}
+use Rattle.std.proofs.lemmas.List.Elements.{All-weaker}
+use mathlib.Core.Path.{fun_ext}
+use Rattle.fx_term.specs.declared.outcome.Outcome.{Outcome}
+use Rattle.fx_term.specs.declared.event.Event.TheVariants as event
+use Rattle.fx_fiber.specs.Row.{Counts, Label, Silent, Shows, Learns, Starts}
+use Rattle.fx_fiber.specs.Origin.{Origin}
+use Rattle.fx_fiber.specs.Step.{Progress, HasEnded}
+use Rattle.fx_fiber.specs.Run.{events, first_counts}
+use Rattle.fx_fiber.specs.Origin.{main_origin}
+use Rattle.fx_fiber.specs.Fiber.{has_ended}
+use Rattle.fx_text.specs.declared.pick.Pick.{Pick}
+use Rattle.fx_term.specs.declared.item.Item.{Item}
+use Rattle.fx_term.specs.Queue.{queue_events}
+use Rattle.fx_fiber.specs.Outside.{outcome_at, Outside, can_step}
+use Rattle.fx_term.specs.Script.{ScriptView, total}
+use Rattle.fx_fiber.specs.Report.{FiberReportView, ReportView, fiber_in, parent_of_report, parent_in, trace_of_report, trace_in, outcome_shown, is_request_for}
+use Rattle.fx_fiber.specs.Report.{is_requested_in, final_outside}
+use Rattle.fx_fiber.specs.LawfulReport.{starts_of, is_parent, HasStarters, HasRun, HasRuns, BeginsAs, HasOrigins, HasHistory, IsLearnt, IsSeenRightly}
+use Rattle.fx_fiber.specs.LawfulReport.{IsLawfulReport}
+use Rattle.fx_plain.specs.WholeMachine.{StartedFiber, WholeMachine, Move, opening, outcome_of_fiber, outcome_of, outside_of, can_step_fiber, can_step_in}
+use Rattle.fx_plain.specs.WholeMachine.{FiberSteps, requested_from_outside}
+use Rattle.fx_plain.specs.Chosen.{IsChosen, step, no_step, request, no_request, least, rests, report_of_fiber, IsReportOf, IsReplay}
+use Rattle.fx_plain.proofs.Maps.{same_tests}
+use Rattle.fx_plain.proofs.RangesKept.{HasRanges, opening_has_ranges, ranges_kept}
+use Rattle.fx_plain.proofs.FamilyKept.{parent_of_fiber, parent_of, labels_of_fiber, labels_of, IsFamily, opening_is_family, family_kept}
+use Rattle.fx_plain.proofs.RunsKept.{IsSo, AreSo, HasRequests, opening_is_so, opening_has_requests, are_so_kept, requests_kept, request_is_so}
+use Rattle.fx_plain.proofs.RunsKept.{request_has_requests}
+use Rattle.fx_plain.proofs.HistoriesKept.{HasHistories, opening_has_histories, histories_kept}
+use Rattle.fx_fiber.proofs.OutcomeLaws.{run_outcome, run_stops}
+use Rattle.fx_plain.proofs.Keys.{rises_from, passing_is_found, found_passes, contained_passes}
+
+-- what each machine of a run keeps
+pub record IsKept (s : ScriptView) (m : WholeMachine) : Type 0 where
+  pub ranges : HasRanges s m
+  pub family : IsFamily s m
+  pub so : AreSo m
+  pub requests : HasRequests s m
+  pub histories : HasHistories s m
+
+pub opening_is_kept : (s : ScriptView) → IsKept s (opening s)
+opening_is_kept s =
+    record {
+      ranges = opening_has_ranges s;
+      family = opening_is_family s;
+      so = opening_is_so s;
+      requests = opening_has_requests s;
+      histories =
+          opening_has_histories s;
+    }
+
+pub step_keeps : (s : ScriptView) (m : WholeMachine) (f : ℕ) (l : Label) (m' : WholeMachine) → FiberSteps s m f l m' → IsKept s m → IsKept s m'
+step_keeps s m f l m' st k = rw st.after (record {
+  ranges = ranges_kept s m f st.fiber st.counts st.progress st.started k.ranges l st.step;
+  family = family_kept s m f st.fiber st.counts st.progress st.started k.ranges k.family l st.step;
+  so = are_so_kept s m f st.fiber st.counts st.progress st.started k.ranges l st.step st.answered k.so;
+  requests = requests_kept s m f st.fiber st.counts st.progress st.started k.ranges l st.step k.requests;
+  histories = histories_kept s m f st.fiber st.counts st.progress st.started k.ranges k.histories l st.step st.answered;
+})
+
+pub request_keeps : (s : ScriptView) (m : WholeMachine) (f : ℕ) → f < total s → IsKept s m → IsKept s (requested_from_outside f m)
+request_keeps s m f lt k = record {
+  ranges = record {
+    room = k.ranges.room;
+    apart =
+        λ g h n p q. k.ranges.apart g h n (record { fiber = p.fiber; at = p.at; least = p.least; below = p.below })
+        (record { fiber = q.fiber; at = q.at; least = q.least; below = q.below });
+    unstarted = λ g n p. k.ranges.unstarted g n (record { fiber = p.fiber; at = p.at; least = p.least; below = p.below });
+    below_total = k.ranges.below_total;
+    started_below = k.ranges.started_below;
+  };
+  family = record { main = k.family.main; others = k.family.others; parents = k.family.parents; once = k.family.once; runs = k.family.runs };
+  so = request_is_so s m f lt k.so;
+  requests = request_has_requests s m f lt k.requests;
+  histories =
+      record { history = k.histories.history; state = k.histories.state; legal = k.histories.legal; items = k.histories.items; cuts = k.histories.cuts };
+}
+
+pub chosen_keeps : (s : ScriptView) {ps : List Pick} {m last : WholeMachine} {vs : List Move} → IsChosen s ps m vs last → IsKept s m → IsKept s last
+chosen_keeps s (step {f = f} {l = l} {m = m} {m' = m'} c rest) k = chosen_keeps s rest (step_keeps s m f l m' c.steps k)
+chosen_keeps s (no_step e rest) k = chosen_keeps s rest k
+chosen_keeps s (request {f = f} {m = m} lt rest) k = chosen_keeps s rest (request_keeps s m f lt k)
+chosen_keeps s (no_request le rest) k = chosen_keeps s rest k
+chosen_keeps s (least {f = f} {l = l} {m = m} {m' = m'} none c rest) k = chosen_keeps s rest (step_keeps s m f l m' c.steps k)
+chosen_keeps s (rests none) k = k
+
+-- at the end of a chosen run no fiber can step
+pub chosen_rests : (s : ScriptView) {ps : List Pick} {m last : WholeMachine} {vs : List Move} → IsChosen s ps m vs last → (f : ℕ) → can_step_in s last f ≡ false
+chosen_rests s (step c rest) f = chosen_rests s rest f
+chosen_rests s (no_step e rest) f = chosen_rests s rest f
+chosen_rests s (request lt rest) f = chosen_rests s rest f
+chosen_rests s (no_request le rest) f = chosen_rests s rest f
+chosen_rests s (least none c rest) f = chosen_rests s rest f
+chosen_rests s (rests none) f = none f
+
+abbrev id : FiberReportView → ℕ
+id x = x.id
+
+abbrev asks_for : ℕ → FiberReportView → Bool
+asks_for f x = list_any (is_request_for f) x.trace
+
+abbrev fiber_report : ℕ → StartedFiber → FiberReportView
+fiber_report f y = record { id = f; parent = y.parent; has_ended = has_ended y.progress; trace = events y.labels }
+
+module _ (s : ScriptView) (m : WholeMachine) (r : ReportView) (rep : IsReportOf s m r) (kept : IsKept s m) where
+  -- a fiber of the report is one of the whole machine
+  record Of (f : ℕ) (x : FiberReportView) : Type 0 where
+    pub fiber : StartedFiber
+    pub at : m.fibers f ≡ Some fiber
+    pub is : x ≡ fiber_report f fiber
+
+  of_machine : (f : ℕ) (x : FiberReportView) → fiber_in r f ≡ Some x → Of f x
+  of_machine f x e = by_fiber (m.fibers f) refl
+    where
+      by_fiber : (o : Option StartedFiber) → m.fibers f ≡ o → Of f x
+      by_fiber None is = absurd (none-some x (sym (ap (report_of_fiber f) is) ∙ sym (rep.fibers f) ∙ e))
+      by_fiber (Some y) is = record { fiber = y; at = is; is = same_Some x (fiber_report f y) (sym e ∙ rep.fibers f ∙ ap (report_of_fiber f) is) }
+
+  in_report : (f : ℕ) (y : StartedFiber) → m.fibers f ≡ Some y → fiber_in r f ≡ Some (fiber_report f y)
+  in_report f y e = rep.fibers f ∙ ap (report_of_fiber f) e
+
+  parent_of_told : (f : ℕ) (o : Option StartedFiber) → parent_of_report (report_of_fiber f o) ≡ parent_of_fiber o
+  parent_of_told f None = refl
+  parent_of_told f (Some y) = refl
+
+  trace_of_told : (f : ℕ) (o : Option StartedFiber) → trace_of_report (report_of_fiber f o) ≡ events (labels_of_fiber o)
+  trace_of_told f None = refl
+  trace_of_told f (Some y) = refl
+
+  parent_same : (f : ℕ) → parent_in r f ≡ parent_of m f
+  parent_same f = ap parent_of_report (rep.fibers f) ∙ parent_of_told f (m.fibers f)
+
+  trace_same : (f : ℕ) → trace_in r f ≡ events (labels_of m f)
+  trace_same f = ap trace_of_report (rep.fibers f) ∙ trace_of_told f (m.fibers f)
+
+  starters_told : HasStarters r
+  starters_told = record {
+    ascending = rep.ascending;
+    main = (fiber_report 0 kept.family.main.0, in_report 0 kept.family.main.0 kept.family.main.1, kept.family.main.2);
+    others = λ f x e ne.
+        (let o = of_machine f x e in
+        let h = kept.family.others f o.fiber o.at ne in
+        (h.0, fiber_report h.0 h.1, ap (λ (z : FiberReportView). z.parent) o.is ∙ h.2, in_report h.0 h.1 h.3));
+    once = λ g y e f.
+        (let o = of_machine g y e in
+        ap (λ (z : FiberReportView). starts_of f z.trace) o.is ∙ kept.family.once g o.fiber o.at f
+        ∙ ap (λ (p : Option ℕ). if is_parent p g then 1 else 0) (sym (parent_same f)));
+  }
+
+  outcome_of_told : (f : ℕ) → outcome_shown (trace_in r f) ≡ outcome_of m f
+  outcome_of_told f = ap outcome_shown (trace_same f) ∙ by_fiber (m.fibers f) refl
+    where
+      by_fiber : (o : Option StartedFiber) → m.fibers f ≡ o → outcome_shown (events (labels_of_fiber o)) ≡ outcome_of m f
+      by_fiber None is = sym (ap outcome_of_fiber is)
+      by_fiber (Some y) is = run_outcome y.origin y.labels y.counts y.progress (kept.family.runs f y is) ∙ sym (ap outcome_of_fiber is)
+
+  -- who is requested by the report is so in the whole machine, and the other way round
+  requested_told : (f : ℕ) → is_requested_in r f ≡ m.requested f
+  requested_told f = same_tests (is_requested_in r f) (m.requested f) there back
+    where
+      by_trace : (x : FiberReportView) → fiber_in r x.id ≡ Some x → list_any (is_request_for f) x.trace ≡ true → m.requested f ≡ true
+      by_trace x e asks =
+          let o = of_machine x.id x e in
+          kept.requests.by_fiber f (record {
+            number = x.id;
+            fiber = o.fiber;
+            at = o.at;
+            asks =
+                sym (ap (λ (z : FiberReportView). list_any (is_request_for f) z.trace) o.is) ∙ asks;
+          })
+
+      there : is_requested_in r f ≡ true → m.requested f ≡ true
+      there e = elim (or_cases _ _ e) [
+        | inl asks ↦ (let p = passing_is_found id (asks_for f) r.fibers (rises_from id r.fibers rep.ascending) asks in
+            by_trace p.0 p.1 p.2)
+        | inr out ↦ kept.requests.by_outside f (sym (rep.outside f) ∙ out)
+      ]
+
+      back : m.requested f ≡ true → is_requested_in r f ≡ true
+      back e = elim (kept.requests.asked f e) [
+        | inl out ↦ or_right _ _ (rep.outside f ∙ out)
+        | inr a ↦ or_left _ _ (found_passes id a.number (asks_for f) r.fibers (fiber_report a.number a.fiber)
+            (in_report a.number a.fiber a.at) a.asks)
+      ]
+
+  outside_same : final_outside s r ≡ outside_of s m
+  outside_same =
+      by_parts (fun_ext outcome_of_told) (fun_ext (λ q. ap (λ (xs : List Item). nat_lt (length xs) (slice_index s.capacities q)) (rep.left q)))
+      (fun_ext (λ q. ap (λ (xs : List Item). nat_lt 0 (length xs)) (rep.left q))) (fun_ext requested_told)
+    where
+      by_parts : {a a' : ℕ → Option Outcome} {b b' c c' d d' : ℕ → Bool} → a ≡ a' → b ≡ b' → c ≡ c' → d ≡ d'
+          → ◌≡◌ {A = Outside} (record { outcome = a; has_room = b; has_element = c; is_requested = d })
+          (record { outcome = a'; has_room = b'; has_element = c'; is_requested = d' })
+      by_parts p q u v = cc
+
+  abbrev origin_in : Option StartedFiber → Origin
+  origin_in None = main_origin s.term
+  origin_in (Some y) = y.origin
+
+  abbrev counts_in : Option StartedFiber → Counts
+  counts_in None = first_counts (main_origin s.term)
+  counts_in (Some y) = y.counts
+
+  abbrev progress_in : Option StartedFiber → Progress
+  progress_in None = HasEnded Rattle.fx_term.specs.declared.outcome.Outcome.TheVariants.Canceled
+  progress_in (Some y) = y.progress
+
+  begins_as : (l : Label) (f : ℕ) → IsSo m f l → BeginsAs (λ g. origin_in (m.fibers g)) l
+  begins_as (Starts g b) f h = ap origin_in h.1 ∙ h.2
+  begins_as Silent f h = tt
+  begins_as (Shows e) f h = tt
+  begins_as (Learns g o e) f h = tt
+
+  is_learnt : (l : Label) (f : ℕ) → IsSo m f l → IsLearnt r l
+  is_learnt (Learns g o e) f h =
+      let y = h.0 in
+      rw (trace_same g, h.1) (run_stops y.origin y.labels y.counts y.progress o (kept.family.runs g y h.1) (ap outcome_at h.2)).ends
+  is_learnt Silent f h = tt
+  is_learnt (Shows e) f h = tt
+  is_learnt (Starts g b) f h = tt
+
+  is_seen : (l : Label) (f : ℕ) → IsSo m f l → IsSeenRightly r f l
+  is_seen (Shows event.Seen) f h = requested_told f ∙ h
+  is_seen _ f h = tt
+
+  module _ (none : (f : ℕ) → can_step_in s m f ≡ false) where
+    run_told : (f : ℕ) (x : FiberReportView) → fiber_in r f ≡ Some x
+        → HasRun s r f x (origin_in (m.fibers f)) (labels_of m f) (counts_in (m.fibers f)) (progress_in (m.fibers f))
+    run_told f x e =
+        let o = of_machine f x e in
+        let y = o.fiber in
+        let run : HasRun s r f x y.origin y.labels y.counts y.progress = record {
+          run = kept.family.runs f y o.at;
+          trace = sym (ap (λ (z : FiberReportView). z.trace) o.is);
+          state = sym (ap (λ (z : FiberReportView). z.has_ended) o.is);
+          rests = ap (λ (out : Outside). can_step out f y.counts y.progress) outside_same ∙ sym (ap (can_step_fiber (outside_of s m) f) o.at) ∙ none f;
+        } in
+        rw o.at run
+
+    runs_told : HasRuns s r
+    runs_told = record {
+      origin = λ f. origin_in (m.fibers f);
+      labels = λ f. labels_of m f;
+      counts = λ f. counts_in (m.fibers f);
+      progress = λ f. progress_in (m.fibers f);
+      run = run_told;
+    }
+
+    -- what the labels of a fiber say
+    all_labels : (P : Label → Type 0) (f : ℕ) → ((l : Label) → IsSo m f l → P l) → (x : FiberReportView) → fiber_in r f ≡ Some x → All P (labels_of m f)
+    all_labels P f each x e = let o = of_machine f x e in rw o.at (All-weaker (IsSo m f) P each o.fiber.labels (kept.so f o.fiber o.at))
+
+    origins_told : HasOrigins s r runs_told
+    unfolding runs_told
+    origins_told = record {
+      main = ap origin_in kept.family.main.1 ∙ kept.family.main.3;
+      child = λ f x e. all_labels (BeginsAs (λ g. origin_in (m.fibers g))) f (λ l. begins_as l f) x e;
+    }
+
+    history_told : (q capacity : ℕ) → slice_get s.capacities q ≡ Some capacity → HasHistory r q capacity
+    history_told q capacity e =
+        let same : slice_index s.capacities q ≡ capacity = get_or_from_slice_get s.capacities q capacity 0 e in
+        record {
+          history = kept.histories.history q;
+          leaves = record { last = kept.histories.state q; legal = rw (← same) (kept.histories.legal q); rest_is = kept.histories.items q ∙ sym (rep.left q) };
+          cuts = λ f. kept.histories.cuts q f ∙ ap (queue_events q f) (sym (trace_same f));
+        }
+
+    pub report_is_lawful : IsLawfulReport s (λ f. true) r
+    unfolding runs_told
+    report_is_lawful = record {
+      starters = starters_told;
+      runs = runs_told;
+      origins = origins_told;
+      left_by_queue = rep.left_by_queue;
+      histories = history_told;
+      learnt = λ f x e. all_labels (IsLearnt r) f (λ l. is_learnt l f) x e;
+      seen = λ f x e. all_labels (IsSeenRightly r f) f (λ l. is_seen l f) x e;
+      outside_ascending = rep.outside_ascending;
+      outside_named = λ f h. (kept.requests.below f (sym (rep.outside f) ∙ contained_passes r.outside f h), refl);
+    }
+
+-- the report of the run that picks choose is lawful, where every number may be requested from outside
+pub replay_is_lawful : (s : ScriptView) (ps : List Pick) (r : ReportView) → IsReplay s ps r → IsLawfulReport s (λ f. true) r
+replay_is_lawful s ps r h = report_is_lawful s h.last r h.report (chosen_keeps s h.chosen (opening_is_kept s)) (chosen_rests s h.chosen)

@@ -1,0 +1,23 @@
+-- Maps by number, and lists.
+use Rattle.std.proofs.Common.{◌≡◌, ℕ, Bool, true, false, refl, sym}
+use Rattle.std.specs.Prelude.{◌==◌}
+use Rattle.std.proofs.lemmas.Bool.{eq-eqb, ne_eqb}
+use Rattle.fx_plain.specs.WholeMachine.{with_at}
+
+pub same_number : (n : ℕ) → (n == n) ≡ true
+same_number n = eq-eqb n n refl
+
+pub at_itself : {A : Type 0} (n : ℕ) (x : A) (m : ℕ → A) → with_at n x m n ≡ x
+at_itself n x m = rw (same_number n) refl
+
+pub at_that : {A : Type 0} (n : ℕ) (x : A) (m : ℕ → A) (k : ℕ) → k ≡ n → with_at n x m k ≡ x
+at_that n x m k e = rw (eq-eqb k n e) refl
+
+pub at_other : {A : Type 0} (n : ℕ) (x : A) (m : ℕ → A) (k : ℕ) → (k ≡ n → ⊥) → with_at n x m k ≡ m k
+at_other n x m k h = rw (ne_eqb k n h) refl
+
+-- two tests that pass together are equal
+pub same_tests : (a b : Bool) → (a ≡ true → b ≡ true) → (b ≡ true → a ≡ true) → a ≡ b
+same_tests true b f g = sym (f refl)
+same_tests false true f g = g refl
+same_tests false false f g = refl

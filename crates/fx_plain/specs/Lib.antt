@@ -1,0 +1,4 @@
+pub mod WholeMachine
+pub mod Chosen
+pub mod Text
+pub mod NumberSet

@@ -1,0 +1,16 @@
+-- A set of numbers as bits in two levels.
+use Rattle.std.specs.Prelude.{◌≡◌, ℕ, ◌/◌, ◌%◌, ◌<◌, Bool, true, false, ◌==◌, nat_lt, Option, MatchOption, List, slice_index}
+use Rattle.std.specs.Int.{bit_at}
+use Rattle.fx_plain.specs.declared.number_set.TheConstants.{BITS, WORDS}
+
+-- the number is in the set: its bit is set in its word
+abbrev pub is_member : List ℕ → ℕ → Bool
+is_member words n = bit_at (slice_index words (n / BITS)) (n % BITS) == 1
+
+-- the bit of a word in the level above is set exactly where some bit of that word is
+abbrev pub AreMarked : ℕ → List ℕ → Type 0
+AreMarked marks words = (i : ℕ) → i < WORDS → (bit_at marks i == 1) ≡ nat_lt 0 (slice_index words i)
+
+-- the least number that passes a test, if there is one
+abbrev pub IsLeastOf : (ℕ → Bool) → Option ℕ → Type 0
+IsLeastOf test least = MatchOption least ((n : ℕ) → test n ≡ false) (λ n. (test n ≡ true) × ((k : ℕ) → k < n → test k ≡ false))

@@ -1,0 +1,58 @@
+//! Laws of the runs of the whole machine and of their reports.
+ghost use Rattle.std.specs.Prelude.{◌≡◌, ℕ, ◌+◌, ◌≤◌, Bool, true, List};
+ghost use Rattle.fx_term.specs.Script.{ScriptView};
+ghost use Rattle.fx_fiber.specs.Row.{Label, Starts};
+ghost use Rattle.fx_fiber.specs.Origin.{Origin};
+ghost use Rattle.fx_fiber.specs.Work.{work};
+ghost use Rattle.fx_fiber.specs.Report.{ReportView};
+ghost use Rattle.fx_fiber.specs.LawfulReport.{IsLawfulReport};
+ghost use Rattle.fx_text.specs.declared.pick.Pick.{Pick};
+ghost use Rattle.fx_plain.specs.WholeMachine.{WholeMachine, Move, opening, can_step_in, FiberSteps, IsWholeMachineRun, steps_in, FindsItsNumber};
+ghost use Rattle.fx_plain.specs.Chosen.{IsChosen, IsReplay};
+
+/// The report of the run that a list of picks chooses is lawful, where every number may be requested
+/// from outside.
+pub fn replay_is_lawful()
+    ensures { (s : ScriptView) (ps : List Pick) (r : ReportView) → IsReplay s ps r
+        → IsLawfulReport s (λ f. true) r }
+{}
+
+/// A run that picks choose is a run of the whole machine.
+pub fn chosen_run_is_a_run()
+    ensures { (s : ScriptView) (ps : List Pick) (moves : List Move) (last : WholeMachine)
+        → IsChosen s ps (opening s) moves last → IsWholeMachineRun s moves last }
+{}
+
+/// In each run of the whole machine a start takes the next number of its fiber, finds it free, and finds
+/// room for the child in the range of its fiber.
+pub fn start_finds_its_number()
+    ensures { (s : ScriptView) (moves : List Move) (m m' : WholeMachine) (f g : ℕ) (b : Origin)
+        → IsWholeMachineRun s moves m → (step : FiberSteps s m f (Starts g b) m')
+        → FindsItsNumber s m step.fiber.counts g b }
+{}
+
+/// A fiber that makes a step of the whole machine can step.
+pub fn what_steps_can_step()
+    ensures { (s : ScriptView) (m m' : WholeMachine) (f : ℕ) (l : Label) → FiberSteps s m f l m'
+        → can_step_in s m f ≡ true }
+{}
+
+/// The picks choose one run.
+pub fn picks_choose_one_run()
+    ensures { (s : ScriptView) (ps : List Pick) (moves moves' : List Move) (last last' : WholeMachine)
+        → IsChosen s ps (opening s) moves last → IsChosen s ps (opening s) moves' last'
+        → (moves ≡ moves') × (last ≡ last') }
+{}
+
+/// The picks have one replay: one report.
+pub fn replay_is_one()
+    ensures { (s : ScriptView) (ps : List Pick) (r r' : ReportView) → IsReplay s ps r
+        → IsReplay s ps r' → r ≡ r' }
+{}
+
+/// A run of the whole machine has no more steps of fibers than the work of the script's term and two.
+/// So the fibers of a script never go on for ever.
+pub fn runs_come_to_an_end()
+    ensures { (s : ScriptView) (moves : List Move) (last : WholeMachine)
+        → IsWholeMachineRun s moves last → steps_in moves ≤ 2 + work s.term }
+{}

@@ -1,0 +1,43 @@
+//! All fibers of a script on one thread: what the whole machine does, which of its runs a schedule
+//! chooses, and what is reported and printed of it. So far these are definitions and laws, and the set
+//! of numbers by which the least fiber that can step is to be found; the code that makes such a run
+//! comes on top of them.
+//!
+//! The whole machine is
+//!
+//! | part | what it is |
+//! |---|---|
+//! | fibers | by number: none where that one has not started; else who started it, its origin, and how far its run is |
+//! | requests | by number: whether the fiber's cancellation was requested, and whether from outside |
+//! | queues | by number: a list of elements, from front to back |
+//!
+//! Its rules:
+//!
+//! 1. At first the main fiber, number 0, has started; nobody is requested, and the queues are empty.
+//! 2. In each step one fiber makes one step of its own, or one fiber is requested from outside.
+//! 3. A put needs room and goes to the back; a get takes the front. A refusal needs a full queue, and
+//!    an empty take an empty one. What learns of an outcome needs a fiber that has ended so. A request
+//!    is seen only where there is one.
+//! 4. Where a fiber looks before it steps, a request is seen before any other step.
+//! 5. A start gives the child the next number of its fiber, and the numbers after that which the child
+//!    can use. A fiber may be requested from outside at any time, also before it starts or after it ended.
+//!
+//! A schedule is a list of picks. It chooses one run:
+//!
+//! 1. `Step(f)` makes one step of fiber f, and is skipped where that fiber cannot step.
+//! 2. `Cancel(f)` requests fiber f from outside, and is skipped where the script has no such number.
+//! 3. After the last pick the fiber with the least number that can step makes one step, again and
+//!    again, until none can.
+//! 4. Where both fibers of a `first` have ended, it learns of the left one.
+//!
+//! The report of that run has each fiber that started, ascending by number, with its parent, whether it
+//! has ended, and its trace; what is left in each queue; and which numbers were requested from outside.
+//!
+//! What never happens: two fibers of one number; a start that finds its number taken, or no room for
+//! the child; an event after its fiber's end; an element that is taken twice, or by nobody and is gone;
+//! a second report of the same picks; steps of fibers without end. The laws are in [`laws`], and in the
+//! laws of reports, ranges, puts and waits of the crate of fibers.
+#![tactic(auto)]
+
+pub mod laws;
+mod number_set;

@@ -1,0 +1,147 @@
+//! A set of numbers whose least is found in two steps.
+ghost use Rattle.std.specs.Prelude.{◌≡◌, ℕ, ◌<◌, false};
+ghost use Rattle.fx_plain.specs.NumberSet.{is_member, IsLeastOf};
+ghost use Rattle.fx_plain.specs.WholeMachine.{with_at};
+
+use std::marker::Model;
+
+/// The bits of a word.
+const BITS: u32 = 64;
+
+/// The words of a set: as many as a word has bits, so that one word above them has a bit for each.
+const WORDS: usize = 64;
+
+/// The numbers below this one can be in a set.
+pub const NUMBERS: u32 = 4096;
+
+/// A set of numbers below [`NUMBERS`]: a bit for each number, and above them a bit for each word that
+/// is not 0. It takes no memory of its own, so a change of it cannot fail.
+#[derive(Drop)]
+pub struct NumberSet {
+    // the level above
+    marks: u64,
+    words: [u64; WORDS],
+}
+
+impl Model for NumberSet {
+    ghost use Rattle.std.specs.Prelude.{ℕ, List};
+    ghost use Rattle.fx_plain.specs.NumberSet.{AreMarked};
+
+    ghost Value = { List ℕ };
+
+    ghost view = { λ s. s.words };
+
+    ghost invariant = { λ s. AreMarked s.marks s.words };
+}
+
+impl NumberSet {
+    ghost use Rattle.std.specs.Prelude.{true};
+
+    /// The set of no number.
+    pub fn new() -> NumberSet
+        ensures { (n : ℕ) → is_member result n ≡ false }
+    {
+        NumberSet {
+            marks: 0,
+            words: [0; WORDS],
+        }
+    }
+
+    /// Whether the number is in the set.
+    pub fn contains(&self, n: u32) -> bool
+        requires { n < NUMBERS }
+        ensures { result ≡ is_member self.now n }
+    {
+        (self.words[(n / BITS) as usize] >> (n % BITS)) & 1 == 1
+    }
+
+    /// Puts the number into the set.
+    pub fn insert(&mut self, n: u32)
+        requires { n < NUMBERS }
+        ensures { (k : ℕ) → is_member self.new k ≡ with_at n true (is_member self.old) k }
+    {
+        let word = (n / BITS) as usize;
+        self.words[word] |= 1u64 << (n % BITS);
+        self.marks |= 1u64 << word;
+    }
+
+    /// Takes the number out of the set.
+    pub fn remove(&mut self, n: u32)
+        requires { n < NUMBERS }
+        ensures { (k : ℕ) → is_member self.new k ≡ with_at n false (is_member self.old) k }
+    {
+        let word = (n / BITS) as usize;
+        let rest = self.words[word] & !(1u64 << (n % BITS));
+        self.words[word] = rest;
+        if rest == 0 {
+            self.marks &= !(1u64 << word);
+        }
+    }
+
+    /// The least number of the set.
+    pub fn least(&self) -> Option<u32>
+        ensures { IsLeastOf (is_member self.now) result }
+    {
+        if self.marks == 0 {
+            return None;
+        }
+        let place = self.marks.trailing_zeros();
+        let word = self.words[place as usize];
+        Some(BITS * place + word.trailing_zeros())
+    }
+}
+
+#[cfg(test)]
+mod tests {
+    use super::NumberSet;
+    use std::test::Fail;
+
+    #[test]
+    fn nothing_is_in_a_new_set(rt: HostRuntime) -> Result<(), Fail> {
+        let set = NumberSet::new();
+        assert_eq!(rt; set.least(), None);
+        assert_eq!(rt; set.contains(0), false);
+        assert_eq!(rt; set.contains(4095), false);
+        Ok(())
+    }
+
+    #[test]
+    fn the_least_is_found_over_both_levels(rt: HostRuntime) -> Result<(), Fail> {
+        let mut set = NumberSet::new();
+        set.insert(4095);
+        assert_eq!(rt; set.least(), Some(4095));
+        set.insert(64);
+        assert_eq!(rt; set.least(), Some(64));
+        set.insert(63);
+        assert_eq!(rt; set.least(), Some(63));
+        set.insert(0);
+        assert_eq!(rt; set.least(), Some(0));
+        set.insert(65);
+        assert_eq!(rt; set.least(), Some(0));
+        assert_eq!(rt; set.contains(65), true);
+        assert_eq!(rt; set.contains(1), false);
+        assert_eq!(rt; set.contains(4094), false);
+        Ok(())
+    }
+
+    #[test]
+    fn the_next_is_least_after_a_removal(rt: HostRuntime) -> Result<(), Fail> {
+        let mut set = NumberSet::new();
+        set.insert(0);
+        set.insert(63);
+        set.insert(64);
+        set.remove(0);
+        assert_eq!(rt; set.contains(0), false);
+        assert_eq!(rt; set.least(), Some(63));
+        set.remove(63);
+        assert_eq!(rt; set.least(), Some(64));
+        // one that is not in it, in an empty word
+        set.remove(4095);
+        assert_eq!(rt; set.least(), Some(64));
+        set.remove(64);
+        assert_eq!(rt; set.least(), None);
+        set.insert(64);
+        assert_eq!(rt; set.least(), Some(64));
+        Ok(())
+    }
+}
