@@ -20,7 +20,7 @@ use Rattle.fibers.proofs.Endings.{goes_out_below}
 use Rattle.fibers.proofs.OneEnding.{ending_is_one}
 
 -- where each name is bound, it stays so
-stays_bound : (c d : Counts) (p q : Progress) (ls : List Label) → Leads c p ls d q → All IsUnrequested ls → IsProgressOver none p → IsProgressOver none q
+pub stays_bound : (c d : Counts) (p q : Progress) (ls : List Label) → Leads c p ls d q → All IsUnrequested ls → IsProgressOver none p → IsProgressOver none q
 stays_bound c d p q [] r u s = rw r.1 s
 stays_bound c d p q (l ∷ ls) r u s =
     let n = step_is_next none r.2 (All-head IsUnrequested l ls u) s in

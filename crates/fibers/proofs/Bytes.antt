@@ -1,29 +1,11 @@
--- What a reader gives and a writer takes, piece by piece.
+-- What a reader gives, piece by piece.
 use Rattle.std.proofs.Common.{◌≡◌, ℕ, ◌+◌, ◌-◌, ◌<◌, ◌≤◌, ◌≢◌, Option, Some, None, List, [], ◌++◌, length, take, drop}
 use Rattle.std.proofs.Common.{refl, sym, arith, append_assoc, length-append}
-use Rattle.std.specs.Io.KnownBytes.{Appends, Consumes, Keeps, IsAtEnd}
-use Rattle.std.proofs.lemmas.List.{take_all, append-nil, take_at, take_rest}
-use Rattle.std.proofs.Math.Seq.{take-add}
+use Rattle.std.specs.Io.KnownBytes.{Consumes, Keeps, IsAtEnd}
+use Rattle.std.proofs.lemmas.List.{take_all, append-nil, take_at}
 use Rattle.fibers.specs.declared.fault.PlainFault.{PlainFault}
 use Rattle.fibers.specs.declared.fault.PlainFault.TheVariants.{Read, Write, Memory}
 use Rattle.fibers.specs.Input.{TakesPiece, TakesPrefix, TakesAtMost, FailsToRead}
-
--- two pieces of a text, one after another
-pub take-pieces : (at n : ℕ) (text : List ℕ) → take at text ++ take n (take (length text - at) (drop at text)) ≡ take (at + n) text
-take-pieces at n text = rw take_rest (sym (take-add at n text))
-
--- what nobody touches is kept
-pub keeps_same : (known : Option (List ℕ)) → Keeps known known
-keeps_same None = tt
-keeps_same (Some xs) = refl
-
--- one more piece is written
-pub appends_more : (old mid new : Option (List ℕ)) (one two both : List ℕ)
-    → Appends old mid one → Appends mid new two → one ++ two ≡ both → Appends old new both
-appends_more None mid new one two both p q e = tt
-appends_more (Some xs) None new one two both p q e = absurd p
-appends_more (Some xs) (Some ys) None one two both p q e = absurd q
-appends_more (Some xs) (Some ys) (Some zs) one two both p q e = rw (q, p, append_assoc, e) refl
 
 -- some more bytes are read
 consumes_both : (left mid rest : Option (List ℕ)) (one two both : List ℕ)

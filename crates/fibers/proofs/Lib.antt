@@ -1,6 +1,6 @@
 pub mod Bytes
 pub mod Answered
-pub mod CodeTerms
+pub mod SimpleScripts
 pub mod Waits
 pub mod Gone
 pub mod OneEnding

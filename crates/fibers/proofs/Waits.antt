@@ -1,17 +1,50 @@
--- A fiber that has ended, or waits at `never`, makes no step but one that sees a request.
-use Rattle.std.proofs.Common.{◌≡◌, Bool, true, not, None, refl, sym, ◌∙◌}
+-- Where a fiber waits that is at a simple term; and one that waits there, or has ended, makes no step but one that sees a request.
+use Rattle.std.proofs.Common.{◌≡◌, ℕ, Bool, true, not, Some, None, [], refl, sym, ◌∙◌, ap}
+use Rattle.std.specs.Prelude.{option_and_then}
 use Rattle.std.proofs.lemmas.Option.{same_Some}
 use Rattle.fx_term.specs.declared.done.Done.{Done}
-use Rattle.fx_term.specs.Term.{Term, Never, Finished}
-use Rattle.fx_fiber.specs.Path.{Context, plug, leaf, is_open}
+use Rattle.fx_term.specs.Term.{Term, Never, Finished, Join, First, Await, Offer, Take}
+use Rattle.fx_fiber.specs.Path.{Context, plug, path, leaf, is_open}
 use Rattle.fx_fiber.specs.Row.{Counts}
-use Rattle.fx_fiber.specs.Step.{Progress, Runs, Unwinds, CleansUp, HasEnded}
+use Rattle.fx_fiber.specs.Step.{Progress, Runs, Unwinds, CleansUp, HasEnded, leaf_at}
+use Rattle.fx_fiber.specs.declared.source.Source.{Source}
+use Rattle.fx_fiber.specs.Waiting.{wait_at}
+use Rattle.fx_fiber.proofs.Names.{IsSimpleOver, simple_inside}
+use Rattle.fx_fiber.proofs.Simple.{IsProgressOver}
 use Rattle.fx_fiber.proofs.Paths.{leaf_plug, bare_leaf, along_path}
 use Rattle.fibers.specs.declared.ending.Ending.{Ending}
 use Rattle.fibers.specs.declared.ending.Ending.TheVariants.{Ended, Blocked}
 use Rattle.fibers.specs.Ending.{IsAt}
 use Rattle.fx_fiber.proofs.Moves.{done_of, move, move_plug}
 use Rattle.fx_fiber.proofs.Nexts.{Next, next, goes_on, end_next, cleaned_next}
+
+-- a simple term that waits for anything waits at `never`
+simple_waits : (names : ℕ → Type 0) (t : Term) (w : Source) → IsSimpleOver names t → wait_at (leaf t) ≡ Some w → leaf t ≡ Never
+simple_waits names t w = along_path (λ t. IsSimpleOver names t → wait_at (leaf t) ≡ Some w → leaf t ≡ Never) inside bare t
+  where
+    inside : (f : Context) (a : Term) → (IsSimpleOver names a → wait_at (leaf a) ≡ Some w → leaf a ≡ Never) → IsSimpleOver names (plug f a)
+        → wait_at (leaf (plug f a)) ≡ Some w → leaf (plug f a) ≡ Never
+    inside f a part s h = let same = leaf_plug f a in rw same (part (simple_inside names f a s).0 (rw same at h))
+
+    at_leaf : (t : Term) → IsSimpleOver names t → wait_at t ≡ Some w → t ≡ Never
+    at_leaf Never s h = refl
+    at_leaf (Join f x a e b d) s h = absurd s
+    at_leaf (First f g) s h = absurd s
+    at_leaf (Await f) s h = absurd s
+    at_leaf (Offer q v) s h = absurd s
+    at_leaf (Take q) s h = absurd s
+    at_leaf _ s h = absurd cc
+
+    bare : (t : Term) → path t ≡ [] → IsSimpleOver names t → wait_at (leaf t) ≡ Some w → leaf t ≡ Never
+    bare t b s h = let same = bare_leaf t b in rw same (at_leaf t s (rw same at h))
+
+-- so does a fiber at such a term, or in such a clean-up
+pub waits_at_never : (names : ℕ → Type 0) (p : Progress) (w : Source) → IsProgressOver names p → option_and_then wait_at (leaf_at p) ≡ Some w
+    → leaf_at p ≡ Some Never
+waits_at_never names (Runs t) w s h = ap Some (simple_waits names t w s h)
+waits_at_never names (CleansUp k t rest) w s h = ap Some (simple_waits names t w s.0 h)
+waits_at_never names (Unwinds rest) w s h = absurd cc
+waits_at_never names (HasEnded o) w s h = absurd cc
 
 -- a term at `never` is no result
 never_unfinished : (t : Term) → leaf t ≡ Never → done_of t ≡ None

@@ -1,6 +1,7 @@
 //! Why a replay gave no text, or not all of it.
 ghost use Rattle.std.specs.Prelude.{◌≡◌};
 
+use fx_plain::OutFault;
 use fx_term::Memory;
 use std::alloc::AllocError;
 use thiserror::Error;
@@ -41,6 +42,19 @@ impl From<Memory> for PlainFault {
 
     fn from(_refused: Memory) -> PlainFault {
         PlainFault::Memory
+    }
+}
+
+impl From<OutFault> for PlainFault {
+    ghost use Rattle.fibers.specs.Fault.{fault_of_writing};
+
+    ghost from_gives = { λ fault made. made ≡ fault_of_writing fault };
+
+    fn from(fault: OutFault) -> PlainFault {
+        match fault {
+            OutFault::Write => PlainFault::Write,
+            OutFault::Memory => PlainFault::Memory,
+        }
     }
 }
 

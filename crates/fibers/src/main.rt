@@ -7,26 +7,34 @@
 //! 3. `alone` runs a fiber over a port that nobody requests, one rule a step, until it has ended or
 //!    waits for good.
 //! 4. `report` makes the text of the report, or the line of a refusal.
-//! 5. `output` writes that text, which was whole before the first write.
+//! 5. `fx_plain` writes that text, which was whole before the first write.
 //!
 //! `replay` joins them, and its contract says from bytes to bytes what the program does. What is
-//! written is always a prefix of that text.
+//! written is always a prefix of that text. `explain` says beside it, on standard error and in words,
+//! why a text is refused and where.
 #![tactic(auto)]
 
 ghost use Rattle.std.specs.Prelude.{◌≡◌};
 ghost use Rattle.fibers.specs.Fault.{status_after_fault};
+ghost use Rattle.fibers.specs.Replay.{IsStatus};
 
 mod alone;
 pub mod ending;
+mod excerpt;
+mod explain;
 pub mod fault;
 mod input;
 pub mod laws;
-mod output;
+mod open_groups;
+mod place;
 pub mod replay;
 mod report;
 
+use explain::explain;
 use fault::PlainFault;
-use replay::replay_text;
+use fx_text::parse;
+use input::read_text;
+use replay::{REFUSED, replay_text};
 use std::process::ExitCode;
 use std::{env, io};
 
@@ -56,10 +64,30 @@ fn told(rt: &impl Eprint, fault: PlainFault) -> u8
     status
 }
 
+/// Says on standard error why the text is refused. Nothing is said where memory runs out.
+fn tell_refusal(rt: &HostRuntime, text: &[u8]) {
+    if let Err(fault) = parse(rt.alloc(), text)
+        && let Ok(words) = explain(rt.alloc(), "-", text, fault)
+    {
+        let _ = eprint!(rt; "{words}");
+    }
+}
+
 /// Runs the script on standard input, and gives the status.
-fn run_input(rt: &HostRuntime) -> u8 {
-    match replay_text(rt.alloc(), &mut rt.reader(), &[], &mut io::writer(rt)) {
-        Ok(status) => status,
+fn run_input(rt: &HostRuntime) -> u8
+    ensures { IsStatus result }
+{
+    let text = match read_text(rt.alloc(), &mut rt.reader()) {
+        Ok(text) => text,
+        Err(fault) => return told(rt, fault),
+    };
+    match replay_text(rt.alloc(), &mut text.as_slice(), &[], &mut io::writer(rt)) {
+        Ok(status) => {
+            if status == REFUSED {
+                tell_refusal(rt, &text);
+            }
+            status
+        }
         Err(fault) => told(rt, fault),
     }
 }

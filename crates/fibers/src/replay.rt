@@ -7,8 +7,8 @@ use crate::alone::run;
 use crate::ending::Ending;
 use crate::fault::PlainFault;
 use crate::input::read_text;
-use crate::output::write_text;
-use crate::report::{format_fiber, format_refusal};
+use crate::report::{format_refusal, format_report};
+use fx_plain::write_text;
 use fx_term::Memory;
 use fx_text::{Pick, TextKind, parse};
 use std::alloc::Global;
@@ -45,7 +45,7 @@ fn answer_to(alloc: Global, text: &[u8]) -> Result<Answer, Memory>
     match parse(alloc, text) {
         Ok(script) => {
             let ending = run(alloc, &script.code)?;
-            let text = format_fiber(alloc, 0, ending)?;
+            let text = format_report(alloc, ending)?;
             Ok(Answer {
                 status: status_after(ending),
                 text,

@@ -1,5 +1,5 @@
 -- What a fiber makes in a step, from what came before the rule of its place, and from that rule.
-use Rattle.std.proofs.Common.{◌≡◌, ℕ, Bool, false, Option, Some, None, List, ◌∷◌, ◌++◌, [], refl, sym, ◌∙◌, ap}
+use Rattle.std.proofs.Common.{◌≡◌, ℕ, Bool, false, Option, Some, None, List, ◌∷◌, ◌++◌, [], refl, sym, ◌∙◌, ap, append-nil}
 use Rattle.std.specs.Prelude.{◌&&◌, ◌||◌, slice_get}
 use Rattle.fx_term.specs.declared.node.NodeId.{NodeId}
 use Rattle.fx_term.specs.declared.node.Node.{Node}
@@ -9,7 +9,7 @@ use Rattle.fx_term.specs.declared.event.Event.TheVariants as event
 use Rattle.fx_fiber.specs.Path.{is_canceled_form}
 use Rattle.fx_fiber.specs.Row.{Counts}
 use Rattle.fx_fiber.specs.Deed.{Deed, Saw}
-use Rattle.fx_fiber.specs.declared.machine.focus.Focus.TheVariants.{Return, Turn, Unwinding}
+use Rattle.fx_fiber.specs.declared.machine.focus.Focus.TheVariants.{Return, Turn, Await, Unwinding}
 use Rattle.fx_fiber.specs.declared.machine.unwound.Unwound.{Unwound}
 use Rattle.fx_fiber.specs.declared.machine.interruption.Interruption.{Interruption}
 use Rattle.fx_fiber.specs.declared.machine.interruption.Interruption.TheVariants.{Cancellation, Request}
@@ -19,11 +19,13 @@ use Rattle.fx_fiber.specs.declared.machine.Machine.{Machine}
 use Rattle.fx_fiber.specs.Machine.{loop_of, inner, unwinding, progress_of}
 use Rattle.fx_fiber.specs.Sound.{IsSoundMachine}
 use Rattle.fx_fiber.specs.Methods.{IsSame, Makes, MakesRule, Interrupts, IsEvaluating, IsLeafNode, IsEntered, IsGoing, is_canceled_node}
-use Rattle.fx_fiber.specs.Methods.{is_open_machine, must_cancel_machine, IsInterrupted, ComesFirst, Advances}
+use Rattle.fx_fiber.specs.Methods.{is_open_machine, must_cancel_machine, IsInterrupted, ComesFirst, MakesCall, Advances}
 use Rattle.fx_fiber.specs.Calls.{PortCalls}
 use Rattle.fx_fiber.specs.MakesStep.{looks_first}
 use Rattle.fx_fiber.proofs.Leaves.{canceled_at}
-use Rattle.fx_fiber.proofs.Looks.{looks_first_before, none_due, not_due_after, due_where_open, asks_quietly, local_is_unseen, local_is_own}
+use Rattle.fx_fiber.proofs.Looks.{looks_first_before, none_due, not_due_after, due_where_open, asks_by_rule, rule_is_own}
+use Rattle.fx_fiber.proofs.Fibers.{await_unlooked}
+use Rattle.fx_fiber.proofs.Calls.{local_is_rule, told_nothing, agreed_nothing}
 
 -- a fiber inside all contexts, at `canceled` or not
 pub record IsInside (nodes : List Node) (s : Machine) (at_canceled : Bool) : Type 0 where
@@ -66,6 +68,7 @@ makes_before : (nodes : List Node) (old s : Machine) (m : Made) (s' : Machine) �
 makes_before nodes old s made.Waits s' same h =
     let known : s.known ≡ old.known = ap (λ (c : Counts). c.known) same.counts in
     record {
+      wait = h.wait;
       leaf = rw same.progress at h.leaf;
       free = rw (known, same.progress) at h.free;
       same = same_trans nodes old s s' same h.same;
@@ -73,6 +76,8 @@ makes_before nodes old s made.Waits s' same h =
 makes_before nodes old s made.Yielded s' same h = (rw same.progress at h.0, rw (same.counts, same.progress) at h.1)
 makes_before nodes old s made.Silent s' same h = (rw same.progress at h.0, rw (same.counts, same.progress) at h.1)
 makes_before nodes old s (made.Shows e) s' same h = rw (same.counts, same.progress) at h
+makes_before nodes old s (made.Learns f o e) s' same h = rw (same.counts, same.progress) at h
+makes_before nodes old s (made.Starts x a b) s' same h = record { same = same_trans nodes old s s' same h.same; id = h.id; stands = h.stands }
 
 module _ {P S : Type 0} (calls : PortCalls P S) (agrees : P → List Deed → Type 0) (nodes : List Node) (old s : Machine) (b : Bool) (p p' : P)
     (sh sh' : S) (same : IsSame nodes old s) (inside : IsInside nodes s b) where
@@ -96,8 +101,8 @@ module _ {P S : Type 0} (calls : PortCalls P S) (agrees : P → List Deed → Ty
         sound = h.sound;
         rule = makes_before nodes old s (made.Shows event.Cancelled) s' same (rw h.shows at h.rule);
         own = tt;
-        asks = (none_due calls _ _ _ due, first.2, first.3);
-        saw = λ e. absurd (cc);
+        asks = (none_due calls _ _ _ due, (first.2, first.3));
+        agreed = λ ds h. rw (append-nil, first.2) h;
       })
   interrupted_advances Request m s' first saw h =
       rw h.shows
@@ -106,24 +111,25 @@ module _ {P S : Type 0} (calls : PortCalls P S) (agrees : P → List Deed → Ty
         rule = makes_before nodes old s (made.Shows event.Seen) s' same (rw h.shows at h.rule);
         own = tt;
         asks = first.2;
-        saw = λ e. saw refl;
+        agreed = saw refl;
       })
 
   -- cancellation is not due where nothing comes first
   pub is_free : ComesFirst calls (is_open_machine s) (is_open_machine s && (s.known || b)) None p sh p' sh' → must_cancel_machine nodes s ≡ false
   is_free first = sym (due_is nodes s b inside) ∙ first.0
 
-  pub rule_advances : (m : Made) (s' : Machine) → ComesFirst calls (is_open_machine s) (is_open_machine s && (s.known || b)) None p sh p' sh'
-      → MakesRule nodes s m s' → Advances calls agrees nodes old p sh m s' p' sh'
-  rule_advances m s' first made =
+  pub rule_advances : (m : Made) (s' : Machine) (p'' : P) (sh'' : S)
+      → ComesFirst calls (is_open_machine s) (is_open_machine s && (s.known || b)) None p sh p' sh'
+      → MakesCall calls agrees nodes s p' sh' m s' p'' sh'' → Advances calls agrees nodes old p sh m s' p'' sh''
+  rule_advances m s' p'' sh'' first made =
       let due : looks_first old.known (progress_of nodes old) ≡ is_open_machine s =
       looks_first_before nodes old s same inside.sound inside.going inside.entered ∙ due_where_open _ _ (is_free first) in
       record {
         sound = made.sound;
         rule = makes_before nodes old s m s' same made.rule;
-        own = local_is_own m made.is_local;
-        asks = asks_quietly calls _ m p p' sh sh' made.is_local (rw due first.1) first.2 first.3;
-        saw = λ e. absurd (local_is_unseen m made.is_local e);
+        own = rule_is_own m made.own;
+        asks = asks_by_rule calls _ _ m p p'' sh sh'' made.own (rw due first.1) (rw (same.progress, first.2, first.3) at made.told);
+        agreed = rw first.2 at made.agreed;
       }
 
 -- between two clean-ups nothing comes first
@@ -133,11 +139,24 @@ pub unwinding_advances : {P S : Type 0} (calls : PortCalls P S) (agrees : P → 
 unwinding_advances calls agrees nodes s m s' p sh e made = record {
   sound = made.sound;
   rule = made.rule;
-  own = local_is_own m made.is_local;
-  asks = asks_quietly calls _ m p p sh sh made.is_local (none_due calls _ _ _ (rw e (by_left s.cleanups))) refl refl;
-  saw = λ e. absurd (local_is_unseen m made.is_local e);
+  own = rule_is_own m (local_is_rule m made.is_local);
+  asks = asks_by_rule calls _ _ m p p sh sh (local_is_rule m made.is_local) (none_due calls _ _ _ (rw e (by_left s.cleanups)))
+      (told_nothing calls _ m p p sh sh made.is_local refl refl);
+  agreed = agreed_nothing agrees m p p made.is_local refl;
 }
   where
     by_left : (left : Option Unwound) → looks_first s.known (unwinding nodes s.registers left) ≡ false
     by_left None = refl
     by_left (Some c) = refl
+
+-- a fiber that awaits one that it canceled is not interrupted
+pub await_advances : {P S : Type 0} (calls : PortCalls P S) (agrees : P → List Deed → Type 0) (nodes : List Node) (s : Machine) (f : ℕ) (m : Made)
+    (s' : Machine) (p p' : P) (sh sh' : S) → IsSoundMachine nodes s → s.focus ≡ Await f → MakesCall calls agrees nodes s p sh m s' p' sh'
+    → Advances calls agrees nodes s p sh m s' p' sh'
+await_advances calls agrees nodes s f m s' p p' sh sh' sound here call = record {
+  sound = call.sound;
+  rule = call.rule;
+  own = rule_is_own m call.own;
+  asks = asks_by_rule calls _ _ m p p' sh sh' call.own (none_due calls _ _ _ (await_unlooked nodes s f sound here)) call.told;
+  agreed = call.agreed;
+}

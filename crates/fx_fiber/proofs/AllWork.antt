@@ -25,6 +25,10 @@ abbrev pub work_started : Label → ℕ
 work_started (Starts f b) = 2 + work b.term
 work_started _ = 0
 
+pub unknown_small : (b : Bool) → unknown b ≤ 1
+unknown_small true = omega arith
+unknown_small false = omega arith
+
 known_lowers : (b : Bool) → unknown true ≤ unknown b
 known_lowers true = omega arith
 known_lowers false = omega arith

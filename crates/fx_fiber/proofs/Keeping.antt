@@ -1,5 +1,5 @@
 -- A step keeps what a fiber's type says.
-use Rattle.std.proofs.Common.{◌≡◌, Bool, true, false, Option, List, [], ◌∷◌, ◌++◌, refl, sym, ◌∙◌, ap, subst, arith, append_assoc, append-nil}
+use Rattle.std.proofs.Common.{◌≡◌, ◌+◌, ◌^◌, ◌<◌, ◌≤◌, Bool, true, false, Option, List, [], ◌∷◌, ◌++◌, refl, sym, ◌∙◌, ap, arith, append_assoc, append-nil}
 use Rattle.fx_term.specs.declared.node.Node.{Node}
 use Rattle.fx_term.specs.declared.begin.Begin.{Begin}
 use Rattle.fx_term.specs.declared.event.Event.{Event}
@@ -8,26 +8,32 @@ use Rattle.fx_term.specs.declared.outcome.Outcome.{Outcome}
 use Rattle.fx_term.specs.Term.{Term}
 use Rattle.fx_fiber.specs.Row.{Counts, Label, Silent, Shows, Learns, Starts}
 use Rattle.fx_fiber.specs.Step.{Progress, Runs, Step}
-use Rattle.fx_fiber.specs.Run.{Leads, IsRun, events, first_counts}
-use Rattle.fx_term.specs.Meaning.{root_term}
-use Rattle.fx_fiber.specs.Origin.{Origin, main_origin, main_begin_of}
+use Rattle.fx_fiber.specs.Run.{Leads, events}
+use Rattle.fx_fiber.specs.Origin.{origin_of}
 use Rattle.fx_fiber.specs.declared.machine.Machine.{Machine}
 use Rattle.fx_fiber.specs.declared.machine.made.Made.{Made}
 use Rattle.fx_fiber.specs.declared.machine.made.Made.TheVariants as made
 use Rattle.fx_fiber.specs.declared.stepped.Stepped.TheVariants.{Went}
-use Rattle.fx_fiber.specs.Deed.{Deed, Saw, Ended, AreDeedsOf, AreDeeds, deeds_of_event}
+use Rattle.fx_fiber.specs.Deed.{Deed, Ended, AreDeedsOf, AreDeeds}
 use Rattle.fx_fiber.specs.Machine.{progress_of, counts_of}
 use Rattle.fx_fiber.specs.Sound.{IsSoundMachine}
-use Rattle.fx_fiber.specs.Methods.{Steps, IsSame, label_of, IsOwnMade, Asks, Advances}
-use Rattle.fx_fiber.specs.Calls.{PortCalls, Range, range_of}
+use Rattle.fx_fiber.specs.State.{IsFirstMachine}
+use Rattle.fx_fiber.specs.Work.{work_left}
+use Rattle.fx_fiber.specs.Methods.{Steps, IsSame, label_of, deeds_made, Advances}
+use Rattle.fx_fiber.specs.Calls.{PortCalls, Range, range_of, first_range}
 use Rattle.fx_fiber.specs.MakesStep.{Answers}
-use Rattle.fx_fiber.specs.Fiber.{IsKept, has_ended}
-use Rattle.fx_term.specs.Code.{IsCode}
+use Rattle.fx_fiber.specs.Fiber.{is_fiber_number, IsKept, has_ended}
 use Rattle.fx_fiber.proofs.Work.{step_work}
-use Rattle.fx_fiber.proofs.WorkOfCode.{code_work_fits}
-use Rattle.fx_fiber.proofs.Beginnings.{main_begins}
 use Rattle.fx_fiber.proofs.Ends.{shows_end, ended_after}
 use Rattle.fx_fiber.proofs.Ranges.{step_keeps_range}
+use Rattle.std.proofs.lemmas.Bool.{lt-ltb}
+use Rattle.fx_fiber.specs.NeedLeft.{need_left, HasRoom}
+use Rattle.fx_fiber.specs.Scopes.{IsScopedOver, IsProgressScopedOver}
+use Rattle.fx_fiber.proofs.RangeLaws.{step_need}
+use Rattle.fx_term.specs.Need.{need}
+use Rattle.fx_fiber.proofs.ScopedCode.{code_is_scoped}
+use Rattle.fx_fiber.proofs.ScopedRuns.{GivesTaken, step_over}
+use Rattle.fx_fiber.proofs.StepLabels.{step_tells}
 
 -- a run goes on by one step
 pub leads_on : (c : Counts) (p : Progress) (ls : List Label) (d : Counts) (q : Progress) (l : Label) (e : Counts) (r : Progress) → Leads c p ls d q
@@ -48,6 +54,11 @@ deeds_more : (nodes : List Node) (ls : List Label) (ds : List Deed) (l : Label) 
 deeds_more nodes [] ds l es h k = (es, [], k, refl, rw h (sym (append-nil es)))
 deeds_more nodes (m ∷ ls) ds l es h k = (h.0, h.1 ++ es, h.2, deeds_more nodes ls h.1 l es h.3 k, rw h.4 (append_assoc h.0 h.1 es))
 
+-- the numbers that a step takes in a range that fits a word are numbers of fibers
+pub taken_fit : {c d : Counts} {p q : Progress} {l : Label} → Step c p l d q → c.next + need_left p ≤ c.end → c.end < 2 ^ 32
+    → GivesTaken is_fiber_number c d
+taken_fit step room word f low high = let n = step_need step in lt-ltb f (2 ^ 32) (omega arith)
+
 module _ (nodes : List Node) (begin begin' : Begin) (agrees agrees' : List Deed → Type 0) (finished finished' : Bool) (rest rest' : Range)
     (trace trace' : List Event) (s s' : Machine) (same_begin : begin' ≡ begin) where
   -- a step whose event is added to the trace, and whose deeds are added to those of the port
@@ -66,6 +77,9 @@ module _ (nodes : List Node) (begin begin' : Begin) (agrees agrees' : List Deed 
       agreed = go k.lawful.deeds k.lawful.agreed;
     };
     countable = let p = step_work step in let q = k.countable in omega arith;
+    scoped = (step_over is_fiber_number step (taken_fit step k.room k.word) k.scoped).0;
+    room = let n = step_need step in let e = (step_tells step).end in let r = k.room in omega arith;
+    word = let e = (step_tells step).end in let w = k.word in omega arith;
     ended = f ∙ sym (ended_after step);
     numbers = numbers;
   }
@@ -87,67 +101,59 @@ module _ (nodes : List Node) (begin begin' : Begin) (agrees agrees' : List Deed 
         let masks : s'.masks.entries ≡ s.masks.entries = ap (λ (c : Counts). c.masks) same.counts in
         let acquired : s'.acquired ≡ s.acquired = ap (λ (c : Counts). c.acquired) same.counts in
         rw (masks, acquired, same.progress) k.countable;
+    scoped = rw same.progress k.scoped;
+    room =
+        let next : s'.next ≡ s.next = ap (λ (c : Counts). c.next) same.counts in
+        let end : s'.end ≡ s.end = ap (λ (c : Counts). c.end) same.counts in
+        rw (next, end, same.progress) k.room;
+    word = let end : s'.end ≡ s.end = ap (λ (c : Counts). c.end) same.counts in rw end k.word;
     ended = rw same.progress (f ∙ k.ended);
     numbers = r ∙ k.numbers ∙ sym (ap range_of same.counts);
   }
 
--- the deeds of a step that made this
-abbrev pub deeds_made : Made → List Deed
-deeds_made (made.Shows e) = deeds_of_event e
-deeds_made _ = []
-
-pub are_deeds_made : (nodes : List Node) (m : Made) → AreDeedsOf nodes (label_of m) (deeds_made m)
-are_deeds_made nodes (made.Shows e) = refl
-are_deeds_made nodes _ = refl
-
--- the port agrees with the deeds of a step that was not the last
-pub agreed_after : {P S : Type 0} (calls : PortCalls P S) (agrees : P → List Deed → Type 0) (due : Bool) (m : Made) (p p' : P) (s s' : S)
-    → IsOwnMade m → shows_end (label_of m) ≡ false → Asks calls due (label_of m) p s p' s'
-    → (m ≡ made.Shows event.Seen → (ds : List Deed) → agrees p ds → agrees p' (ds ++ Saw ∷ []))
-    → (ds : List Deed) → agrees p ds → agrees p' (ds ++ deeds_made m)
-agreed_after calls agrees due (made.Shows event.Seen) p p' s s' own on a saw ds h = saw refl ds h
-agreed_after calls agrees due (made.Shows event.Cancelled) p p' s s' own on a saw ds h = rw (append-nil, a.1) h
-agreed_after calls agrees due (made.Shows event.SelfRequest) p p' s s' own on a saw ds h = rw (append-nil, a.1) h
-agreed_after calls agrees due (made.Shows (event.Acquired k)) p p' s s' own on a saw ds h = rw (append-nil, a.1) h
-agreed_after calls agrees due (made.Shows (event.Begin k)) p p' s s' own on a saw ds h = rw (append-nil, a.1) h
-agreed_after calls agrees due (made.Shows (event.End k)) p p' s s' own on a saw ds h = rw (append-nil, a.1) h
-agreed_after calls agrees due (made.Shows (event.Ended o)) p p' s s' own on a saw ds h = absurd (let no : true ≡ false = on in cc)
-agreed_after calls agrees due (made.Shows _) p p' s s' own on a saw ds h = absurd own
-agreed_after calls agrees due _ p p' s s' own on a saw ds h = rw (append-nil, a.1) h
+pub are_deeds_made : (nodes : List Node) (m : Made) → shows_end (label_of m) ≡ false → AreDeedsOf nodes (label_of m) (deeds_made m)
+are_deeds_made nodes (made.Shows (event.Ended o)) on = absurd (let no : true ≡ false = on in cc)
+are_deeds_made nodes (made.Shows _) on = refl
+are_deeds_made nodes (made.Learns f o e) on = refl
+are_deeds_made nodes _ on = refl
 
 -- a fiber before its first step
-pub kept_at_first : (nodes code : List Node) (begin : Begin) (agrees : List Deed → Type 0) (finished : Bool) (rest : Range) (trace : List Event)
-    (s : Machine) → code ≡ nodes → IsCode code → begin ≡ main_begin_of code → agrees [] → finished ≡ false
-    → rest ≡ range_of (first_counts (main_origin (root_term code))) → trace ≡ []
-    → IsSoundMachine code s → counts_of s ≡ first_counts (main_origin (root_term code)) → progress_of code s ≡ Runs (root_term code)
-    → IsKept nodes begin agrees finished rest trace s
-kept_at_first nodes code begin agrees finished rest trace s e is_code b a f r t sound counts progress =
-    let kept : IsKept code (main_begin_of code) agrees false rest [] s = record {
-      sound = sound;
-      lawful = record {
-        labels = [];
-        run = subst (λ (b : Origin). IsRun b [] (counts_of s) (progress_of code s)) (sym (main_begins code)) (counts, progress);
-        traced = refl;
-        deeds = [];
-        are_deeds = refl;
-        agreed = a;
-      };
-      countable =
-          let masks : s.masks.entries ≡ 0 = ap (λ (c : Counts). c.masks) counts in
-          let few = code_work_fits is_code in
-          let acquired : s.acquired ≡ 0 = ap (λ (c : Counts). c.acquired) counts in
-          rw (masks, acquired, progress) (omega arith);
-      ended = rw progress refl;
-      numbers = r ∙ sym (ap range_of counts);
-    } in
-    rw (← e, b, f, t) kept
+pub kept_at_first : (nodes : List Node) (begin : Begin) (agrees : List Deed → Type 0) (finished : Bool) (rest : Range) (trace : List Event)
+    (s : Machine) → work_left (Runs (origin_of nodes begin).term) < 2 ^ 63 → IsScopedOver is_fiber_number (origin_of nodes begin).term
+    → HasRoom (origin_of nodes begin) → begin.end < 2 ^ 32 → agrees [] → finished ≡ false → rest ≡ first_range begin → trace ≡ []
+    → IsFirstMachine nodes begin s → IsKept nodes begin agrees finished rest trace s
+kept_at_first nodes begin agrees finished rest trace s few over room word a f r t first = record {
+  sound = first.sound;
+  lawful = record {
+    labels = [];
+    run = (first.counts, first.progress);
+    traced = sym t;
+    deeds = [];
+    are_deeds = refl;
+    agreed = a;
+  };
+  countable =
+      let masks : s.masks.entries ≡ 0 = ap (λ (c : Counts). c.masks) first.counts in
+      let acquired : s.acquired ≡ 0 = ap (λ (c : Counts). c.acquired) first.counts in
+      rw (masks, acquired, first.progress) (omega arith);
+  scoped = rw first.progress over;
+  room =
+      let next : s.next ≡ begin.next = ap (λ (c : Counts). c.next) first.counts in
+      let end : s.end ≡ begin.end = ap (λ (c : Counts). c.end) first.counts in
+      rw (next, end, first.progress) room;
+  word = let end : s.end ≡ begin.end = ap (λ (c : Counts). c.end) first.counts in rw end word;
+  ended = f ∙ rw first.progress refl;
+  numbers = r ∙ sym (ap range_of first.counts);
+}
 
 -- what is made by a machine starts no fiber
 made_keeps_range : {c d : Counts} {p q : Progress} (m : Made) → Step c p (label_of m) d q → range_of d ≡ range_of c
 made_keeps_range (made.Shows e) step = step_keeps_range step refl
+made_keeps_range (made.Learns f o e) step = step_keeps_range step refl
 made_keeps_range made.Silent step = step_keeps_range step refl
 made_keeps_range made.Yielded step = step_keeps_range step refl
 made_keeps_range made.Waits step = step_keeps_range step refl
+made_keeps_range (made.Starts h a b) step = step_keeps_range step refl
 
 module _ {P S : Type 0} (nodes : List Node) (begin begin' : Begin) (calls : PortCalls P S) (agrees : P → List Deed → Type 0) (p p' : P) (sh sh' : S)
     (finished finished' : Bool) (rest rest' : Range) (trace trace' : List Event) (s s' : Machine) where
@@ -158,8 +164,7 @@ module _ {P S : Type 0} (nodes : List Node) (begin begin' : Begin) (calls : Port
       → IsKept nodes begin' (agrees p') finished' rest' trace' s'
   kept_going m b kept going a step f r on t =
       kept_step nodes begin begin' (agrees p) (agrees p') finished finished' rest rest' trace trace' s s' b (label_of m) (deeds_made m)
-      (are_deeds_made nodes m) kept step a.sound t
-      (agreed_after calls agrees _ m p p' sh sh' a.own on a.asks a.saw) (f ∙ kept.ended ∙ going ∙ sym on) (r ∙ kept.numbers ∙ sym (made_keeps_range m step))
+      (are_deeds_made nodes m on) kept step a.sound t a.agreed (f ∙ kept.ended ∙ going ∙ sym on) (r ∙ kept.numbers ∙ sym (made_keeps_range m step))
 
   -- so does the last one
   pub kept_ended : (o : Outcome) (p'' : P) → begin' ≡ begin → IsKept nodes begin (agrees p) finished rest trace s
@@ -169,13 +174,14 @@ module _ {P S : Type 0} (nodes : List Node) (begin begin' : Begin) (calls : Port
   kept_ended o p'' b kept a f r tells t =
       kept_step nodes begin begin' (agrees p) (agrees p'') finished finished' rest rest' trace trace' s s' b (Shows (event.Ended o))
       (Ended o ∷ []) refl kept a.rule a.sound t
-      (λ ds h. tells ds (rw a.asks.1 h)) f (r ∙ kept.numbers ∙ sym (made_keeps_range (made.Shows (event.Ended o)) a.rule))
+      (λ ds h. tells ds (rw a.asks.1.0 h)) f (r ∙ kept.numbers ∙ sym (made_keeps_range (made.Shows (event.Ended o)) a.rule))
 
 -- the trace after one more event
 pub one_more : (old room new : List Event) (e : Event) → room ≡ old → new ≡ room ++ e ∷ [] → new ≡ old ++ e ∷ []
 one_more old room new e p q = q ∙ ap (λ (es : List Event). es ++ e ∷ []) p
 
 -- a step that shows an event, and is not the last, went on, wherever it was made
-pub answer_went : (leaf : Option Term) (e : Event) → shows_end (Shows e) ≡ false → Answers leaf (Shows e) Went
-answer_went leaf (event.Ended o) on = absurd (let no : true ≡ false = on in cc)
-answer_went leaf _ on = refl
+pub answer_went : (P S : Type 0) (nodes : List Node) (leaf : Option Term) (e : Event) → shows_end (Shows e) ≡ false
+    → Answers {P = P} {S = S} nodes leaf (Shows e) Went
+answer_went P S nodes leaf (event.Ended o) on = absurd (let no : true ≡ false = on in cc)
+answer_went P S nodes leaf _ on = refl

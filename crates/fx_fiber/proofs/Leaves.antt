@@ -1,12 +1,12 @@
 -- The rules of a leaf.
 use Rattle.std.proofs.Common.{◌≡◌, ◌≢◌, ℕ, zero, suc, ◌<◌, ◌≤◌, Bool, true, false, Some, List, [], ◌∷◌, length, refl, sym, ◌∙◌, ap, arith}
-use Rattle.std.specs.Prelude.{All, not, ◌&&◌, ◌||◌, MatchBool}
+use Rattle.std.specs.Prelude.{All, not, ◌&&◌, ◌||◌, MatchBool, option_and_then}
 use Rattle.fx_term.specs.declared.node.Arg.{Arg}
 use Rattle.fx_term.specs.declared.node.Arg.TheVariants.{Number, Slot}
 use Rattle.fx_term.specs.declared.node.NodeId.{NodeId}
 use Rattle.fx_term.specs.declared.node.Node.{Node}
 use Rattle.fx_term.specs.declared.node.Node.TheVariants as node
-use Rattle.fx_term.specs.Term.{Term, Cede, If, Masked, Opened, Poll}
+use Rattle.fx_term.specs.Term.{Term, Cede, If, Masked, Opened, Poll, put}
 use Rattle.fx_term.specs.Fill.{AgreeBelow, fill_arg, fill}
 use Rattle.fx_term.specs.Registers.{with_number}
 use Rattle.fx_term.specs.Scope.{IsArgBelow, HasLevels}
@@ -22,12 +22,14 @@ use Rattle.fx_fiber.specs.Row.{Counts, Label, Silent, Row, one_more_mask, if_not
 use Rattle.fx_fiber.specs.Step.{Progress, leaf_at, Step}
 use Rattle.fx_fiber.specs.declared.machine.focus.Focus.TheVariants.{Eval}
 use Rattle.fx_fiber.specs.declared.machine.Machine.{Machine}
-use Rattle.fx_fiber.specs.Machine.{filled, inner, closed_again, within, running, progress_at, progress_of, counts_of}
-use Rattle.fx_fiber.specs.Sound.{taken_off, IsNode, IsBound, IsClosedBy, IsSound}
-use Rattle.fx_fiber.specs.Methods.{WaitsAt, IsSame, IsEvaluating, IsLeafNode, is_canceled_node, must_cancel_machine, is_open_machine}
+use Rattle.fx_fiber.specs.Machine.{filled, waiting, inner, closed_again, within, running, progress_at, progress_of, counts_of}
+use Rattle.fx_fiber.specs.Sound.{taken_off, left_of, IsNode, IsBound, IsClosedBy, IsSound}
+use Rattle.fx_fiber.specs.Methods.{WaitsFor, IsSame, IsEvaluating, IsLeafNode, is_canceled_node, must_cancel_machine, is_open_machine}
 use Rattle.fx_fiber.specs.MakesStep.{is_yielding}
+use Rattle.fx_fiber.specs.declared.source.Source.TheVariants.{Nothing}
+use Rattle.fx_fiber.specs.Waiting.{wait_at}
 use Rattle.fx_fiber.proofs.Contexts.{row_within}
-use Rattle.fx_fiber.proofs.Numbers.{filled_same, running_same, running_named}
+use Rattle.fx_fiber.proofs.Numbers.{filled_same, frames_up, running_same, running_named}
 use Rattle.fx_fiber.proofs.Nodes.{arg_in_registers, levels_at, child_before, child_node, inner_is, leaf_is, leaf_is_free, leaf_step}
 
 -- whether a leaf is `canceled`
@@ -70,7 +72,7 @@ module _ (nodes : List Node) (s : Machine) (id : NodeId) (n : Node) (at : IsEval
       rw is step
 
   -- the leaf of what the fiber runs
-  leaf_here : IsLeafNode (Some n) → leaf_at (progress_of nodes s) ≡ Some (fill (length s.registers) s.registers (assemble (Some n) (term_of nodes)))
+  pub leaf_here : IsLeafNode (Some n) → leaf_at (progress_of nodes s) ≡ Some (fill (length s.registers) s.registers (assemble (Some n) (term_of nodes)))
   leaf_here leaf = leaf_is nodes s.registers s.frames s.masks s.cleanups s.focus id n at.focus at.node at.sound leaf
 
   -- a rule of another leaf is not that of `cede`
@@ -81,12 +83,17 @@ pub leaf_at_cede : (nodes : List Node) (s : Machine) (id : NodeId) → IsEvaluat
 leaf_at_cede nodes s id at = leaf_here nodes s id node.Cede at tt
 
 -- where the fiber waits
-pub never_waits : (nodes : List Node) (s : Machine) (id : NodeId) → IsEvaluating nodes s id node.Never → must_cancel_machine nodes s ≡ false → WaitsAt nodes s s
-never_waits nodes s id at free = record {
-  leaf = leaf_here nodes s id node.Never at tt;
-  free = leaf_is_free nodes s.registers s.frames s.masks s.cleanups s.focus id node.Never at.focus at.node at.sound tt s.known free;
-  same = record { sound = at.sound; progress = refl; counts = refl };
-}
+pub never_waits : (nodes : List Node) (s : Machine) (id : NodeId) → IsEvaluating nodes s id node.Never → must_cancel_machine nodes s ≡ false
+    → WaitsFor nodes s s Nothing
+never_waits nodes s id at free = (
+  record {
+    wait = Nothing;
+    leaf = ap (option_and_then wait_at) (leaf_here nodes s id node.Never at tt);
+    free = leaf_is_free nodes s.registers s.frames s.masks s.cleanups s.focus id node.Never at.focus at.node at.sound tt s.known free;
+    same = record { sound = at.sound; progress = refl; counts = refl };
+  },
+  refl,
+)
 
 -- where `canceled` does not cancel, the place is closed
 pub closed_at_canceled : (nodes : List Node) (s : Machine) (id : NodeId) → IsEvaluating nodes s id node.Canceled → must_cancel_machine nodes s ≡ false
@@ -152,6 +159,67 @@ module _ (nodes : List Node) (s : Machine) (id : NodeId) (v : Arg) (part other :
         → Step (counts_of s) (progress_of nodes s) Silent (counts_of s) (progress_at nodes s.registers s.frames s.masks.regions s.cleanups (Eval other))
     other_step none = chosen_step other (λ k. rw none if_zero)
 
+-- a fiber that stands at a leaf which binds a name in a part: a register for it is in scope only in the part
+module _ (nodes : List Node) (s : Machine) (id : NodeId) (n : Node) (at : IsEvaluating nodes s id n) (x : ℕ) (here : x ≡ at.sound.bound) where
+  pub name_reaches : x ≤ length s.registers
+  name_reaches = let f = at.sound.fits in omega arith
+
+  module _ (v : ℕ) where
+    pub fits_more : suc at.sound.bound ≤ length (with_number (Some x) v s.registers)
+    fits_more = let len = length_with x v s.registers name_reaches in omega arith
+
+    agree : AgreeBelow at.sound.bound s.registers (with_number (Some x) v s.registers)
+    agree i h = agree_below x v s.registers name_reaches i (omega arith)
+
+    -- another part stands with it as before
+    module _ (part : NodeId) (in_scope : IsNode nodes at.sound.bound part) where
+      pub beside_sound : IsSound nodes (with_number (Some x) v s.registers) s.frames s.masks s.cleanups (Eval part)
+      beside_sound = record {
+        tree = at.sound.tree;
+        bound = at.sound.bound;
+        fits = let h = fits_more in omega arith;
+        focus_in = in_scope;
+        frames_in = at.sound.frames_in;
+        closed = at.sound.closed;
+        room = at.sound.room;
+        between = tt;
+      }
+
+      pub beside_is : progress_at nodes (with_number (Some x) v s.registers) s.frames s.masks.regions s.cleanups (Eval part)
+          ≡ running nodes s.registers s.cleanups (within nodes s.registers s.frames s.masks.regions (filled nodes s.registers part))
+      beside_is =
+          let h : at.sound.bound ≤ length (with_number (Some x) v s.registers) = let h = fits_more in omega arith in
+          let inside = filled_same nodes s.registers (with_number (Some x) v s.registers) at.sound.bound part in_scope at.sound.fits h agree in
+          let around = running_same nodes s.registers (with_number (Some x) v s.registers) at.sound.bound s.frames s.masks.regions s.cleanups
+          (filled nodes (with_number (Some x) v s.registers) part) at.sound.frames_in at.sound.fits h agree in
+          sym around ∙ ap (λ (t : Term). running nodes s.registers s.cleanups (within nodes s.registers s.frames s.masks.regions t)) (sym inside)
+
+    -- so the fiber has come no further by it
+    pub register_stays : (t : Machine) → t ≡ record s { registers = with_number (Some x) v s.registers } → IsSame nodes s t
+    register_stays t e =
+        let own : IsNode nodes at.sound.bound id = rw at.focus at at.sound.focus_in in
+        rw e (record { sound = rw at.focus (beside_sound id own); progress = rw at.focus (beside_is id own); counts = refl })
+
+    -- the part goes on with it
+    module _ (part : NodeId) (bound_in : IsBound nodes at.sound.bound (Some x) part) where
+      pub named_sound : IsSound nodes (with_number (Some x) v s.registers) s.frames s.masks s.cleanups (Eval part)
+      named_sound = record {
+        tree = at.sound.tree;
+        bound = suc at.sound.bound;
+        fits = fits_more;
+        focus_in = bound_in.node;
+        frames_in = frames_up nodes at.sound.bound (suc at.sound.bound) s.frames (left_of s.cleanups) at.sound.frames_in (omega arith);
+        closed = at.sound.closed;
+        room = at.sound.room;
+        between = tt;
+      }
+
+      pub named_is : progress_at nodes (with_number (Some x) v s.registers) s.frames s.masks.regions s.cleanups (Eval part)
+          ≡ running nodes s.registers s.cleanups (within nodes s.registers s.frames s.masks.regions (put x v (waiting nodes s.registers (Some x) part)))
+      named_is = sym
+          (running_named nodes s.registers v at.sound.bound part at.sound.fits (λ t. t) (Some x) s.frames s.masks.regions s.cleanups bound_in
+          at.sound.frames_in)
+
 -- a fiber that stands at a mask
 module _ (nodes : List Node) (s : Machine) (id : NodeId) (p : ℕ) (part : NodeId) (at : IsEvaluating nodes s id (node.Mask p part)) where
   mask_levels : (p ≡ at.sound.bound) × HasLevels (suc at.sound.bound) (term_of nodes part.0)
@@ -168,46 +236,17 @@ module _ (nodes : List Node) (s : Machine) (id : NodeId) (p : ℕ) (part : NodeI
       }
 
   pub mask_reaches : p ≤ length s.registers
-  mask_reaches = let e = mask_levels.0 in let f = at.sound.fits in omega arith
+  mask_reaches = name_reaches nodes s id (node.Mask p part) at p mask_levels.0
 
   module _ (n : ℕ) where
-    fits_more : suc at.sound.bound ≤ length (with_number (Some p) n s.registers)
-    fits_more = let e = mask_levels.0 in let len = length_with p n s.registers mask_reaches in omega arith
-
-    agree : AgreeBelow at.sound.bound s.registers (with_number (Some p) n s.registers)
-    agree i h = let e = mask_levels.0 in agree_below p n s.registers mask_reaches i (omega arith)
-
-    -- the register of its name is in scope only inside
-    pub mask_register_sound : IsSound nodes (with_number (Some p) n s.registers) s.frames s.masks s.cleanups s.focus
-    mask_register_sound = record {
-      tree = at.sound.tree;
-      bound = at.sound.bound;
-      fits = let h = fits_more in omega arith;
-      focus_in = at.sound.focus_in;
-      frames_in = at.sound.frames_in;
-      closed = at.sound.closed;
-      room = at.sound.room;
-      between = at.sound.between;
-    }
-
-    pub mask_register_same : progress_at nodes (with_number (Some p) n s.registers) s.frames s.masks.regions s.cleanups s.focus ≡ progress_of nodes s
-    mask_register_same =
-        let h : at.sound.bound ≤ length (with_number (Some p) n s.registers) = let h = fits_more in omega arith in
-        let here : IsNode nodes at.sound.bound id = rw at.focus at at.sound.focus_in in
-        let inside = filled_same nodes s.registers (with_number (Some p) n s.registers) at.sound.bound id here at.sound.fits h agree in
-        let around = running_same nodes s.registers (with_number (Some p) n s.registers) at.sound.bound s.frames s.masks.regions s.cleanups
-        (filled nodes (with_number (Some p) n s.registers) id) at.sound.frames_in at.sound.fits h agree in
-        rw at.focus (sym around ∙ ap (λ (t : Term). running nodes s.registers s.cleanups (within nodes s.registers s.frames s.masks.regions t)) (sym inside))
-
-    -- so the fiber has come no further by it
     pub mask_register_stays : (t : Machine) → t ≡ record s { registers = with_number (Some p) n s.registers } → IsSame nodes s t
-    mask_register_stays t e = rw e (record { sound = mask_register_sound; progress = mask_register_same; counts = refl })
+    mask_register_stays = register_stays nodes s id (node.Mask p part) at p mask_levels.0 n
 
     pub mask_sound : IsSound nodes (with_number (Some p) n s.registers) (frame.Masked ∷ s.frames) (entered s.masks) s.cleanups (Eval part)
     mask_sound = record {
       tree = at.sound.tree;
       bound = suc at.sound.bound;
-      fits = fits_more;
+      fits = fits_more nodes s id (node.Mask p part) at p mask_levels.0 n;
       focus_in = part_bound.node;
       frames_in = (at.sound.bound, omega arith, tt, at.sound.frames_in);
       closed = ((s.masks.entries, s.masks.regions, refl), at.sound.closed);

@@ -14,9 +14,10 @@ pub mod Resources
 pub mod Unwindings
 pub mod Ends
 pub mod Looks
+pub mod Calls
+pub mod Fibers
 pub mod Advances
 pub mod Ranges
-pub mod Waits
 pub mod Beginnings
 pub mod Keeping
 pub mod PairedMasks
@@ -54,5 +55,7 @@ pub mod ShownLabels
 pub mod HeadlineLaws
 pub mod ForcedTerms
 pub mod PutScopes
+pub mod ScopedCode
 pub mod ScopedRuns
+pub mod Starts
 pub mod AllWork

@@ -9,16 +9,16 @@ use Rattle.fx_mask.specs.Closing.{is_none_closed}
 use Rattle.fx_mask.specs.Masks.{MasksView}
 use Rattle.fx_frames.specs.declared.frame.Frame.{Frame}
 use Rattle.fx_fiber.specs.Path.{is_canceled_form}
-use Rattle.fx_fiber.specs.Row.{Counts, Label, Shows}
+use Rattle.fx_fiber.specs.Row.{Counts, Shows}
 use Rattle.fx_fiber.specs.declared.machine.focus.Focus.{Focus}
-use Rattle.fx_fiber.specs.declared.machine.focus.Focus.TheVariants.{Eval, Return, Turn, Unwinding, Ended}
+use Rattle.fx_fiber.specs.declared.machine.focus.Focus.TheVariants.{Eval, Return, Turn, Await, Unwinding, Ended}
 use Rattle.fx_fiber.specs.declared.machine.unwound.Unwound.{Unwound}
 use Rattle.fx_fiber.specs.declared.machine.made.Made.{Made}
 use Rattle.fx_fiber.specs.declared.machine.made.Made.TheVariants as made
 use Rattle.fx_fiber.specs.declared.machine.Machine.{Machine}
 use Rattle.fx_fiber.specs.Machine.{filled, loop_at, inner, within, running, progress_at, progress_of}
 use Rattle.fx_fiber.specs.Sound.{closed_outside, AreClosedBy, IsSound, IsSoundMachine}
-use Rattle.fx_fiber.specs.Methods.{IsEntered, IsGoing, IsSame, must_cancel_machine, is_open_machine, label_of, IsLocal, IsOwnMade, Asks}
+use Rattle.fx_fiber.specs.Methods.{IsEntered, IsGoing, IsSame, must_cancel_machine, is_open_machine, label_of, IsRuleMade, IsOwnMade, Told, Asks}
 use Rattle.fx_fiber.specs.Calls.{PortCalls}
 use Rattle.fx_fiber.specs.declared.stepped.Stepped.{Stepped}
 use Rattle.fx_fiber.specs.MakesStep.{looks_first, LooksInVain, Calls}
@@ -49,6 +49,7 @@ module _ (nodes : List Node) (ns : List ℕ) (fs : List Frame) (m : MasksView) (
   first_at left (Return v) sound going entered = first_inside left (Finished v) (leaf_of_focus nodes ns m.regions (Return v) sound.tree entered) sound.closed
   first_at left (Turn id turn) sound going entered = first_inside left (loop_at nodes ns id turn)
       (leaf_of_focus nodes ns m.regions (Turn id turn) sound.tree entered) sound.closed
+  first_at left (Await f) sound going entered = absurd entered
   first_at None Unwinding sound going entered = absurd sound.between
   first_at (Some left) Unwinding sound going entered = shut_false (is_none_closed m.regions) _ (clean_up_is_closed fs m.regions left sound.closed)
   first_at left (Ended o) sound going entered = absurd going
@@ -73,23 +74,32 @@ module _ {P S : Type 0} (calls : PortCalls P S) where
   in_vain true p p' s s' e f h = rw (e, f) at h
   in_vain false p p' s s' e f h = tt
 
-  -- before a row a look was in vain, and nothing else is asked
-  pub asks_quietly : (due : Bool) (m : Made) (p p' : P) (s s' : S) → IsLocal m → LooksInVain calls due p s → p' ≡ p → s' ≡ s
-      → Asks calls due (label_of m) p s p' s'
-  asks_quietly due (made.Shows event.Seen) p p' s s' h l e f = absurd h
-  asks_quietly due _ p p' s s' h l e f = (l, e, f)
+  -- before a rule a look was in vain, and nothing is asked but what the rule asks
+  pub asks_by_rule : (due : Bool) (leaf : Option Term) (m : Made) (p p' : P) (s s' : S) → IsRuleMade m → LooksInVain calls due p s
+      → Told calls leaf m p s p' s' → Asks calls due leaf m p s p' s'
+  asks_by_rule due leaf (made.Shows event.Seen) p p' s s' own l t = absurd own
+  asks_by_rule due leaf _ p p' s s' own l t = (l, t)
 
   -- and the fiber's step makes no other call, unless it is the last
-  pub calls_of_asks : (due : Bool) (leaf : Option Term) (l : Label) (answer : Stepped) (p p' : P) (s s' : S) → shows_end l ≡ false
-      → Asks calls due l p s p' s' → Calls calls due leaf l answer p s p' s'
-  calls_of_asks due leaf (Shows event.Seen) answer p p' s s' on a = record { looked = tt; told = a }
-  calls_of_asks due leaf (Shows (event.Ended o)) answer p p' s s' on a = absurd (let no : true ≡ false = on in cc)
-  calls_of_asks due leaf _ answer p p' s s' on a = record { looked = a.0; told = (a.1, a.2) }
+  pub calls_of_asks : (nodes : List Node) (due : Bool) (leaf : Option Term) (m : Made) (answer : Stepped P S) (p p' : P) (s s' : S) → IsOwnMade m
+      → shows_end (label_of m) ≡ false → Asks calls due leaf m p s p' s' → Calls calls nodes due leaf (label_of m) answer p s p' s'
+  calls_of_asks nodes due leaf made.Waits answer p p' s s' own on a = record { looked = a.0; left_first = tt; told = (a.1.1, a.1.2) }
+  calls_of_asks nodes due leaf (made.Learns f o e) answer p p' s s' own on a = record { looked = a.0; left_first = a.1.0; told = a.1.1 }
+  calls_of_asks nodes due leaf (made.Shows event.Seen) answer p p' s s' own on a = record { looked = tt; left_first = tt; told = a }
+  calls_of_asks nodes due leaf (made.Shows (event.Request f)) answer p p' s s' own on a = record { looked = a.0; left_first = tt; told = a.1 }
+  calls_of_asks nodes due leaf (made.Shows event.Cancelled) answer p p' s s' own on a = record { looked = a.0; left_first = tt; told = a.1 }
+  calls_of_asks nodes due leaf (made.Shows event.SelfRequest) answer p p' s s' own on a = record { looked = a.0; left_first = tt; told = a.1 }
+  calls_of_asks nodes due leaf (made.Shows (event.Acquired k)) answer p p' s s' own on a = record { looked = a.0; left_first = tt; told = a.1 }
+  calls_of_asks nodes due leaf (made.Shows (event.Begin k)) answer p p' s s' own on a = record { looked = a.0; left_first = tt; told = a.1 }
+  calls_of_asks nodes due leaf (made.Shows (event.End k)) answer p p' s s' own on a = record { looked = a.0; left_first = tt; told = a.1 }
+  calls_of_asks nodes due leaf (made.Shows (event.Ended o)) answer p p' s s' own on a = absurd (let no : true ≡ false = on in cc)
+  calls_of_asks nodes due leaf (made.Shows _) answer p p' s s' own on a = absurd own
+  calls_of_asks nodes due leaf _ answer p p' s s' own on a = record { looked = a.0; left_first = tt; told = a.1 }
 
-  pub calls_of_end : (due : Bool) (leaf : Option Term) (answer : Stepped) (o : Outcome) (p p' p'' : P) (s s' s'' : S)
-      → Asks calls due (Shows (event.Ended o)) p s p' s' → calls.finishes p' s' o p'' s''
-      → Calls calls due leaf (Shows (event.Ended o)) answer p s p'' s''
-  calls_of_end due leaf answer o p p' p'' s s' s'' a f = record { looked = a.0; told = rw (a.1, a.2) at f }
+  pub calls_of_end : (nodes : List Node) (due : Bool) (leaf : Option Term) (answer : Stepped P S) (o : Outcome) (p p' p'' : P) (s s' s'' : S)
+      → Asks calls due leaf (made.Shows (event.Ended o)) p s p' s' → calls.finishes p' s' o p'' s''
+      → Calls calls nodes due leaf (Shows (event.Ended o)) answer p s p'' s''
+  calls_of_end nodes due leaf answer o p p' p'' s s' s'' a f = record { looked = a.0; left_first = tt; told = rw (a.1.0, a.1.1) at f }
 
 -- tests at an open place, and where cancellation is the one rule
 pub not_due_after : (a b : Bool) → b ≡ true → (a && not b) ≡ false
@@ -100,12 +110,8 @@ pub due_where_open : (a b : Bool) → b ≡ false → (a && not b) ≡ a
 due_where_open true b e = rw e refl
 due_where_open false b e = refl
 
--- what is made with no question is no request that was seen
-pub local_is_unseen : (m : Made) → IsLocal m → m ≡ made.Shows event.Seen → ⊥
-local_is_unseen m h e = rw e at h
-
--- and is the fiber's own
-pub local_is_own : (m : Made) → IsLocal m → IsOwnMade m
-local_is_own (made.Shows event.Cancelled) h = absurd h
-local_is_own (made.Shows event.Seen) h = absurd h
-local_is_own _ h = h
+-- what the rule of a place makes is the fiber's own
+pub rule_is_own : (m : Made) → IsRuleMade m → IsOwnMade m
+rule_is_own (made.Shows event.Cancelled) h = absurd h
+rule_is_own (made.Shows event.Seen) h = absurd h
+rule_is_own _ h = h

@@ -21,7 +21,7 @@ use Rattle.fx_fiber.specs.Path.{is_canceled_form}
 use Rattle.fx_fiber.specs.Row.{Counts, Label, Row}
 use Rattle.fx_fiber.specs.Step.{leaf_at, must_cancel_at, Step}
 use Rattle.fx_fiber.specs.declared.machine.focus.Focus.{Focus}
-use Rattle.fx_fiber.specs.declared.machine.focus.Focus.TheVariants.{Eval, Return, Turn, Unwinding, Ended}
+use Rattle.fx_fiber.specs.declared.machine.focus.Focus.TheVariants.{Eval, Return, Turn, Await, Unwinding, Ended}
 use Rattle.fx_fiber.specs.Machine.{filled, loop_of, inner, outside_frame, masks_inside, within, running, progress_at}
 use Rattle.fx_fiber.specs.Sound.{taken_off, IsNode, IsBound, IsLoopIn, IsBracketIn, IsFrameIn, IsClosedBy, IsSound}
 use Rattle.fx_fiber.specs.Methods.{IsLeafNode, IsEntered, IsEntryOf}
@@ -52,6 +52,7 @@ leaf_of_focus nodes ns cs (Eval id) tree h = by_node (slice_get nodes id.0) refl
     by_node (Some n) e h = rw (term_of_node nodes tree id.0 n e) (leaf_of_node cs (length ns) ns (term_of nodes) n h)
 leaf_of_focus nodes ns cs (Return v) tree h = result_term cs v
 leaf_of_focus nodes ns cs (Turn id turn) tree h = loop_term nodes ns cs (slice_get nodes id.0) turn
+leaf_of_focus nodes ns cs (Await f) tree h = absurd h
 leaf_of_focus nodes ns cs Unwinding tree h = record { is_leaf = refl; stays = refl; nothing = refl }
 leaf_of_focus nodes ns cs (Ended o) tree h = record { is_leaf = refl; stays = refl; nothing = refl }
 

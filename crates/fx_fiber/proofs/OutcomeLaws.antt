@@ -16,7 +16,7 @@ use Rattle.fx_fiber.proofs.Ends.{shows_end, ended_after}
 use Rattle.fx_fiber.proofs.StepLabels.{IsProper, step_tells}
 
 -- the outcome that a label tells
-abbrev end_of : Label → Option Outcome
+abbrev pub end_of : Label → Option Outcome
 end_of (Shows (event.Ended o)) = Some o
 end_of _ = None
 
@@ -25,7 +25,7 @@ tells_no_end (Shows (event.Ended o)) e = absurd cc
 tells_no_end _ e = refl
 
 -- a step ends its fiber as its label tells
-step_end_of : {c d : Counts} {p q : Progress} {l : Label} → Step c p l d q → outcome_at q ≡ end_of l
+pub step_end_of : {c d : Counts} {p q : Progress} {l : Label} → Step c p l d q → outcome_at q ≡ end_of l
 step_end_of {l = l} (step.row m r) = tells_no_end l (sym (ended_after (step.row m r)))
 step_end_of {l = l} (step.cleans {k = k} {rest = rest} r) = tells_no_end l (sym (ended_after (step.cleans {k = k} {rest = rest} r)))
 step_end_of _ = refl

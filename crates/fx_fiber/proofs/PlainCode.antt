@@ -31,6 +31,6 @@ last_is_within : (nodes : List Node) → nodes ≢ [] → length nodes - 1 < len
 last_is_within [] h = absurd (h refl)
 last_is_within (n ∷ ns) h = omega arith
 
-pub code_is_plain : (nodes : List Node) → IsCode nodes → IsPlain (root_term nodes)
+pub code_is_plain : {queues : ℕ} (nodes : List Node) → IsCode queues nodes → IsPlain (root_term nodes)
 unfolding term_of
 code_is_plain nodes c = read_plain nodes c.tree.forest.before (suc (length nodes - 1)) (length nodes - 1) (omega arith) (last_is_within nodes c.tree.some_node)

@@ -3,15 +3,15 @@ use Rattle.std.proofs.Common.{◌≡◌, ℕ, ◌<◌, ◌≤◌, Bool, true, Op
 use Rattle.std.proofs.lemmas.List.Elements.{All-nil, All-cons}
 use Rattle.fx_term.specs.declared.outcome.Outcome.{Outcome}
 use Rattle.fx_term.specs.declared.outcome.Outcome.TheVariants as outcome
-use Rattle.fx_term.specs.Term.{Term, put, put_named}
+use Rattle.fx_term.specs.Term.{Term, Let, Handle, OnCancel, Bracket, Masked, Opened, InUse, InRelease, put, put_named}
 use Rattle.fx_term.specs.declared.name_kind.NameKind.{NameKind}
 use Rattle.fx_term.specs.declared.name_kind.NameKind.TheVariants as kind
 use Rattle.fx_term.specs.Scope.{with_name, with_named, IsScoped}
-use Rattle.fx_fiber.specs.Path.{Context, LetIn, HandleIn, OnCancelIn, AcquireIn, InUseIn, plug, cleanups_with}
+use Rattle.fx_fiber.specs.Path.{Context, LetIn, HandleIn, OnCancelIn, AcquireIn, InUseIn, plug, cleanups_with, leaf}
 use Rattle.fx_fiber.specs.Origin.{Origin}
 use Rattle.fx_fiber.specs.Row.{Counts, Label, Starts, Row, part_after}
 use Rattle.fx_fiber.specs.Row as row
-use Rattle.fx_fiber.specs.Step.{Progress, Runs, AreAll, Step}
+use Rattle.fx_fiber.specs.Step.{Progress, Runs, Unwinds, CleansUp, HasEnded, AreAll, leaf_at, Step}
 use Rattle.fx_fiber.specs.Step as step
 use Rattle.fx_fiber.specs.Run.{first_counts, Leads, IsRun}
 use Rattle.fx_fiber.specs.Scopes.{UsesGiven, IsScopedOver, IsProgressScopedOver, StartsScopedOver}
@@ -62,8 +62,27 @@ module _ (is_given : ℕ → Bool) where
   inside_over (InUseIn i r) a h = ((h.0.0, h.1.0), λ t k. ((k.0, h.0.1), (k.1, h.1.1)))
   inside_over _ a h = (h, λ t k. k)
 
+  -- so is the leaf of a term
+  pub leaf_over : (t : Term) → IsScopedOver is_given t → IsScopedOver is_given (leaf t)
+  leaf_over (Let x a b) h = leaf_over a (h.0.0, h.1.0)
+  leaf_over (Handle a x b) h = leaf_over a (h.0.0, h.1.0)
+  leaf_over (OnCancel a f) h = leaf_over a (h.0.0, h.1.0)
+  leaf_over (Bracket x a u r) h = leaf_over a (h.0.0, h.1.0)
+  leaf_over (Masked r a) h = leaf_over a h
+  leaf_over (Opened r a) h = leaf_over a h
+  leaf_over (InUse k a r) h = leaf_over a (h.0.0, h.1.0)
+  leaf_over (InRelease k a v) h = leaf_over a h
+  leaf_over t h = h
+
+  -- and that of what a fiber runs
+  pub leaf_at_over : (p : Progress) (t : Term) → leaf_at p ≡ Some t → IsProgressScopedOver is_given p → IsScopedOver is_given t
+  leaf_at_over (Runs a) t e h = let same : leaf a ≡ t = cc in rw (← same) (leaf_over a h)
+  leaf_at_over (CleansUp k a rest) t e h = let same : leaf a ≡ t = cc in rw (← same) (leaf_over a h.0)
+  leaf_at_over (Unwinds rest) t e h = absurd cc
+  leaf_at_over (HasEnded o) t e h = absurd cc
+
   -- the numbers that a step takes were given
-  abbrev GivesTaken : Counts → Counts → Type 0
+  abbrev pub GivesTaken : Counts → Counts → Type 0
   GivesTaken c d = (f : ℕ) → c.next ≤ f → f < d.next → is_given f ≡ true
 
   row_over : {k : Bool} {c d : Counts} {l : Label} {t t' : Term} → Row k c t l d t' → GivesTaken c d → IsScopedOver is_given t
@@ -98,7 +117,7 @@ module _ (is_given : ℕ → Bool) where
   part_over (InUseIn k r) a h = ((h.0.0, h.1.0), ((h.0.1, h.1.1), tt))
   part_over f a h = ((inside_over f a h).0, tt)
 
-  step_over : {c d : Counts} {p q : Progress} {l : Label} → Step c p l d q → GivesTaken c d → IsProgressScopedOver is_given p
+  pub step_over : {c d : Counts} {p q : Progress} {l : Label} → Step c p l d q → GivesTaken c d → IsProgressScopedOver is_given p
       → IsProgressScopedOver is_given q × StartsScopedOver is_given l
   step_over (step.cancelled {t = t} m) g h = (all_on_path (IsScopedOver is_given) (IsScopedOver is_given) part_over t h, tt)
   step_over (step.seen m o) g h = (h, tt)

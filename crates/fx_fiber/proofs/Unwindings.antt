@@ -17,7 +17,7 @@ use Rattle.fx_fiber.specs.Path.{is_canceled_form}
 use Rattle.fx_fiber.specs.Row.{Counts, Silent, Shows, known_canceled}
 use Rattle.fx_fiber.specs.Step.{Unwinds, Step, finalizer, release}
 use Rattle.fx_fiber.specs.declared.machine.focus.Focus.{Focus}
-use Rattle.fx_fiber.specs.declared.machine.focus.Focus.TheVariants.{Eval, Return, Turn, Unwinding, Ended}
+use Rattle.fx_fiber.specs.declared.machine.focus.Focus.TheVariants.{Eval, Return, Turn, Await, Unwinding, Ended}
 use Rattle.fx_fiber.specs.declared.machine.Machine.{Machine}
 use Rattle.fx_fiber.specs.Machine.{inner, within, cleanup_terms_of, running, progress_at}
 use Rattle.fx_fiber.specs.Sound.{closed_outside, AreCleanupsIn, AreFramesIn, AreClosedBy, IsNode, IsSound}
@@ -98,6 +98,7 @@ module _ (nodes : List Node) (ns : List ℕ) (fs : List Frame) (m : MasksView) (
   running_at (Eval id) e = rw e refl
   running_at (Return v) e = rw e refl
   running_at (Turn id turn) e = rw e refl
+  running_at (Await f) e = absurd (rw e at leaf)
   running_at Unwinding e = absurd (rw (e, no_clean_up) at sound.between)
   running_at (Ended o) e = absurd (rw e at going)
 

@@ -8,13 +8,15 @@ use Rattle.fx_fiber.specs.Path.{leaf, is_open, must_cancel}
 use Rattle.fx_fiber.specs.Row.{Counts}
 use Rattle.fx_fiber.specs.Step.{Progress, Runs, Unwinds, CleansUp, HasEnded}
 use Rattle.fx_fiber.specs.Outside.{Outside, leaf_can_step, can_step}
-use Rattle.fx_fiber.specs.Waiting.{Wait, Nothing, Outcome, Either, Room, Element, wait_at}
+use Rattle.fx_fiber.specs.declared.source.Source.{Source}
+use Rattle.fx_fiber.specs.declared.source.Source.TheVariants.{Nothing, Outcome, Either, Room, Element}
+use Rattle.fx_fiber.specs.Waiting.{wait_at}
 use Rattle.fx_fiber.specs.WaitsFor.{has_come, IsWaiting}
 
-waits_as : (o : Outside) (t : Term) (v w : Wait) → Some v ≡ Some w → leaf_can_step o t ≡ has_come o v → leaf_can_step o t ≡ has_come o w
+waits_as : (o : Outside) (t : Term) (v w : Source) → Some v ≡ Some w → leaf_can_step o t ≡ has_come o v → leaf_can_step o t ≡ has_come o w
 waits_as o t v w e h = h ∙ ap (has_come o) (same_Some v w e)
 
-leaf_waits : (o : Outside) (t : Term) (w : Wait) → wait_at t ≡ Some w → leaf_can_step o t ≡ has_come o w
+leaf_waits : (o : Outside) (t : Term) (w : Source) → wait_at t ≡ Some w → leaf_can_step o t ≡ has_come o w
 leaf_waits o Never w e = waits_as o Never Nothing w e refl
 leaf_waits o (Join (Number f) x a y b d) w e = waits_as o (Join (Number f) x a y b d) (Outcome f) w e refl
 leaf_waits o (Await f) w e = waits_as o (Await f) (Outcome f) w e refl
@@ -29,7 +31,7 @@ neither false true asked goes e h = rw (h refl) refl
 neither false false asked goes e h = refl
 
 -- a fiber that waits can step exactly where that has come
-pub waiting_steps : (o : Outside) (f : ℕ) (c : Counts) (p : Progress) (w : Wait) → IsWaiting (o.is_requested f) c p w → can_step o f c p ≡ has_come o w
+pub waiting_steps : (o : Outside) (f : ℕ) (c : Counts) (p : Progress) (w : Source) → IsWaiting (o.is_requested f) c p w → can_step o f c p ≡ has_come o w
 waiting_steps o f c (Runs t) w h =
     neither (must_cancel c.known t) (is_open t) (o.is_requested f) (leaf_can_step o (leaf t)) h.free h.unasked ∙ leaf_waits o (leaf t) w h.leaf
 waiting_steps o f c (CleansUp k t rest) w h = leaf_waits o (leaf t) w h.leaf

@@ -41,6 +41,9 @@ little_node (Some (node.Poll p a)) term turns fits few h = little_one turns 2 _ 
 little_node (Some (node.OnCancel a b)) term turns fits few h = little_two turns 2 _ _ _ _ (omega arith) fits (h a.0 turns fits few.0) (h b.0 turns fits few.1)
 little_node (Some (node.Bracket x a b c)) term turns fits few h =
     little_three turns 3 _ _ _ _ _ _ (omega arith) fits (h a.0 turns fits few.0) (h b.0 turns fits few.1) (h c.0 turns fits few.2)
+little_node (Some (node.Start x a b)) term turns fits few h = little_two turns 3 _ _ _ _ (omega arith) fits (h a.0 turns fits few.0) (h b.0 turns fits few.1)
+little_node (Some (node.Join f x a e b c)) term turns fits few h =
+    little_three turns 1 _ _ _ _ _ _ (omega arith) fits (h a.0 turns fits few.0) (h b.0 turns fits few.1) (h c.0 turns fits few.2)
 little_node _ term turns fits few h = omega arith
 
 little_read : (depth : ℕ) (nodes : List Node) (id turns : ℕ) → turns ≤ most_turns → HasFewTurns turns (read depth nodes id)
@@ -54,7 +57,7 @@ little_of_term : (nodes : List Node) (id turns : ℕ) → turns ≤ most_turns �
 unfolding term_of
 little_of_term nodes id turns fits few = little_read (suc id) nodes id turns fits few
 
-pub code_work_fits : {nodes : List Node} → IsCode nodes → work (root_term nodes) < 2 ^ 55
+pub code_work_fits : {queues : ℕ} {nodes : List Node} → IsCode queues nodes → work (root_term nodes) < 2 ^ 55
 code_work_fits {nodes = []} code = absurd (code.tree.some_node refl)
 code_work_fits {nodes = n ∷ nodes} code =
     let little = little_of_term (n ∷ nodes) (length (n ∷ nodes) - 1) 1 (omega arith) code.turns in

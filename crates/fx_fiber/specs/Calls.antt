@@ -1,11 +1,15 @@
 -- What contracts know of a port: a relation for each call, and the numbers that are left for fibers.
-use Rattle.std.specs.Prelude.{ℕ, Bool}
+use Rattle.std.specs.Prelude.{◌≡◌, ℕ, ◌+◌, ◌≤◌, Bool, Option}
+use Rattle.fx_term.specs.declared.begin.Begin.{Begin}
 use Rattle.fx_term.specs.declared.outcome.Outcome.{Outcome}
 use Rattle.fx_fiber.specs.Row.{Counts}
 
--- for each call the port and the outside before it, what it is given, its answer, and both after it
+-- for each call the port and the outside before it, what it is given, its answer, and both after it; the answer of a start is the port of the child
 pub record PortCalls (P S : Type 0) : Type 1 where
   pub looks : P → S → Bool → P → S → Type 0
+  pub requests : P → S → ℕ → P → S → Type 0
+  pub peeks : P → S → ℕ → Option Outcome → P → S → Type 0
+  pub starts : P → S → ℕ → Begin → P → P → S → Type 0
   pub finishes : P → S → Outcome → P → S → Type 0
 
 -- the numbers from `next` to below `end`
@@ -16,3 +20,18 @@ pub record Range : Type 0 where
 -- those that a fiber has left for the fibers that it starts
 abbrev pub range_of : Counts → Range
 range_of c = record { next = c.next; end = c.end }
+
+-- those that a fiber begins with
+abbrev pub first_range : Begin → Range
+first_range b = record { next = b.next; end = b.end }
+
+-- a start takes the first of these numbers for the child, whose own range follows it within them
+pub record HasRange (left : Range) (id : ℕ) (begin : Begin) : Type 0 where
+  pub number : id ≡ left.next
+  pub follows : begin.next ≡ id + 1
+  pub ordered : begin.next ≤ begin.end
+  pub within : begin.end ≤ left.end
+
+-- those that are left after the child's range
+abbrev pub range_after : Begin → Range → Range
+range_after begin left = record { next = begin.end; end = left.end }

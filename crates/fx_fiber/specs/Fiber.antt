@@ -1,17 +1,19 @@
 -- What a fiber names, and what it keeps.
-use Rattle.std.specs.Prelude.{◌≡◌, ℕ, ◌+◌, ◌^◌, ◌<◌, Bool, true, false, Option, List}
+use Rattle.std.specs.Prelude.{◌≡◌, ℕ, ◌+◌, ◌^◌, ◌<◌, ◌≤◌, nat_lt, Bool, true, false, Option, List, []}
 use Rattle.fx_term.specs.declared.node.Node.{Node}
 use Rattle.fx_term.specs.declared.begin.Begin.{Begin}
 use Rattle.fx_term.specs.declared.event.Event.{Event}
 use Rattle.fx_mask.specs.Closing.{Closing}
 use Rattle.fx_frames.specs.declared.frame.Frame.{Frame}
 use Rattle.fx_fiber.specs.Row.{Counts, Label}
-use Rattle.fx_fiber.specs.Step.{Progress, HasEnded}
-use Rattle.fx_fiber.specs.Run.{IsRun, events}
-use Rattle.fx_fiber.specs.Origin.{origin_of}
+use Rattle.fx_fiber.specs.Step.{Progress, Runs, HasEnded}
+use Rattle.fx_fiber.specs.Run.{first_counts, IsRun, events}
+use Rattle.fx_fiber.specs.Origin.{Origin, origin_of}
 use Rattle.fx_fiber.specs.Deed.{Deed, AreDeeds}
 use Rattle.fx_fiber.specs.Calls.{Range, range_of}
 use Rattle.fx_fiber.specs.Work.{work_left}
+use Rattle.fx_fiber.specs.Scopes.{IsProgressScopedOver}
+use Rattle.fx_fiber.specs.NeedLeft.{need_left}
 use Rattle.fx_fiber.specs.declared.machine.focus.Focus.{Focus}
 use Rattle.fx_fiber.specs.declared.machine.unwound.Unwound.{Unwound}
 use Rattle.fx_fiber.specs.declared.machine.Machine.{Machine}
@@ -44,6 +46,12 @@ pub record IsUnchanged {P : Type 0} (nodes : List Node) (old new : FiberView P) 
   pub counts : new.counts ≡ old.counts
   pub progress_is : progress nodes new ≡ progress nodes old
 
+-- the fiber is before its first step, and begins so
+pub record IsAtFirst {P : Type 0} (nodes : List Node) (b : Origin) (f : FiberView P) : Type 0 where
+  pub trace : f.trace ≡ []
+  pub counts : f.counts ≡ first_counts b
+  pub progress_is : progress nodes f ≡ Runs b.term
+
 -- the trace is that of a run from what the fiber began with, which leads to where it is, and the port agrees with the deeds of that run
 pub record IsLawful (nodes : List Node) (begin : Begin) (agrees : List Deed → Type 0) (trace : List Event) (counts : Counts)
     (progress : Progress) : Type 0 where
@@ -54,12 +62,19 @@ pub record IsLawful (nodes : List Node) (begin : Begin) (agrees : List Deed → 
   pub are_deeds : AreDeeds nodes labels deeds
   pub agreed : agrees deeds
 
--- what a fiber's parts keep: they are sound, lawful, its masks and resources can be counted, and its port knows whether it has ended, and the numbers
--- that are left
+-- a number that a fiber can have: it fits a word
+abbrev pub is_fiber_number : ℕ → Bool
+is_fiber_number f = nat_lt f (2 ^ 32)
+
+-- what a fiber's parts keep: they are sound, lawful, its masks and resources can be counted, its names are bound and those of fibers stand for numbers of
+-- fibers, its range has room for all that it can start, and its port knows whether it has ended, and the numbers that are left
 pub record IsKept (nodes : List Node) (begin : Begin) (agrees : List Deed → Type 0) (finished : Bool) (rest : Range) (trace : List Event)
     (s : Machine) : Type 0 where
   pub sound : IsSoundMachine nodes s
   pub lawful : IsLawful nodes begin agrees trace (counts_of s) (progress_of nodes s)
   pub countable : s.masks.entries + s.acquired + work_left (progress_of nodes s) < 2 ^ 63
+  pub scoped : IsProgressScopedOver is_fiber_number (progress_of nodes s)
+  pub room : s.next + need_left (progress_of nodes s) ≤ s.end
+  pub word : s.end < 2 ^ 32
   pub ended : finished ≡ has_ended (progress_of nodes s)
   pub numbers : rest ≡ range_of (counts_of s)

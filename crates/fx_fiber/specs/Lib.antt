@@ -8,9 +8,11 @@ pub mod Calls
 pub mod Waiting
 pub mod Machine
 pub mod Sound
+pub mod State
 pub mod Methods
 pub mod Fiber
 pub mod MakesStep
+pub mod MakesStart
 pub mod Balanced
 pub mod PairedMasks
 pub mod MaskLaws
@@ -21,6 +23,7 @@ pub mod Outside
 pub mod WaitsFor
 pub mod NeedLeft
 pub mod PutsLeft
+pub mod FiberReport
 pub mod Report
 pub mod LawfulReport
 pub mod Headline

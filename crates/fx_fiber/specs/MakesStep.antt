@@ -1,17 +1,21 @@
 -- What a step of a fiber does: one rule, its event in the trace, and the calls that it makes of the port; or nothing, where the fiber waits.
-use Rattle.std.specs.Prelude.{◌≡◌, Bool, true, false, ◌&&◌, not, Option, Some, option_and_then, List, [], ◌∷◌, ◌++◌}
+use Rattle.std.specs.Prelude.{◌≡◌, ℕ, suc, Bool, true, false, ◌&&◌, not, Option, Some, None, option_and_then, List, [], ◌∷◌, ◌++◌}
+use Rattle.fx_term.specs.declared.begin.Begin.{Begin}
 use Rattle.fx_term.specs.declared.node.Node.{Node}
+use Rattle.fx_term.specs.declared.node.Arg.TheVariants.{Number}
 use Rattle.fx_term.specs.declared.event.Event.TheVariants as event
-use Rattle.fx_term.specs.Term.{Term, Cede}
+use Rattle.fx_term.specs.Term.{Term, Cede, First}
 use Rattle.fx_fiber.specs.Path.{is_open, must_cancel}
 use Rattle.fx_fiber.specs.Row.{Label, Silent, Shows, Learns, Starts}
 use Rattle.fx_fiber.specs.Step.{Progress, Runs, leaf_at, must_cancel_at, Step}
 use Rattle.fx_fiber.specs.Run.{events}
+use Rattle.fx_fiber.specs.Origin.{Origin, origin_of}
 use Rattle.fx_fiber.specs.Calls.{PortCalls}
-use Rattle.fx_fiber.specs.Waiting.{Wait, wait_at, IsRefused}
+use Rattle.fx_fiber.specs.declared.source.Source.{Source}
+use Rattle.fx_fiber.specs.Waiting.{wait_at, IsRefused}
 use Rattle.fx_fiber.specs.declared.stepped.Stepped.{Stepped}
-use Rattle.fx_fiber.specs.declared.stepped.Stepped.TheVariants.{Went, Waits, Gave, Ended}
-use Rattle.fx_fiber.specs.Fiber.{FiberView, progress, IsUnchanged}
+use Rattle.fx_fiber.specs.declared.stepped.Stepped.TheVariants.{Went, Child, Waits, Gave, Ended}
+use Rattle.fx_fiber.specs.Fiber.{FiberView, progress, IsUnchanged, IsAtFirst}
 
 -- it is `cede`
 abbrev pub is_yielding : Option Term → Bool
@@ -24,17 +28,18 @@ looks_first known (Runs t) = is_open t && not (must_cancel known t)
 looks_first known _ = false
 
 -- the answer of a step that shows nothing, by whether its leaf is `cede`
-abbrev pub AnswersSilently : Bool → Stepped → Type 0
+abbrev pub AnswersSilently : {P S : Type 0} → Bool → Stepped P S → Type 0
 AnswersSilently true answer = answer ≡ Gave
 AnswersSilently false answer = answer ≡ Went
 
--- the answer of a step at this leaf with this label; no answer gives a child yet
-abbrev pub Answers : Option Term → Label → Stepped → Type 0
-Answers leaf Silent answer = AnswersSilently (is_yielding leaf) answer
-Answers leaf (Shows (event.Ended o)) answer = answer ≡ Ended
-Answers leaf (Shows e) answer = answer ≡ Went
-Answers leaf (Learns f o e) answer = answer ≡ Went
-Answers leaf (Starts f b) answer = ⊥
+-- the answer of a step at this leaf with this label: that of a start gives the child, before its first step
+abbrev pub Answers : {P S : Type 0} → List Node → Option Term → Label → Stepped P S → Type 0
+Answers nodes leaf Silent answer = AnswersSilently (is_yielding leaf) answer
+Answers nodes leaf (Shows (event.Ended o)) answer = answer ≡ Ended
+Answers nodes leaf (Shows e) answer = answer ≡ Went
+Answers nodes leaf (Learns f o e) answer = answer ≡ Went
+Answers nodes leaf (Starts f b) (Child child) = IsAtFirst nodes b child
+Answers nodes leaf (Starts f b) answer = ⊥
 
 module _ {P S : Type 0} (calls : PortCalls P S) where
   -- a look answered false, where one is due
@@ -47,28 +52,49 @@ module _ {P S : Type 0} (calls : PortCalls P S) where
   LooksBefore due (Shows event.Seen) p s = Unit {0}
   LooksBefore due _ p s = LooksInVain due p s
 
-  -- the calls that a step at this leaf tells of, with this label and answer
-  abbrev pub Tells : Option Term → Label → Stepped → P → S → P → S → Type 0
-  Tells leaf (Shows event.Seen) answer p s p' s' = calls.looks p s true p' s'
-  Tells leaf (Shows (event.Ended o)) answer p s p' s' = calls.finishes p s o p' s'
-  Tells leaf _ answer p s p' s' = (p' ≡ p) × (s' ≡ s)
+  -- where a step at `first` learns of the right fiber, it asked for the left one before, in vain
+  abbrev pub PeeksLeft : Label → Option Term → P → S → Type 0
+  PeeksLeft (Learns f o (event.First (suc n))) (Some (First (Number left) right)) p s = calls.peeks p s left None p s
+  PeeksLeft _ leaf p s = Unit {0}
 
-  -- the calls of a step: the look that is due, and those that it tells of
-  pub record Calls (due : Bool) (leaf : Option Term) (label : Label) (answer : Stepped) (p : P) (s : S) (p' : P) (s' : S) : Type 0 where
+  -- the call that starts fiber f, which begins so, over the port of the child
+  pub record StartsChild (nodes : List Node) (f : ℕ) (b : Origin) (child p : P) (s : S) (p' : P) (s' : S) : Type 0 where
+    pub begin : Begin
+    pub begins : origin_of nodes begin ≡ b
+    pub told : calls.starts p s f begin child p' s'
+
+  -- the call that a step with this label and answer tells of; none puts into a queue or takes of one yet
+  abbrev pub Tells : List Node → Label → Stepped P S → P → S → P → S → Type 0
+  Tells nodes (Shows event.Seen) answer p s p' s' = calls.looks p s true p' s'
+  Tells nodes (Shows (event.Request f)) answer p s p' s' = calls.requests p s f p' s'
+  Tells nodes (Shows (event.Ended o)) answer p s p' s' = calls.finishes p s o p' s'
+  Tells nodes (Learns f o e) answer p s p' s' = calls.peeks p s f (Some o) p' s'
+  Tells nodes (Starts f b) (Child child) p s p' s' = StartsChild nodes f b child.port p s p' s'
+  Tells nodes (Starts f b) answer p s p' s' = ⊥
+  Tells nodes (Shows (event.Put q n)) answer p s p' s' = ⊥
+  Tells nodes (Shows (event.Got q n)) answer p s p' s' = ⊥
+  Tells nodes (Shows (event.Refused q)) answer p s p' s' = ⊥
+  Tells nodes (Shows (event.Empty q)) answer p s p' s' = ⊥
+  Tells nodes _ answer p s p' s' = (p' ≡ p) × (s' ≡ s)
+
+  -- the calls of a step: the look that is due, what it asked for in vain, and the call that it tells of
+  pub record Calls (nodes : List Node) (due : Bool) (leaf : Option Term) (label : Label) (answer : Stepped P S) (p : P) (s : S) (p' : P) (s' : S)
+      : Type 0 where
     pub looked : LooksBefore due label p s
-    pub told : Tells leaf label answer p s p' s'
+    pub left_first : PeeksLeft label leaf p s
+    pub told : Tells nodes label answer p s p' s'
 
   -- exactly one rule, with its event in the trace, its answer, and its calls
-  pub record MakesStep (nodes : List Node) (old : FiberView P) (shared : S) (answer : Stepped) (new : FiberView P) (shared' : S) : Type 0 where
+  pub record MakesStep (nodes : List Node) (old : FiberView P) (shared : S) (answer : Stepped P S) (new : FiberView P) (shared' : S) : Type 0 where
     pub label : Label
     pub step : Step old.counts (progress nodes old) label new.counts (progress nodes new)
     pub trace : new.trace ≡ old.trace ++ events (label ∷ [])
-    pub answers : Answers (leaf_at (progress nodes old)) label answer
-    pub calls_are : Calls (looks_first old.counts.known (progress nodes old)) (leaf_at (progress nodes old)) label answer old.port shared new.port shared'
+    pub answers : Answers nodes (leaf_at (progress nodes old)) label answer
+    pub calls_are : Calls nodes (looks_first old.counts.known (progress nodes old)) (leaf_at (progress nodes old)) label answer old.port shared new.port shared'
 
   -- no rule, since the fiber waits: a look in vain, where one is due, the refusals that it waits for, and nothing has changed
   pub record OnlyWaits (nodes : List Node) (old : FiberView P) (shared : S) (new : FiberView P) (shared' : S) : Type 0 where
-    pub wait : Wait
+    pub wait : Source
     pub waits : option_and_then wait_at (leaf_at (progress nodes old)) ≡ Some wait
     pub free : must_cancel_at old.counts.known (progress nodes old) ≡ false
     pub looked : LooksInVain (looks_first old.counts.known (progress nodes old)) old.port shared
@@ -77,6 +103,6 @@ module _ {P S : Type 0} (calls : PortCalls P S) where
     pub shared_is : shared' ≡ shared
 
   -- what a step does that answers so
-  abbrev pub DoesStep : List Node → FiberView P → S → Stepped → FiberView P → S → Type 0
+  abbrev pub DoesStep : List Node → FiberView P → S → Stepped P S → FiberView P → S → Type 0
   DoesStep nodes old shared Waits new shared' = OnlyWaits nodes old shared new shared'
   DoesStep nodes old shared answer new shared' = MakesStep nodes old shared answer new shared'

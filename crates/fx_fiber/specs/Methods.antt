@@ -1,5 +1,5 @@
 -- What the rules of a machine ask and do.
-use Rattle.std.specs.Prelude.{◌≡◌, ℕ, ◌<◌, ◌≤◌, Bool, true, false, ◌&&◌, ◌||◌, Option, Some, None, List, [], ◌∷◌, ◌++◌, length, slice_get}
+use Rattle.std.specs.Prelude.{◌≡◌, ℕ, ◌<◌, ◌≤◌, Bool, true, false, ◌&&◌, ◌||◌, Option, Some, None, option_and_then, List, [], ◌∷◌, ◌++◌, length, slice_get}
 use Rattle.fx_term.specs.declared.node.NodeId.{NodeId}
 use Rattle.fx_term.specs.declared.node.Arg.{Arg}
 use Rattle.fx_term.specs.declared.node.Arg.TheVariants.{Number}
@@ -8,18 +8,24 @@ use Rattle.fx_term.specs.declared.node.Node.{Node}
 use Rattle.fx_term.specs.declared.node.Node.TheVariants as node
 use Rattle.fx_term.specs.declared.done.Done.{Done}
 use Rattle.fx_term.specs.declared.event.Event.TheVariants as event
+use Rattle.fx_term.specs.declared.outcome.Outcome.{Outcome}
+use Rattle.fx_term.specs.declared.outcome.Outcome.TheVariants.{Succeeded, Errored}
+use Rattle.fx_term.specs.declared.outcome.Outcome.TheVariants as outcome
+use Rattle.fx_term.specs.Registers.{with_number}
 use Rattle.fx_mask.specs.Closing.{is_none_closed}
 use Rattle.fx_frames.specs.declared.frame.Frame.{Frame}
 use Rattle.fx_frames.specs.declared.frame.Frame.TheVariants as frame
-use Rattle.fx_term.specs.Term.{Never, Cede}
+use Rattle.fx_term.specs.Term.{Term, Cede}
 use Rattle.fx_fiber.specs.Path.{is_canceled_form}
-use Rattle.fx_fiber.specs.Row.{Label, Silent, Shows}
+use Rattle.fx_fiber.specs.Row.{Label, Silent, Shows, Learns}
 use Rattle.fx_fiber.specs.Step.{leaf_at, must_cancel_at, Step}
-use Rattle.fx_fiber.specs.Deed.{Deed, Saw}
+use Rattle.fx_fiber.specs.Deed.{Deed, FoundEnded, deeds_of_event}
+use Rattle.fx_fiber.specs.declared.source.Source.{Source}
+use Rattle.fx_fiber.specs.Waiting.{wait_at, IsRefused}
 use Rattle.fx_fiber.specs.Calls.{PortCalls}
-use Rattle.fx_fiber.specs.MakesStep.{is_yielding, looks_first, LooksInVain}
+use Rattle.fx_fiber.specs.MakesStep.{is_yielding, looks_first, LooksInVain, PeeksLeft}
 use Rattle.fx_fiber.specs.declared.machine.focus.Focus.{Focus}
-use Rattle.fx_fiber.specs.declared.machine.focus.Focus.TheVariants.{Eval, Return, Turn, Ended}
+use Rattle.fx_fiber.specs.declared.machine.focus.Focus.TheVariants.{Eval, Return, Turn, Await, Ended}
 use Rattle.fx_fiber.specs.declared.machine.interruption.Interruption.{Interruption}
 use Rattle.fx_fiber.specs.declared.machine.interruption.Interruption.TheVariants.{Cancellation, Request}
 use Rattle.fx_fiber.specs.declared.machine.made.Made.{Made}
@@ -35,6 +41,7 @@ Steps nodes s label s' = Step (counts_of s) (progress_of nodes s) label (counts_
 -- the label of what was made
 abbrev pub label_of : Made → Label
 label_of (made.Shows e) = Shows e
+label_of (made.Learns f o e) = Learns f o e
 label_of _ = Silent
 
 -- the fiber has come no further, though it may have entered contexts
@@ -43,36 +50,16 @@ pub record IsSame (nodes : List Node) (s s' : Machine) : Type 0 where
   pub progress : progress_of nodes s' ≡ progress_of nodes s
   pub counts : counts_of s' ≡ counts_of s
 
--- where the fiber waits: at `never`, with no cancellation due, and come no further
+-- where the fiber waits: at a leaf that can wait, with no cancellation due, and come no further
 pub record WaitsAt (nodes : List Node) (s s' : Machine) : Type 0 where
-  pub leaf : leaf_at (progress_of nodes s) ≡ Some Never
+  pub wait : Source
+  pub leaf : option_and_then wait_at (leaf_at (progress_of nodes s)) ≡ Some wait
   pub free : must_cancel_at s.known (progress_of nodes s) ≡ false
   pub same : IsSame nodes s s'
 
--- what was made: no rule where the fiber waits, the rule of `cede`, or another rule
-abbrev pub Makes : List Node → Machine → Made → Machine → Type 0
-Makes nodes s made.Waits s' = WaitsAt nodes s s'
-Makes nodes s made.Yielded s' = (leaf_at (progress_of nodes s) ≡ Some Cede) × Steps nodes s Silent s'
-Makes nodes s made.Silent s' = (is_yielding (leaf_at (progress_of nodes s)) ≡ false) × Steps nodes s Silent s'
-Makes nodes s (made.Shows e) s' = Steps nodes s (Shows e) s'
-
--- what is made with no question to the port: an end is told after it
-abbrev pub IsLocal : Made → Type 0
-IsLocal made.Silent = Unit {0}
-IsLocal made.Yielded = Unit {0}
-IsLocal made.Waits = Unit {0}
-IsLocal (made.Shows event.SelfRequest) = Unit {0}
-IsLocal (made.Shows (event.Acquired k)) = Unit {0}
-IsLocal (made.Shows (event.Begin k)) = Unit {0}
-IsLocal (made.Shows (event.End k)) = Unit {0}
-IsLocal (made.Shows (event.Ended o)) = Unit {0}
-IsLocal (made.Shows e) = ⊥
-
--- a rule was made, or the fiber waits
-pub record MakesRule (nodes : List Node) (s : Machine) (m : Made) (s' : Machine) : Type 0 where
-  pub sound : IsSoundMachine nodes s'
-  pub rule : Makes nodes s m s'
-  pub is_local : IsLocal m
+-- it waits for this
+abbrev pub WaitsFor : List Node → Machine → Machine → Source → Type 0
+WaitsFor nodes s s' w = (waits : WaitsAt nodes s s') × (waits.wait ≡ w)
 
 -- nothing closes the place
 abbrev pub is_open_machine : Machine → Bool
@@ -92,6 +79,52 @@ pub record IsEvaluating (nodes : List Node) (s : Machine) (id : NodeId) (n : Nod
 pub record StandsAt (nodes : List Node) (s : Machine) (id : NodeId) (n : Node) : Type 0 where
   pub at : IsEvaluating nodes s id n
   pub free : must_cancel_machine nodes s ≡ false
+
+-- the fiber has come no further, and stands at a `start` of this name and these parts
+pub record StandsAtStart (nodes : List Node) (s s' : Machine) (h : ℕ) (a b : NodeId) : Type 0 where
+  pub same : IsSame nodes s s'
+  pub id : NodeId
+  pub stands : StandsAt nodes s' id (node.Start h a b)
+
+-- what was made: no rule where the fiber waits, or where it is to start another; the rule of `cede`; or another rule
+abbrev pub Makes : List Node → Machine → Made → Machine → Type 0
+Makes nodes s made.Waits s' = WaitsAt nodes s s'
+Makes nodes s made.Yielded s' = (leaf_at (progress_of nodes s) ≡ Some Cede) × Steps nodes s Silent s'
+Makes nodes s made.Silent s' = (is_yielding (leaf_at (progress_of nodes s)) ≡ false) × Steps nodes s Silent s'
+Makes nodes s (made.Shows e) s' = Steps nodes s (Shows e) s'
+Makes nodes s (made.Learns f o e) s' = Steps nodes s (Learns f o e) s'
+Makes nodes s (made.Starts h a b) s' = StandsAtStart nodes s s' h a b
+
+-- what is made with no question to the port: an end is told after it
+abbrev pub IsLocal : Made → Type 0
+IsLocal made.Silent = Unit {0}
+IsLocal made.Yielded = Unit {0}
+IsLocal made.Waits = ⊥
+IsLocal (made.Learns f o e) = ⊥
+IsLocal (made.Starts h a b) = ⊥
+IsLocal (made.Shows event.SelfRequest) = Unit {0}
+IsLocal (made.Shows (event.Acquired k)) = Unit {0}
+IsLocal (made.Shows (event.Begin k)) = Unit {0}
+IsLocal (made.Shows (event.End k)) = Unit {0}
+IsLocal (made.Shows (event.Ended o)) = Unit {0}
+IsLocal (made.Shows e) = ⊥
+
+-- a rule was made with no question to the port
+pub record MakesRule (nodes : List Node) (s : Machine) (m : Made) (s' : Machine) : Type 0 where
+  pub sound : IsSoundMachine nodes s'
+  pub rule : Makes nodes s m s'
+  pub is_local : IsLocal m
+
+-- a `join`
+abbrev pub IsJoin : Node → Type 0
+IsJoin (node.Join f x a e b d) = Unit {0}
+IsJoin n = ⊥
+
+-- a machine that goes on after this outcome: with one of these parts, and the number of the outcome by this name
+abbrev pub joined_machine : Outcome → ℕ → NodeId → NodeId → NodeId → Machine → Machine
+joined_machine (Succeeded n) x a b d s = record s { registers = with_number (Some x) n s.registers; focus = Eval a }
+joined_machine (Errored n) x a b d s = record s { registers = with_number (Some x) n s.registers; focus = Eval b }
+joined_machine outcome.Canceled x a b d s = record s { focus = Eval d }
 
 -- the fiber stands at an `if` of this number, with these parts
 pub record StandsAtIf (nodes : List Node) (s : Machine) (n : ℕ) (part other : NodeId) : Type 0 where
@@ -155,15 +188,29 @@ IsLeafNode (Some (node.If v a b)) = Unit {0}
 IsLeafNode (Some (node.For i c a)) = Unit {0}
 IsLeafNode (Some (node.Mask p a)) = Unit {0}
 IsLeafNode (Some (node.Poll p a)) = Unit {0}
+IsLeafNode (Some (node.Start h a b)) = Unit {0}
+IsLeafNode (Some (node.Join f x a e b d)) = Unit {0}
+IsLeafNode (Some (node.Cancel f)) = Unit {0}
+IsLeafNode (Some (node.First f g)) = Unit {0}
 IsLeafNode (Some (node.Let x a b)) = ⊥
 IsLeafNode (Some (node.Handle a x b)) = ⊥
 IsLeafNode (Some (node.OnCancel a f)) = ⊥
 IsLeafNode (Some (node.Bracket x a u r)) = ⊥
 IsLeafNode None = ⊥
 
--- all contexts are entered
+-- a leaf whose rule asks nothing of the port
+abbrev pub IsLocalLeaf : Node → Type 0
+IsLocalLeaf node.Never = ⊥
+IsLocalLeaf (node.Start h a b) = ⊥
+IsLocalLeaf (node.Join f x a e b d) = ⊥
+IsLocalLeaf (node.Cancel f) = ⊥
+IsLocalLeaf (node.First f g) = ⊥
+IsLocalLeaf n = IsLeafNode (Some n)
+
+-- all contexts are entered, and what closes the place is what these close: a fiber that awaits another is sealed itself
 abbrev pub IsEntered : List Node → Focus → Type 0
 IsEntered nodes (Eval id) = IsLeafNode (slice_get nodes id.0)
+IsEntered nodes (Await f) = ⊥
 IsEntered nodes _ = Unit {0}
 
 -- the fiber has not ended
@@ -193,11 +240,26 @@ abbrev pub is_cancellation : Interruption → Bool
 is_cancellation Cancellation = true
 is_cancellation Request = false
 
+-- what is made by the rule of a place: that, what the port was asked for, or nothing where the fiber waits
+abbrev pub IsRuleMade : Made → Type 0
+IsRuleMade made.Waits = Unit {0}
+IsRuleMade (made.Learns f o e) = Unit {0}
+IsRuleMade (made.Starts h a b) = Unit {0}
+IsRuleMade (made.Shows (event.Request f)) = Unit {0}
+IsRuleMade m = IsLocal m
+
 -- what is made in a step of a fiber: that, cancellation, or a request that is seen
 abbrev pub IsOwnMade : Made → Type 0
 IsOwnMade (made.Shows event.Cancelled) = Unit {0}
 IsOwnMade (made.Shows event.Seen) = Unit {0}
-IsOwnMade m = IsLocal m
+IsOwnMade m = IsRuleMade m
+
+-- the deeds of a step that made this, before its end is told
+abbrev pub deeds_made : Made → List Deed
+deeds_made (made.Shows (event.Ended o)) = []
+deeds_made (made.Shows e) = deeds_of_event e
+deeds_made (made.Learns f o e) = FoundEnded f o ∷ []
+deeds_made _ = []
 
 -- what interrupts a fiber in place of its rule makes this
 abbrev pub made_by : Interruption → Made
@@ -219,11 +281,17 @@ pub record IsInterrupted (nodes : List Node) (s : Machine) (i : Interruption) : 
   pub due : must_cancel_machine nodes s ≡ is_cancellation i
 
 module _ {P S : Type 0} (calls : PortCalls P S) where
-  -- what is asked before a rule with this label is made, where a look is due or not: a request is seen by a look, and any other rule at such a place
-  -- comes after a look in vain
-  abbrev pub Asks : Bool → Label → P → S → P → S → Type 0
-  Asks due (Shows event.Seen) p s p' s' = calls.looks p s true p' s'
-  Asks due _ p s p' s' = LooksInVain calls due p s × (p' ≡ p) × (s' ≡ s)
+  -- what the rule of this leaf asks of the port: to request a cancellation, for an outcome, or in vain for what it waits for
+  abbrev pub Told : Option Term → Made → P → S → P → S → Type 0
+  Told leaf made.Waits p s p' s' = ((w : Source) → option_and_then wait_at leaf ≡ Some w → IsRefused calls w p s) × (p' ≡ p) × (s' ≡ s)
+  Told leaf (made.Shows (event.Request f)) p s p' s' = calls.requests p s f p' s'
+  Told leaf (made.Learns f o e) p s p' s' = PeeksLeft calls (Learns f o e) leaf p s × calls.peeks p s f (Some o) p' s'
+  Told leaf _ p s p' s' = (p' ≡ p) × (s' ≡ s)
+
+  -- what is asked in a step, where a look is due or not: a request is seen by a look, and the rule of such a place comes after a look in vain
+  abbrev pub Asks : Bool → Option Term → Made → P → S → P → S → Type 0
+  Asks due leaf (made.Shows event.Seen) p s p' s' = calls.looks p s true p' s'
+  Asks due leaf m p s p' s' = LooksInVain calls due p s × Told leaf m p s p' s'
 
   -- what comes before the rule of a place that is open or not, where cancellation is due or not: cancellation, a request that is seen, or nothing,
   -- after a look in vain where the place is open
@@ -232,11 +300,20 @@ module _ {P S : Type 0} (calls : PortCalls P S) where
   ComesFirst opened due (Some Request) p s p' s' = (opened ≡ true) × (due ≡ false) × calls.looks p s true p' s'
   ComesFirst opened due None p s p' s' = (due ≡ false) × LooksInVain calls opened p s × (p' ≡ p) × (s' ≡ s)
 
+  -- the rule of a place was made, with what it asks of the port, or the fiber waits
+  pub record MakesCall (agrees : P → List Deed → Type 0) (nodes : List Node) (s : Machine) (p : P) (sh : S) (m : Made) (s' : Machine) (p' : P)
+      (sh' : S) : Type 0 where
+    pub sound : IsSoundMachine nodes s'
+    pub rule : Makes nodes s m s'
+    pub own : IsRuleMade m
+    pub told : Told (leaf_at (progress_of nodes s)) m p sh p' sh'
+    pub agreed : (deeds : List Deed) → agrees p deeds → agrees p' (deeds ++ deeds_made m)
+
   -- what a fiber makes in a step before its end is told, and what it asks for it
   pub record Advances (agrees : P → List Deed → Type 0) (nodes : List Node) (s : Machine) (p : P) (sh : S) (m : Made) (s' : Machine) (p' : P)
       (sh' : S) : Type 0 where
     pub sound : IsSoundMachine nodes s'
     pub rule : Makes nodes s m s'
     pub own : IsOwnMade m
-    pub asks : Asks (looks_first s.known (progress_of nodes s)) (label_of m) p sh p' sh'
-    pub saw : m ≡ made.Shows event.Seen → (deeds : List Deed) → agrees p deeds → agrees p' (deeds ++ Saw ∷ [])
+    pub asks : Asks (looks_first s.known (progress_of nodes s)) (leaf_at (progress_of nodes s)) m p sh p' sh'
+    pub agreed : (deeds : List Deed) → agrees p deeds → agrees p' (deeds ++ deeds_made m)

@@ -1,19 +1,13 @@
 -- What a fiber waits for.
-use Rattle.std.specs.Prelude.{ℕ, Option, Some, None}
+use Rattle.std.specs.Prelude.{Option, Some, None}
 use Rattle.fx_term.specs.declared.node.Arg.TheVariants.{Number}
 use Rattle.fx_term.specs.Term.{Term, Never, Offer, Take, Join, Await, First}
+use Rattle.fx_fiber.specs.declared.source.Source.{Source}
+use Rattle.fx_fiber.specs.declared.source.Source.TheVariants.{Nothing, Outcome, Either, Room, Element}
 use Rattle.fx_fiber.specs.Calls.{PortCalls}
 
--- what a fiber can wait for: nothing that ever comes, the outcome of a fiber, that of either of two, room in a queue, or an element of one
-pub data Wait : Type 0 where
-  Nothing : Wait
-  Outcome : ℕ → Wait
-  Either : ℕ → ℕ → Wait
-  Room : ℕ → Wait
-  Element : ℕ → Wait
-
 -- what a leaf waits for, if it is one that can wait
-abbrev pub wait_at : Term → Option Wait
+abbrev pub wait_at : Term → Option Source
 wait_at Never = Some Nothing
 wait_at (Join (Number f) x a e b d) = Some (Outcome f)
 wait_at (Await f) = Some (Outcome f)
@@ -22,7 +16,10 @@ wait_at (Offer q v) = Some (Room q)
 wait_at (Take q) = Some (Element q)
 wait_at _ = None
 
--- the refusals that a fiber had which waits so: none of what never comes; no call gives another one yet
-abbrev pub IsRefused : {P S : Type 0} → PortCalls P S → Wait → P → S → Type 0
+-- the refusals that a fiber had which waits so: none of what never comes, and no outcome of a fiber that it asked for; no call refuses room or an
+-- element yet
+abbrev pub IsRefused : {P S : Type 0} → PortCalls P S → Source → P → S → Type 0
 IsRefused calls Nothing p s = Unit {0}
+IsRefused calls (Outcome f) p s = calls.peeks p s f None p s
+IsRefused calls (Either f g) p s = calls.peeks p s f None p s × calls.peeks p s g None p s
 IsRefused calls _ p s = ⊥

@@ -1,19 +1,23 @@
 //! What the main fiber begins with.
-ghost use Rattle.std.specs.Prelude.{◌≡◌};
+ghost use Rattle.std.specs.Prelude.{◌≡◌, ◌<◌, ◌^◌};
+ghost use Rattle.fx_term.specs.Code.{IsCode};
 ghost use Rattle.fx_fiber.specs.Origin.{main_begin_of};
 
 use fx_term::{Begin, Code, Registers};
 use std::alloc::Global;
 
-/// What the main fiber of a code begins with: the root, no name in scope, and the numbers from 1 on,
-/// of which no form uses one yet.
+/// What the main fiber of a code begins with: the root, no name in scope, and the numbers from 1 on
+/// that its term can use.
 pub fn main_begin(alloc: Global, code: &Code) -> Begin
-    ensures { result ≡ main_begin_of code.now }
+    ensures begin { result ≡ main_begin_of code.now.nodes }
+    ensures code { IsCode code.now.queues code.now.nodes }
+    ensures word { result.end < 2 ^ 32 }
 {
+    let root = code.root();
     Begin {
-        node: code.root(),
+        node: root,
         slots: Registers::new(alloc),
         next: 1,
-        end: 1,
+        end: 1 + code.need(root),
     }
 }

@@ -1,68 +1,108 @@
 //! A fiber over a port.
-ghost use Rattle.std.specs.Prelude.{◌≡◌, [], false, IfOk, OnErr};
+ghost use Rattle.std.specs.Prelude.{◌≡◌, ◌<◌, ◌^◌, [], false, IfOk, OnErr};
 
+use crate::begin::main_begin;
+use crate::machine::focus::Focus;
+use crate::machine::made::Made;
 use crate::port::Port;
 use crate::stepped::Stepped;
 use fx_term::{Code, Event, Memory};
 use std::alloc::Global;
 use std::marker::Model;
 
+mod start;
 mod state;
 
-use state::State;
+use start::start;
+use state::{State, advance};
 
 /// A fiber: a running term, what it keeps beside it, its trace, and its port. By its type the trace
 /// is that of a run from what the port says that the fiber began with, and the port agrees with what
-/// the fiber did in that run. It is one word, whatever its port has, so that it is handed on cheaply.
+/// the fiber did in that run. Beside its port it is one word, so that it is handed on cheaply.
 #[derive(Drop)]
 pub struct Fiber<P: Port> {
-    state: Box<State<P>>,
+    port: P,
+    state: Box<State>,
 }
 
 impl<P: Port> Model for Fiber<P> {
-    ghost use Rattle.fx_fiber.specs.Fiber.{FiberView};
+    ghost use Rattle.std.specs.Prelude.{◌≡◌};
+    ghost use Rattle.fx_fiber.specs.Machine.{counts_of};
+    ghost use Rattle.fx_fiber.specs.Fiber.{FiberView, IsKept};
 
     ghost Value = { FiberView P };
 
-    ghost view = { λ f. f.state.value };
+    ghost view = { λ f. record {
+      port = f.port;
+      trace = f.state.value.trace.items;
+      counts = counts_of f.state.value.machine;
+      registers = f.state.value.machine.registers;
+      frames = f.state.value.machine.frames;
+      closed = f.state.value.machine.masks.regions;
+      cleanups = f.state.value.machine.cleanups;
+      focus = f.state.value.machine.focus;
+    } };
+
+    ghost invariant = { λ f. (P.number f.port ≡ f.state.value.id)
+        × IsKept P.code (P.beginning f.port) (P.agrees f.port) (P.has_finished f.port)
+        (P.rest f.port) f.state.value.trace.items f.state.value.machine };
 }
 
 impl<P: Port> Fiber<P> {
     ghost use Rattle.fx_term.specs.Meaning.{root_term};
-    ghost use Rattle.fx_fiber.specs.Origin.{main_origin, main_begin_of};
+    ghost use Rattle.fx_fiber.specs.Origin.{origin_of, main_origin, main_begin_of};
     ghost use Rattle.fx_fiber.specs.Run.{first_counts};
-    ghost use Rattle.fx_fiber.specs.Calls.{range_of};
+    ghost use Rattle.fx_fiber.specs.Calls.{first_range};
     ghost use Rattle.fx_fiber.specs.Step.{Runs};
-    ghost use Rattle.fx_fiber.specs.Fiber.{IsLawful, IsUnchanged, progress, has_ended};
+    ghost use Rattle.fx_fiber.specs.Work.{work_left};
+    ghost use Rattle.fx_fiber.specs.State.{IsFirstState};
+    ghost use Rattle.fx_fiber.specs.Scopes.{IsScopedOver};
+    ghost use Rattle.fx_fiber.specs.NeedLeft.{HasRoom};
+    ghost use Rattle.fx_fiber.specs.Fiber.{is_fiber_number, IsAtFirst, IsLawful, IsUnchanged, progress, has_ended};
     ghost use Rattle.fx_fiber.specs.MakesStep.{DoesStep};
 
     /// The main fiber before its first step.
     pub fn new(alloc: Global, code: &Code, port: P) -> Result<Fiber<P>, Memory>
     where
         P: Drop,
-        requires code { code.now ≡ P.code }
+        requires code { code.now.nodes ≡ P.code }
         requires number { P.number port ≡ 0 }
-        requires beginning { P.beginning port ≡ main_begin_of code.now }
-        requires rest { P.rest port ≡ range_of (first_counts (main_origin (root_term code.now))) }
+        requires beginning { P.beginning port ≡ main_begin_of code.now.nodes }
+        requires rest { P.rest port ≡ first_range (main_begin_of code.now.nodes) }
         requires going { P.has_finished port ≡ false }
         requires fresh { P.agrees port [] }
         ensures port { IfOk result (λ fiber. fiber.port ≡ port) }
         ensures trace { IfOk result (λ fiber. fiber.trace ≡ []) }
         ensures counts { IfOk result
-            (λ fiber. fiber.counts ≡ first_counts (main_origin (root_term code.now))) }
-        ensures progress { IfOk result (λ fiber. progress code.now fiber ≡ Runs (root_term code.now)) }
+            (λ fiber. fiber.counts ≡ first_counts (main_origin (root_term code.now.nodes))) }
+        ensures progress { IfOk result (λ fiber. progress code.now.nodes fiber ≡ Runs (root_term code.now.nodes)) }
     {
-        let state = State::new(alloc, code, port)?;
-        Ok(Fiber {
-            state: Box::new(alloc, state)?,
-        })
+        let begin = main_begin(alloc, code);
+        let state = State::beginning(alloc, 0, &begin)?;
+        Ok(Fiber::beginning(port, state))
+    }
+
+    /// The fiber over this port before its first step.
+    pub(crate) fn beginning(port: P, state: Box<State>) -> Fiber<P>
+        requires state { IsFirstState P.code (P.number port) (P.beginning port) state.value }
+        requires countable { work_left (Runs (origin_of P.code (P.beginning port)).term) < 2 ^ 63 }
+        requires scoped { IsScopedOver is_fiber_number (origin_of P.code (P.beginning port)).term }
+        requires room { HasRoom (origin_of P.code (P.beginning port)) }
+        requires word { (P.beginning port).end < 2 ^ 32 }
+        requires rest { P.rest port ≡ first_range (P.beginning port) }
+        requires going { P.has_finished port ≡ false }
+        requires fresh { P.agrees port [] }
+        ensures port { result.port ≡ port }
+        ensures first { IsAtFirst P.code (origin_of P.code (P.beginning port)) result }
+    {
+        Fiber { port, state }
     }
 
     /// The fiber's number.
     pub fn id(&self) -> u32
         ensures { result ≡ P.number self.now.port }
     {
-        self.state.id()
+        self.state.id
     }
 
     /// The events so far, the first one first.
@@ -71,7 +111,7 @@ impl<P: Port> Fiber<P> {
         ensures lawful { IsLawful P.code (P.beginning self.now.port) (P.agrees self.now.port)
             self.now.trace self.now.counts (progress P.code self.now) }
     {
-        self.state.trace()
+        &self.state.trace
     }
 
     /// Whether the fiber has ended.
@@ -79,14 +119,14 @@ impl<P: Port> Fiber<P> {
         ensures ended { result ≡ has_ended (progress P.code self.now) }
         ensures finished { result ≡ P.has_finished self.now.port }
     {
-        self.state.has_ended()
+        matches!(self.state.machine.focus, Focus::Ended(_))
     }
 
     /// Makes exactly one rule; or answers that the fiber waits, and has changed nothing. Room for what
     /// it needs is had before anything is done through the port, so that want of memory leaves the
     /// fiber and the outside as they were.
-    pub fn step(&mut self, code: &Code, shared: &mut P::Shared) -> Result<Stepped, Memory>
-        requires code { code.now ≡ P.code }
+    pub fn step(&mut self, code: &Code, shared: &mut P::Shared) -> Result<Stepped<P>, Memory>
+        requires code { code.now.nodes ≡ P.code }
         requires going { has_ended (progress P.code self.old) ≡ false }
         ensures ok { IfOk result (λ answer. DoesStep P.calls P.code
             self.old shared.old answer self.new shared.new) }
@@ -94,7 +134,40 @@ impl<P: Port> Fiber<P> {
         ensures number { P.number self.new.port ≡ P.number self.old.port }
         ensures beginning { P.beginning self.new.port ≡ P.beginning self.old.port }
     {
-        self.state.step(code, shared)
+        let state = &mut *self.state;
+        state.trace.reserve(1)?;
+        let event = match advance(&mut self.port, &mut state.machine, code, shared)? {
+            Made::Shows(event) => event,
+            Made::Silent => return Ok(Stepped::Went),
+            Made::Yielded => return Ok(Stepped::Gave),
+            Made::Waits => return Ok(Stepped::Waits),
+            Made::Starts(slot, started, then) => {
+                let alloc = state.machine.alloc;
+                let child = start(
+                    alloc,
+                    &mut self.port,
+                    state,
+                    code,
+                    shared,
+                    slot,
+                    started,
+                    then,
+                )?;
+                return Ok(Stepped::Child(child));
+            }
+            Made::Learns(_, _, learnt) => {
+                state.trace.push_reserved(learnt);
+                return Ok(Stepped::Went);
+            }
+        };
+        state.trace.push_reserved(event);
+        match event {
+            Event::Ended(outcome) => {
+                self.port.finish(shared, outcome);
+                Ok(Stepped::Ended)
+            }
+            _ => Ok(Stepped::Went),
+        }
     }
 }
 

@@ -20,6 +20,11 @@
 //! | `if` of another number than 0; of 0 | any or none | `if_not_zero`; `if_zero` |
 //! | `for`; its loop with a turn left; with none | any or none | `for_begins`; `loop_turns`; `loop_ends` |
 //! | `mask`; `poll` | any or none | `mask`; `poll` |
+//! | `start` | any or none | `start` |
+//! | `join`, once that fiber has ended | any or none | `joined` |
+//! | `cancel`; then, once that fiber has ended | any or none | `request`; `awaited` |
+//! | `first`, once the left fiber has ended; else the right one | any or none | `first_left`; `first_right` |
+//! | one of these before | any or none | none: the fiber waits |
 //! | a value | a `let`, or a turn of a loop; a `handle`; none | `let_value`; `handle_value`; `succeeds` |
 //! | an error | a `let`, or a turn of a loop; a `handle`; none | `let_error`; `handle_error`; `errs` |
 //! | a value or an error | a mask; a poll; an `oncancel` | `masked_ends`; `opened_ends`; `oncancel_ends` |
@@ -29,11 +34,14 @@
 //!
 //! Each rule is made by one method of its name, in the file of its forms. But `unwinds` makes the three
 //! rules `finalizer`, `release` and `unwound`; and a turn of a loop stands in a `let` without a name, so
-//! that its end is `let_value` or `let_error`, made by `turn_value` and `turn_error`.
+//! that its end is `let_value` or `let_error`, made by `turn_value` and `turn_error`. `join` makes the
+//! rule `joined`, `awaits` the rule `awaited`, and `first` the rules `first_left` and `first_right`; and
+//! `start` is a function beside the machine, since it makes a fiber over a port of its own.
 //!
-//! The answer of a step is [`Stepped::Gave`] exactly where its rule is `cede`, and [`Stepped::Waits`]
-//! exactly where it made none. A fiber that waits at an open place looks in each step, so a request is
-//! seen there; where something closes the place it waits for good.
+//! The answer of a step is [`Stepped::Gave`] exactly where its rule is `cede`, [`Stepped::Waits`]
+//! exactly where it made none, and [`Stepped::Child`] where it started a fiber. A fiber that waits at an
+//! open place looks in each step, so a request is seen there; where something closes the place only
+//! what it waits for lets it go on.
 //!
 //! What follows from the rules alone, for every run, are the [`laws`].
 //!
@@ -44,12 +52,18 @@
 
 mod begin;
 mod fiber;
+mod fiber_report;
 pub mod laws;
 mod machine;
 mod port;
+mod report;
+mod source;
 mod stepped;
 
 pub use begin::main_begin;
 pub use fiber::Fiber;
+pub use fiber_report::{FiberReport, State};
 pub use port::Port;
+pub use report::Report;
+pub use source::Source;
 pub use stepped::Stepped;

@@ -1,16 +1,17 @@
 //! What a fiber reaches of the outside.
-ghost use Rattle.std.specs.Prelude.{◌≡◌, ℕ, Bool, true, false, List, ◌++◌, ◌∷◌, []};
+ghost use Rattle.std.specs.Prelude.{◌≡◌, ℕ, Bool, true, false, List, ◌++◌, ◌∷◌, [], IfSome, IfOk, IfNone, OnErr};
 ghost use Rattle.std.specs.Bool.{OnTrue, OnFalse};
 ghost use Rattle.fx_term.specs.declared.node.Node.{Node};
 ghost use Rattle.fx_term.specs.declared.begin.Begin.{Begin};
-ghost use Rattle.fx_fiber.specs.Deed.{Deed, Saw, Ended};
-ghost use Rattle.fx_fiber.specs.Calls.{PortCalls, Range};
+ghost use Rattle.fx_fiber.specs.Deed.{Deed, Started, Requested, Saw, FoundEnded, Ended};
+ghost use Rattle.fx_fiber.specs.Calls.{PortCalls, Range, HasRange, first_range, range_after};
 
-use fx_term::Outcome;
+use fx_term::{Begin, Memory, Outcome};
 
 /// The port of one fiber: the calls by which the fiber reaches the outside. Its type names
 /// the one code that its fibers run. Contracts know a call by its relation, and by the deed that it
-/// adds to those that the port agrees with; the deeds are stored nowhere.
+/// adds to those that the port agrees with; the deeds are stored nowhere. A call that answers false,
+/// none or want of memory has changed neither the port nor what is shared.
 pub trait Port: Sized {
     /// What the ports of one place have in common, lent to each call.
     type Shared;
@@ -47,6 +48,47 @@ pub trait Port: Sized {
         ensures deed { OnTrue result ((deeds : List Deed)
             → agrees self.old deeds → agrees self.new (deeds ++ Saw ∷ [])) }
         ensures unchanged { OnFalse result ((self.new ≡ self.old) × (shared.new ≡ shared.old)) };
+
+    /// Requests the cancellation of a fiber, whatever its number is.
+    fn request(&mut self, shared: &mut Self::Shared, id: u32)
+        ensures told { calls.requests self.old shared.old id self.new shared.new }
+        ensures number { number self.new ≡ number self.old }
+        ensures beginning { beginning self.new ≡ beginning self.old }
+        ensures rest { rest self.new ≡ rest self.old }
+        ensures finished { has_finished self.new ≡ has_finished self.old }
+        ensures deed { (deeds : List Deed)
+            → agrees self.old deeds → agrees self.new (deeds ++ Requested id ∷ []) };
+
+    /// The outcome of a fiber, if it has ended, whatever its number is.
+    fn peek(&mut self, shared: &mut Self::Shared, id: u32) -> Option<Outcome>
+        ensures told { calls.peeks self.old shared.old id result self.new shared.new }
+        ensures number { number self.new ≡ number self.old }
+        ensures beginning { beginning self.new ≡ beginning self.old }
+        ensures rest { rest self.new ≡ rest self.old }
+        ensures finished { has_finished self.new ≡ has_finished self.old }
+        ensures deed { IfSome result (λ outcome. (deeds : List Deed)
+            → agrees self.old deeds → agrees self.new (deeds ++ FoundEnded id outcome ∷ [])) }
+        ensures unchanged { IfNone result ((self.new ≡ self.old) × (shared.new ≡ shared.old)) };
+
+    /// The port of a child that begins so. The child has the first number that is left, and its range
+    /// follows that; what comes after its range is left for other children.
+    fn start(&mut self, shared: &mut Self::Shared, id: u32, begin: &Begin) -> Result<Self, Memory>
+        requires range { HasRange (rest self.old) id begin.now }
+        requires going { has_finished self.old ≡ false }
+        ensures told { IfOk result (λ child.
+            calls.starts self.old shared.old id begin.now child self.new shared.new) }
+        ensures child_number { IfOk result (λ child. number child ≡ id) }
+        ensures child_beginning { IfOk result (λ child. beginning child ≡ begin.now) }
+        ensures child_rest { IfOk result (λ child. rest child ≡ first_range begin.now) }
+        ensures child_finished { IfOk result (λ child. has_finished child ≡ false) }
+        ensures child_fresh { IfOk result (λ child. agrees child []) }
+        ensures number { number self.new ≡ number self.old }
+        ensures beginning { beginning self.new ≡ beginning self.old }
+        ensures rest { IfOk result (λ child. rest self.new ≡ range_after begin.now (rest self.old)) }
+        ensures finished { has_finished self.new ≡ has_finished self.old }
+        ensures deed { IfOk result (λ child. (deeds : List Deed)
+            → agrees self.old deeds → agrees self.new (deeds ++ Started id begin.now ∷ [])) }
+        ensures unchanged { OnErr result ((self.new ≡ self.old) × (shared.new ≡ shared.old)) };
 
     /// Tells the outside how the fiber ended.
     fn finish(&mut self, shared: &mut Self::Shared, outcome: Outcome)

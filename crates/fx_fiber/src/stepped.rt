@@ -1,10 +1,15 @@
 //! The answers of a step.
 
+use crate::fiber::Fiber;
+use crate::port::Port;
+
 /// What a step of a fiber did.
-#[derive(Clone, Copy, PartialEq, Eq, Debug)]
-pub enum Stepped {
+#[derive(Drop)]
+pub enum Stepped<P: Port> {
     /// It took one step, and the fiber goes on.
     Went,
+    /// It started this fiber, and goes on.
+    Child(Fiber<P>),
     /// It made no rule, since the fiber waits; nothing has changed.
     Waits,
     /// It made the rule of `cede`: the fiber goes on, after others.

@@ -45,11 +45,11 @@ impl Frames {
     }
 
     /// The innermost context.
-    pub fn last(&self) -> Option<Frame>
+    pub fn last(&self) -> Option<&Frame>
         ensures { MatchOption result (self.now ≡ [])
-            (λ frame. (outer : List Frame) × (self.now ≡ frame ∷ outer)) }
+            (λ frame. (outer : List Frame) × (self.now ≡ frame.now ∷ outer)) }
     {
-        self.items.last().copied()
+        self.items.last()
     }
 
     /// Takes the innermost context off.
@@ -106,7 +106,7 @@ mod tests {
             frames.push(frame)?;
         }
         for (row, frame) in rows.into_iter().rev() {
-            assert_eq!(rt; frames.last(), Some(frame), "{row}");
+            assert_eq!(rt; frames.last(), Some(&frame), "{row}");
             assert_eq!(rt; frames.pop(), Some(frame), "{row}");
         }
         assert_eq!(rt; frames.last(), None);

@@ -21,3 +21,16 @@ pub mod Bits
 pub mod Members
 pub mod Marks
 pub mod LeastMember
+pub mod OnTheWay
+pub mod ReadyFibers
+pub mod ClassesKept
+pub mod LeastFrom
+pub mod AwaitedOutcomes
+pub mod ClassSets
+pub mod Waking
+pub mod WorldLaws
+pub mod WorldSteps
+pub mod Written
+pub mod QueueNames
+pub mod WorldClasses
+pub mod WaitSteps

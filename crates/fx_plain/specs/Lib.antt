@@ -1,4 +1,11 @@
 pub mod WholeMachine
 pub mod Chosen
 pub mod Text
+pub mod Output
 pub mod NumberSet
+pub mod OnTheWay
+pub mod Classes
+pub mod ClassSets
+pub mod PlainCalls
+pub mod World
+pub mod WorldClasses

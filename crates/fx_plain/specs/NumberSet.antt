@@ -1,5 +1,5 @@
 -- A set of numbers as bits in two levels.
-use Rattle.std.specs.Prelude.{◌≡◌, ℕ, ◌/◌, ◌%◌, ◌<◌, Bool, true, false, ◌==◌, nat_lt, Option, MatchOption, List, slice_index}
+use Rattle.std.specs.Prelude.{◌≡◌, ℕ, ◌/◌, ◌%◌, ◌<◌, ◌≤◌, Bool, true, false, ◌==◌, nat_lt, Option, MatchOption, List, slice_index}
 use Rattle.std.specs.Int.{bit_at}
 use Rattle.fx_plain.specs.declared.number_set.TheConstants.{BITS, WORDS}
 
@@ -14,3 +14,8 @@ AreMarked marks words = (i : ℕ) → i < WORDS → (bit_at marks i == 1) ≡ na
 -- the least number that passes a test, if there is one
 abbrev pub IsLeastOf : (ℕ → Bool) → Option ℕ → Type 0
 IsLeastOf test least = MatchOption least ((n : ℕ) → test n ≡ false) (λ n. (test n ≡ true) × ((k : ℕ) → k < n → test k ≡ false))
+
+-- the least number from this one on that passes it, if there is one
+abbrev pub IsLeastFrom : ℕ → (ℕ → Bool) → Option ℕ → Type 0
+IsLeastFrom from test least =
+    MatchOption least ((n : ℕ) → from ≤ n → test n ≡ false) (λ n. (from ≤ n) × (test n ≡ true) × ((k : ℕ) → from ≤ k → k < n → test k ≡ false))

@@ -1,11 +1,13 @@
 -- The printed report and the printed traces, as bytes. Every line ends with LF, and numbers are decimal.
-use Rattle.std.specs.Prelude.{◌≡◌, ℕ, ◌-◌, ◌<◌, Bool, true, false, List, [], ◌∷◌, ◌++◌, codes, decimal, drop, length, slice_index_or, All}
+use Rattle.std.specs.Prelude.{◌≡◌, ℕ, ◌-◌, ◌<◌, Bool, true, false, Option, Some, None, List, [], ◌∷◌, ◌++◌, codes, decimal, drop, length, map, string_bytes, slice_index_or, All}
 use Rattle.std.specs.List.{flat_map, list_any}
 use Rattle.fx_term.specs.declared.outcome.Outcome.{Outcome}
 use Rattle.fx_term.specs.declared.outcome.Outcome.TheVariants.{Succeeded, Errored, Canceled}
 use Rattle.fx_term.specs.declared.event.Event.{Event}
 use Rattle.fx_term.specs.declared.event.Event.TheVariants as event
 use Rattle.fx_term.specs.declared.item.Item.{Item}
+use Rattle.fx_text.specs.declared.script.QueueDecl.{QueueDecl}
+use Rattle.fx_text.specs.Meaning.{Meaning}
 use Rattle.fx_fiber.specs.Report.{FiberReportView, ReportView}
 
 abbrev pub line_end : List ℕ
@@ -19,6 +21,13 @@ abbrev pub outcome_text : Outcome → List ℕ
 outcome_text (Succeeded n) = codes "succeeded" ++ number n
 outcome_text (Errored n) = codes "errored" ++ number n
 outcome_text Canceled = codes "canceled"
+
+-- the names of these queues; and those of the queues of a script, in its order
+abbrev pub names_of : List QueueDecl → List (List ℕ)
+names_of queues = map (λ (q : QueueDecl). string_bytes q.name) queues
+
+abbrev pub queue_names : Meaning → List (List ℕ)
+queue_names m = map (λ (q : List ℕ × ℕ). q.0) m.queues
 
 -- a space and the name of a queue, of these names
 abbrev pub queue_name : List (List ℕ) → ℕ → List ℕ
@@ -42,6 +51,19 @@ event_text names event.SelfRequest = codes "selfrequest"
 event_text names event.Cancelled = codes "cancelled"
 event_text names (event.Ended o) = codes "ended " ++ outcome_text o
 
+-- the line of an event of fiber f
+abbrev pub event_line : List (List ℕ) → ℕ → Event → List ℕ
+event_line names f e = decimal f ++ codes " " ++ event_text names e ++ line_end
+
+-- how a fiber halted: with its outcome, or waiting for good
+abbrev pub halt_text : Option Outcome → List ℕ
+halt_text (Some o) = outcome_text o
+halt_text None = codes "blocked"
+
+-- the line of fiber f, which halted so
+abbrev pub halt_line : ℕ → Option Outcome → List ℕ
+halt_line f o = codes "fiber" ++ number f ++ codes " " ++ halt_text o ++ line_end
+
 -- the text of what ends a trace: that of its outcome, where it is one
 abbrev pub end_text : List Event → List ℕ
 end_text (event.Ended o ∷ []) = outcome_text o
@@ -55,10 +77,13 @@ state_text true trace = end_text (drop (length trace - 1) trace)
 abbrev pub fiber_line : FiberReportView → List ℕ
 fiber_line x = codes "fiber" ++ number x.id ++ codes " " ++ state_text x.has_ended x.trace ++ line_end
 
--- a line a queue, in the order of the script, with the values from front to back
+-- the line of a queue of this name, with the values from front to back
+abbrev pub queue_line : List ℕ → List Item → List ℕ
+queue_line name items = codes "queue " ++ name ++ codes " left" ++ flat_map (λ (x : Item). number x.value) items ++ line_end
+
+-- a line a queue, in the order of the script
 abbrev pub queue_lines : List (List ℕ) → List (List Item) → List ℕ
-queue_lines (name ∷ names) (items ∷ left) =
-    codes "queue " ++ name ++ codes " left" ++ flat_map (λ (x : Item). number x.value) items ++ line_end ++ queue_lines names left
+queue_lines (name ∷ names) (items ∷ left) = queue_line name items ++ queue_lines names left
 queue_lines _ _ = []
 
 -- the text of a report, where the script's queues have these names
@@ -67,7 +92,7 @@ report_text names r = flat_map fiber_line r.fibers ++ queue_lines names r.left
 
 -- the lines of one fiber's trace
 abbrev pub trace_lines : List (List ℕ) → FiberReportView → List ℕ
-trace_lines names x = flat_map (λ (e : Event). decimal x.id ++ codes " " ++ event_text names e ++ line_end) x.trace
+trace_lines names x = flat_map (event_line names x.id) x.trace
 
 -- the text of the traces of a report
 abbrev pub trace_text : List (List ℕ) → ReportView → List ℕ

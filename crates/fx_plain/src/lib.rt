@@ -1,7 +1,7 @@
 //! All fibers of a script on one thread: what the whole machine does, which of its runs a schedule
-//! chooses, and what is reported and printed of it. So far these are definitions and laws, and the set
-//! of numbers by which the least fiber that can step is to be found; the code that makes such a run
-//! comes on top of them.
+//! chooses, and what is reported and printed of it. So far these are definitions and laws, the world that
+//! the fibers share, with their ports over it, and the writers of reports and traces; the code that makes
+//! such a run comes on top of them.
 //!
 //! The whole machine is
 //!
@@ -30,6 +30,17 @@
 //!    again, until none can.
 //! 4. Where both fibers of a `first` have ended, it learns of the left one.
 //!
+//! The world of these fibers keeps a class for each, so that none is asked in vain again and again:
+//!
+//! | what happens | whose class it changes |
+//! |---|---|
+//! | a fiber starts | its own: it is able |
+//! | a fiber answers that it waits | its own: it waits for that |
+//! | a fiber is requested | its own, if it waits: it is able, since it may see the request |
+//! | a fiber ends | its own: it is over; and those that waited for its end are able |
+//!
+//! Who is not able cannot step. Who is able may still wait: it is asked once, and then noted so.
+//!
 //! The report of that run has each fiber that started, ascending by number, with its parent, whether it
 //! has ended, and its trace; what is left in each queue; and which numbers were requested from outside.
 //!
@@ -39,5 +50,18 @@
 //! laws of reports, ranges, puts and waits of the crate of fibers.
 #![tactic(auto)]
 
+mod class;
+mod classes;
 pub mod laws;
+mod lines;
 mod number_set;
+mod out_fault;
+mod output;
+mod plain_port;
+mod plain_world;
+mod write;
+
+pub use lines::push_fiber_line;
+pub use out_fault::OutFault;
+pub use output::write_text;
+pub use write::{write_report, write_trace};

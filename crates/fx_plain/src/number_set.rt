@@ -1,6 +1,6 @@
 //! A set of numbers whose least is found in two steps.
 ghost use Rattle.std.specs.Prelude.{◌≡◌, ℕ, ◌<◌, false};
-ghost use Rattle.fx_plain.specs.NumberSet.{is_member, IsLeastOf};
+ghost use Rattle.fx_plain.specs.NumberSet.{is_member, IsLeastOf, IsLeastFrom};
 ghost use Rattle.fx_plain.specs.WholeMachine.{with_at};
 
 use std::marker::Model;
@@ -89,6 +89,26 @@ impl NumberSet {
         let word = self.words[place as usize];
         Some(BITS * place + word.trailing_zeros())
     }
+
+    /// The least number of the set from this one on.
+    pub fn least_from(&self, from: u32) -> Option<u32>
+        ensures { IsLeastFrom from (is_member self.now) result }
+    {
+        let place = from / BITS;
+        let Some(word) = self.words.get(place as usize) else {
+            return None;
+        };
+        let rest = *word >> (from % BITS);
+        if rest != 0 {
+            return Some(from + rest.trailing_zeros());
+        }
+        let later = (self.marks >> place) >> 1;
+        if later == 0 {
+            return None;
+        }
+        let next = place + 1 + later.trailing_zeros();
+        Some(BITS * next + self.words[next as usize].trailing_zeros())
+    }
 }
 
 #[cfg(test)]
@@ -121,6 +141,23 @@ mod tests {
         assert_eq!(rt; set.contains(65), true);
         assert_eq!(rt; set.contains(1), false);
         assert_eq!(rt; set.contains(4094), false);
+        Ok(())
+    }
+
+    #[test]
+    fn the_least_from_a_number_on_is_that_one_or_a_later_one(rt: HostRuntime) -> Result<(), Fail> {
+        let mut set = NumberSet::new();
+        set.insert(3);
+        set.insert(63);
+        set.insert(4095);
+        assert_eq!(rt; set.least_from(0), Some(3));
+        assert_eq!(rt; set.least_from(3), Some(3));
+        assert_eq!(rt; set.least_from(4), Some(63));
+        assert_eq!(rt; set.least_from(64), Some(4095));
+        assert_eq!(rt; set.least_from(4095), Some(4095));
+        assert_eq!(rt; set.least_from(4096), None);
+        set.remove(4095);
+        assert_eq!(rt; set.least_from(64), None);
         Ok(())
     }
 

@@ -1,5 +1,5 @@
 -- A list of nodes that has a fault is no code, and one whose tests all pass is a code.
-use Rattle.std.proofs.Common.{◌≡◌, ◌⊎◌, suc, ◌^◌, ◌<◌, List, ◌∷◌, ◌++◌, length, subst, inl, inr, arith}
+use Rattle.std.proofs.Common.{◌≡◌, ◌⊎◌, ℕ, suc, ◌^◌, ◌<◌, List, ◌∷◌, ◌++◌, length, subst, inl, inr, arith}
 use Rattle.std.specs.Prelude.{All}
 use Rattle.std.proofs.lemmas.List.{nil_from_length}
 use Rattle.fx_term.specs.declared.node.Node.{Node}
@@ -13,30 +13,32 @@ use Rattle.fx_term.proofs.AllParts.{all_middle}
 use Rattle.fx_term.proofs.SpotLaws.{root_right, root_placed}
 use Rattle.fx_term.proofs.TreeLaws.{forest_take}
 
-placed_there : (nodes : List Node) (before after : List Spot) (s : Spot) → IsCode nodes → spots nodes ≡ before ++ s ∷ after → IsWellPlaced nodes s
+placed_there : {queues : ℕ} (nodes : List Node) (before after : List Spot) (s : Spot) → IsCode queues nodes → spots nodes ≡ before ++ s ∷ after
+    → IsWellPlaced nodes s
 placed_there nodes before after s code split =
-    all_middle (IsWellPlaced nodes) before s after (subst (All (IsWellPlaced nodes)) split (root_placed nodes code.tree.forest.before code.scope code.turns))
+    all_middle (IsWellPlaced nodes) before s after
+    (subst (All (IsWellPlaced nodes)) split (root_placed nodes code.tree.forest.before code.scope code.turns code.needs))
 
 -- a code has no fault
-pub no_fault_of_code : (nodes : List Node) (fault : CodeFault) → IsFault nodes fault → IsCode nodes → ⊥
-no_fault_of_code nodes fault (no_node empty) code = code.tree.some_node (nil_from_length nodes empty)
-no_fault_of_code nodes fault (too_many many) code = let fits = code.fits in absurd (omega arith)
-no_fault_of_code nodes fault (stray {id} fits within front at) code = at (forest_take (suc id) nodes code.tree.forest)
-no_fault_of_code nodes fault (orphan {id} fits forest within before at) code = at (code.tree.each id within)
-no_fault_of_code nodes fault (slot before after s fits tree split placed at) code =
+pub no_fault_of_code : (queues : ℕ) (nodes : List Node) (fault : CodeFault) → IsFault nodes fault → IsCode queues nodes → ⊥
+no_fault_of_code queues nodes fault (no_node empty) code = code.tree.some_node (nil_from_length nodes empty)
+no_fault_of_code queues nodes fault (too_many many) code = let fits = code.fits in absurd (omega arith)
+no_fault_of_code queues nodes fault (stray {id} fits within front at) code = at (forest_take (suc id) nodes code.tree.forest)
+no_fault_of_code queues nodes fault (orphan {id} fits forest within before at) code = at (code.tree.each id within)
+no_fault_of_code queues nodes fault (slot before after s fits tree split placed at) code =
     at (placed_there nodes before after s code split).slots
-no_fault_of_code nodes fault (kind before after s fits tree split placed right at) code =
+no_fault_of_code queues nodes fault (kind before after s fits tree split placed right at) code =
     at (placed_there nodes before after s code split).kinds
-no_fault_of_code nodes fault (limit before after s fits tree split placed right of_kind at) code =
-    at (placed_there nodes before after s code split).turns
+no_fault_of_code queues nodes fault (limit before after s fits tree split placed right of_kind at) code =
+    at (placed_there nodes before after s code split).limits
 
 -- of a code no fault is answered but want of memory
-pub only_memory : (nodes : List Node) (fault : CodeFault) → (fault ≡ Memory) ⊎ IsFault nodes fault → IsCode nodes → fault ≡ Memory
-only_memory nodes fault (inl memory) code = memory
-only_memory nodes fault (inr found) code = absurd (no_fault_of_code nodes fault found code)
+pub only_memory : (queues : ℕ) (nodes : List Node) (fault : CodeFault) → (fault ≡ Memory) ⊎ IsFault nodes fault → IsCode queues nodes → fault ≡ Memory
+only_memory queues nodes fault (inl memory) code = memory
+only_memory queues nodes fault (inr found) code = absurd (no_fault_of_code queues nodes fault found code)
 
 -- what the tests find makes a code
-pub code_of_tests : (nodes : List Node) → length nodes < 2 ^ 32 → IsOneTree nodes → All (IsWellPlaced nodes) (spots nodes) → IsCode nodes
-code_of_tests nodes fits tree placed =
+pub code_of_tests : (nodes : List Node) → length nodes < 2 ^ 32 → IsOneTree nodes → All (IsWellPlaced nodes) (spots nodes) → (queues : ℕ) → IsCode queues nodes
+code_of_tests nodes fits tree placed queues =
     let root = root_right nodes tree.forest.before placed in
-    record { fits = fits; tree = tree; scope = root.scope; turns = root.turns }
+    record { fits = fits; tree = tree; scope = root.scope; turns = root.turns; needs = root.needs }

@@ -55,5 +55,5 @@ levels_core bound (InRelease k a v) h = absurd h
 levels_core bound (Await f) h = absurd h
 levels_core bound _ h = tt
 
-pub code_is_core : (nodes : List Node) → IsCode nodes → IsCore (root_term nodes)
+pub code_is_core : {queues : ℕ} (nodes : List Node) → IsCode queues nodes → IsCore (root_term nodes)
 code_is_core nodes code = levels_core 0 (root_term nodes) code.scope.levels

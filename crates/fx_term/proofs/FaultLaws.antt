@@ -8,8 +8,10 @@ use Rattle.fx_term.specs.declared.node.Node.{Node}
 use Rattle.fx_term.specs.declared.code.CodeFault.{CodeFault}
 use Rattle.fx_term.specs.declared.code.CodeFault.TheVariants.{Child, Slot, Kind, Limit}
 use Rattle.fx_term.specs.Tree.{all_children, IsForest, IsOneTree}
+use Rattle.fx_term.specs.Need.{need}
+use Rattle.fx_term.specs.Meaning.{term_of}
 use Rattle.fx_term.specs.Walk.{Spot, spots}
-use Rattle.fx_term.specs.WellPlaced.{HasRightSlots, HasRightKinds, HasRightTurns, IsWellPlaced}
+use Rattle.fx_term.specs.WellPlaced.{HasRightSlots, HasRightKinds, IsWithinLimits, IsWellPlaced}
 use Rattle.fx_term.specs.Code.{IsFault, node_id, no_node, too_many, stray, orphan, slot, kind, limit}
 use Rattle.fx_term.proofs.AllParts.{all_middle}
 use Rattle.fx_term.proofs.TreeLaws.{length_positive, forest_take}
@@ -55,26 +57,27 @@ Passes nodes OfPlaces = All (IsWellPlaced nodes) (spots nodes)
 
 -- the tests at one spot
 data IsSpotFault (nodes : List Node) (s : Spot) : CodeFault → Type 0 where
-  of_slots : (HasRightSlots s.kinds (slice_get nodes s.id) → ⊥) → IsSpotFault nodes s (Slot (node_id s.id))
-  of_kinds : HasRightSlots s.kinds (slice_get nodes s.id) → (HasRightKinds s.kinds (slice_get nodes s.id) → ⊥) → IsSpotFault nodes s (Kind (node_id s.id))
-  of_turns : HasRightSlots s.kinds (slice_get nodes s.id) → HasRightKinds s.kinds (slice_get nodes s.id) → (HasRightTurns s.turns (slice_get nodes s.id) → ⊥)
-      → IsSpotFault nodes s (Limit (node_id s.id))
+  of_slots : (HasRightSlots (length s.kinds) (slice_get nodes s.id) → ⊥) → IsSpotFault nodes s (Slot (node_id s.id))
+  of_kinds : HasRightSlots (length s.kinds) (slice_get nodes s.id)
+      → (HasRightKinds s.kinds (slice_get nodes s.id) → ⊥) → IsSpotFault nodes s (Kind (node_id s.id))
+  of_limits : HasRightSlots (length s.kinds) (slice_get nodes s.id) → HasRightKinds s.kinds (slice_get nodes s.id)
+      → (IsWithinLimits s.turns (need (term_of nodes s.id)) (slice_get nodes s.id) → ⊥) → IsSpotFault nodes s (Limit (node_id s.id))
 
 not_placed : (nodes : List Node) (s : Spot) (f : CodeFault) → IsSpotFault nodes s f → IsWellPlaced nodes s → ⊥
 not_placed nodes s f (of_slots at) placed = at placed.slots
 not_placed nodes s f (of_kinds right at) placed = at placed.kinds
-not_placed nodes s f (of_turns right of_kind at) placed = at placed.turns
+not_placed nodes s f (of_limits right of_kind at) placed = at placed.limits
 
 one_at_spot : (nodes : List Node) (s : Spot) (f g : CodeFault) → IsSpotFault nodes s f → IsSpotFault nodes s g → f ≡ g
 one_at_spot nodes s f g (of_slots at) (of_slots also) = refl
 one_at_spot nodes s f g (of_slots at) (of_kinds right also) = absurd (at right)
-one_at_spot nodes s f g (of_slots at) (of_turns right of_kind also) = absurd (at right)
+one_at_spot nodes s f g (of_slots at) (of_limits right of_kind also) = absurd (at right)
 one_at_spot nodes s f g (of_kinds right at) (of_slots also) = absurd (also right)
 one_at_spot nodes s f g (of_kinds right at) (of_kinds right2 also) = refl
-one_at_spot nodes s f g (of_kinds right at) (of_turns right2 of_kind also) = absurd (at of_kind)
-one_at_spot nodes s f g (of_turns right of_kind at) (of_slots also) = absurd (also right)
-one_at_spot nodes s f g (of_turns right of_kind at) (of_kinds right2 also) = absurd (also of_kind)
-one_at_spot nodes s f g (of_turns right of_kind at) (of_turns right2 of_kind2 also) = refl
+one_at_spot nodes s f g (of_kinds right at) (of_limits right2 of_kind also) = absurd (at of_kind)
+one_at_spot nodes s f g (of_limits right of_kind at) (of_slots also) = absurd (also right)
+one_at_spot nodes s f g (of_limits right of_kind at) (of_kinds right2 also) = absurd (also of_kind)
+one_at_spot nodes s f g (of_limits right of_kind at) (of_limits right2 of_kind2 also) = refl
 
 -- what a test answers where it is the first that fails
 data Answers (nodes : List Node) : Test → CodeFault → Type 0 where
@@ -162,7 +165,7 @@ module _ (nodes : List Node) where
   }
   answered f (slot before after s fits tree split placed at) = spot_answered before after s f fits tree split placed (of_slots at)
   answered f (kind before after s fits tree split placed right at) = spot_answered before after s f fits tree split placed (of_kinds right at)
-  answered f (limit before after s fits tree split placed right of_kind at) = spot_answered before after s f fits tree split placed (of_turns right of_kind at)
+  answered f (limit before after s fits tree split placed right of_kind at) = spot_answered before after s f fits tree split placed (of_limits right of_kind at)
 
 -- a list of nodes has one fault at most
 pub one_fault : (nodes : List Node) (f g : CodeFault) → IsFault nodes f → IsFault nodes g → f ≡ g

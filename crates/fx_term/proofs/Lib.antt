@@ -6,14 +6,15 @@ pub mod DistinctNumbers
 pub mod FaultLaws
 pub mod FillLaws
 pub mod NodeTerms
+pub mod NeedLaws
 pub mod PartLaws
 pub mod PendingLaws
 pub mod ScopeLaws
+pub mod SeenLaws
 pub mod RegisterLaws
 pub mod SpotLaws
 pub mod SpotsToCome
 pub mod ChildrenLaws
-pub mod TermNeeds
 pub mod TermSizes
 pub mod TreeLaws
 pub mod SumBelow

@@ -1,5 +1,5 @@
 -- A node's term is in scope, and has few turns, exactly where the node is well placed and the terms of its parts are so where they stand.
-use Rattle.std.proofs.Common.{ℕ, Option, Some, None, List, length, arith}
+use Rattle.std.proofs.Common.{ℕ, ◌≤◌, Option, Some, None, List, length, get_or, sym, subst, arith}
 use Rattle.std.specs.Prelude.{All, slice_get}
 use Rattle.std.proofs.lemmas.List.Elements.{All-nil, All-from_recursion, recursion_from_All}
 use Rattle.std.proofs.lemmas.Option.{slice_get_past}
@@ -10,13 +10,15 @@ use Rattle.fx_term.specs.Signature.{uses, parts}
 use Rattle.fx_term.specs.Term.{Term}
 use Rattle.fx_term.specs.Scope.{IsBinderAt, IsNew, with_named, bound_under, HasLevels, IsScoped, IsInScope}
 use Rattle.fx_term.specs.Meaning.{assemble}
+use Rattle.fx_term.specs.Need.{need, most_need, NeedsFew}
 use Rattle.fx_term.specs.Turns.{HasFewTurns}
-use Rattle.fx_term.specs.Walk.{Spot, kinds_under, spot_of, spots_below}
-use Rattle.fx_term.specs.WellPlaced.{IsUseBelow, IsUseOf, HasRightSlots, HasRightKinds, HasRightTurns}
+use Rattle.fx_term.specs.Walk.{Spot, kinds_inside, kinds_under, spot_of, spots_below}
+use Rattle.fx_term.specs.WellPlaced.{IsUseBelow, IsUseOf, IsNextBinder, HasRightSlots, HasRightKinds, HasRightTurns}
 use Rattle.fx_term.proofs.AllParts.{all_map, all_from_map}
 use Rattle.fx_term.proofs.ScopeLaws.{levels_under, scoped_under, in_scope_under}
-use Rattle.fx_term.proofs.SignatureLaws.{HasPartLevels, node_levels, levels_of_node, IsPartScoped, node_scoped, scoped_of_node}
-use Rattle.fx_term.proofs.SignatureLaws.{HasPartFewTurns, node_turns, turns_of_node}
+use Rattle.fx_term.proofs.SeenLaws.{length_inside, scope_of_inside}
+use Rattle.fx_term.proofs.SignatureLaws.{scope_inside, HasPartLevels, node_levels, levels_of_node, IsPartScoped, node_scoped, scoped_of_node}
+use Rattle.fx_term.proofs.SignatureLaws.{HasPartFewTurns, node_turns, turns_of_node, NeedsFewInside, node_needs_few, few_of_node}
 
 -- what is in scope under a binder that may have no name
 named_levels : (x : Option ℕ) (k : NameKind) (kinds : List NameKind) (t : Term) → IsBinderAt (length kinds) x → IsInScope (kinds_under x k kinds) t
@@ -34,6 +36,33 @@ named_in_scope : (x : Option ℕ) (k : NameKind) (kinds : List NameKind) (t : Te
 named_in_scope None k kinds t next levels scoped = record { levels = levels; scoped = scoped }
 named_in_scope (Some x) k kinds t next levels scoped = in_scope_under kinds k x next t levels scoped
 
+-- what is in scope in a part
+module _ (kinds : List NameKind) (p : Part) (t : Term) (next : IsNextBinder (length kinds) p) where
+  abbrev inside : List NameKind
+  inside = kinds_inside p.elsewhere kinds
+
+  abbrev scope_there : ℕ → Option NameKind
+  scope_there = scope_inside p.elsewhere (λ y. slice_get kinds y)
+
+  next_inside : IsBinderAt (length inside) p.binder
+  next_inside = subst (λ n. IsBinderAt n p.binder) (sym (length_inside p.elsewhere kinds)) next
+
+  part_levels : IsInScope (kinds_under p.binder p.kind inside) t → HasLevels (bound_under (length kinds) p.binder) t
+  part_levels h =
+      subst (λ n. HasLevels (bound_under n p.binder) t) (length_inside p.elsewhere kinds) (named_levels p.binder p.kind inside t next_inside h)
+
+  part_scoped : IsInScope (kinds_under p.binder p.kind inside) t → IsNew scope_there p.binder × IsScoped (with_named p.binder p.kind scope_there) t
+  part_scoped h =
+      subst (λ (s : ℕ → Option NameKind). IsNew s p.binder × IsScoped (with_named p.binder p.kind s) t) (scope_of_inside p.elsewhere kinds)
+      (named_scoped p.binder p.kind inside t next_inside h)
+
+  part_in_scope : HasLevels (bound_under (length kinds) p.binder) t → IsScoped (with_named p.binder p.kind scope_there) t
+      → IsInScope (kinds_under p.binder p.kind inside) t
+  part_in_scope levels scoped =
+      named_in_scope p.binder p.kind inside t next_inside
+      (subst (λ n. HasLevels (bound_under n p.binder) t) (sym (length_inside p.elsewhere kinds)) levels)
+      (subst (λ (s : ℕ → Option NameKind). IsScoped (with_named p.binder p.kind s) t) (sym (scope_of_inside p.elsewhere kinds)) scoped)
+
 -- the part's term is in scope where it stands
 abbrev pub IsPartInScope : (ℕ → Term) → Spot → Type 0
 IsPartInScope term part = IsInScope part.kinds (term part.id)
@@ -41,6 +70,10 @@ IsPartInScope term part = IsInScope part.kinds (term part.id)
 -- the part's term has few turns where the part is run as often as it is
 abbrev pub HasSpotFewTurns : (ℕ → Term) → Spot → Type 0
 HasSpotFewTurns term part = HasFewTurns part.turns (term part.id)
+
+-- the part's term can use few fiber numbers
+abbrev pub NeedsFewThere : (ℕ → Term) → Spot → Type 0
+NeedsFewThere term part = NeedsFew (term part.id)
 
 module _ (kinds : List NameKind) (turns : ℕ) (term : ℕ → Term) where
   abbrev scope : ℕ → Option NameKind
@@ -53,13 +86,14 @@ module _ (kinds : List NameKind) (turns : ℕ) (term : ℕ → Term) where
   IsScopedThere = IsPartScoped term scope
 
   -- a node's term is in scope where its slots and kinds are right and the terms of its parts are in scope
-  pub in_scope_node : (o : Option Node) → HasRightSlots kinds o → HasRightKinds kinds o → All (IsPartInScope term) (spots_below o kinds turns)
+  pub in_scope_node : (o : Option Node) → HasRightSlots (length kinds) o → HasRightKinds kinds o → All (IsPartInScope term) (spots_below o kinds turns)
       → IsInScope kinds (assemble o term)
   in_scope_node None right of_kind h = record { levels = tt; scoped = tt }
   in_scope_node (Some n) right of_kind h =
       let below = all_from_map (IsPartInScope term) (spot_of kinds turns) (parts n) h in
-      let levels : All HasLevelsThere (parts n) = λ i d lt. (right.binders i d lt, named_levels _ _ kinds _ (right.binders i d lt) (below i d lt)) in
-      let scoped : All IsScopedThere (parts n) = λ i d lt. named_scoped _ _ kinds _ (right.binders i d lt) (below i d lt) in
+      let levels : All HasLevelsThere (parts n) =
+      λ i d lt. (right.binders i d lt, part_levels kinds (get_or (parts n) i d) _ (right.binders i d lt) (below i d lt)) in
+      let scoped : All IsScopedThere (parts n) = λ i d lt. part_scoped kinds (get_or (parts n) i d) _ (right.binders i d lt) (below i d lt) in
       record {
         levels = node_levels term (length kinds) n (recursion_from_All (IsUseBelow (length kinds)) (uses n) right.uses)
             (recursion_from_All HasLevelsThere (parts n) levels);
@@ -68,7 +102,7 @@ module _ (kinds : List NameKind) (turns : ℕ) (term : ℕ → Term) where
       }
 
   -- where a node's term is in scope, the node's slots are right
-  pub right_slots : (o : Option Node) → IsInScope kinds (assemble o term) → HasRightSlots kinds o
+  pub right_slots : (o : Option Node) → IsInScope kinds (assemble o term) → HasRightSlots (length kinds) o
   right_slots None h = record { uses = All-nil _; binders = All-nil _ }
   right_slots (Some n) h =
       let each = levels_of_node term (length kinds) n h.levels in
@@ -89,7 +123,7 @@ module _ (kinds : List NameKind) (turns : ℕ) (term : ℕ → Term) where
       let levels = All-from_recursion HasLevelsThere (parts n) (levels_of_node term (length kinds) n h.levels).1 in
       let scoped = All-from_recursion IsScopedThere (parts n) (scoped_of_node term scope n h.scoped).1 in
       all_map (IsPartInScope term) (spot_of kinds turns) (parts n)
-      (λ i d lt. named_in_scope _ _ kinds _ (levels i d lt).0 (levels i d lt).1 (scoped i d lt).1)
+      (λ i d lt. part_in_scope kinds (get_or (parts n) i d) _ (levels i d lt).0 (levels i d lt).1 (scoped i d lt).1)
 
   -- a node's term has few turns where its counts are right and the terms of its parts have few
   pub few_turns_node : (o : Option Node) → HasRightTurns turns o → All (HasSpotFewTurns term) (spots_below o kinds turns) → HasFewTurns turns (assemble o term)
@@ -107,3 +141,16 @@ module _ (kinds : List NameKind) (turns : ℕ) (term : ℕ → Term) where
   turns_of_parts (Some n) h =
       let each = All-from_recursion (HasPartFewTurns term turns) (parts n) (turns_of_node term turns n h) in
       all_map (HasSpotFewTurns term) (spot_of kinds turns) (parts n) (λ i d lt. (each i d lt).1)
+
+  -- a node's term can use few fiber numbers where itself and those of its parts can
+  pub needs_few_node : (o : Option Node) → need (assemble o term) ≤ most_need → All (NeedsFewThere term) (spots_below o kinds turns)
+      → NeedsFew (assemble o term)
+  needs_few_node None few h = tt
+  needs_few_node (Some n) few h =
+      let below = all_from_map (NeedsFewThere term) (spot_of kinds turns) (parts n) h in
+      node_needs_few term n few (recursion_from_All (NeedsFewInside term) (parts n) below)
+
+  pub needs_of_parts : (o : Option Node) → NeedsFew (assemble o term) → All (NeedsFewThere term) (spots_below o kinds turns)
+  needs_of_parts None h = All-nil (NeedsFewThere term)
+  needs_of_parts (Some n) h =
+      all_map (NeedsFewThere term) (spot_of kinds turns) (parts n) (All-from_recursion (NeedsFewInside term) (parts n) (few_of_node term n h))

@@ -1,5 +1,5 @@
 -- What the term of a node is, said by the node's signature: one law for each property. Of the laws on trees and walks these alone look at the forms.
-use Rattle.std.proofs.Common.{◌≡◌, ℕ, ◌*◌, Option, Some, refl, ap, arith}
+use Rattle.std.proofs.Common.{◌≡◌, ℕ, ◌≤◌, Bool, true, false, Option, Some, refl, arith}
 use Rattle.std.specs.List.{AllByRecursion}
 use Rattle.fx_term.specs.declared.name_kind.NameKind.{NameKind}
 use Rattle.fx_term.specs.declared.node.Node.{Node}
@@ -7,11 +7,17 @@ use Rattle.fx_term.specs.declared.node.Node.TheVariants as node
 use Rattle.fx_term.specs.declared.code.signature.Part.{Part}
 use Rattle.fx_term.specs.Signature.{uses, parts}
 use Rattle.fx_term.specs.Term.{Term}
-use Rattle.fx_term.specs.Scope.{IsNew, bound_under, with_named, HasLevels, IsScoped}
+use Rattle.fx_term.specs.Scope.{IsNew, bound_under, with_named, elsewhere, HasLevels, IsScoped}
 use Rattle.fx_term.specs.Turns.{turns_inside, HasFewTurns}
 use Rattle.fx_term.specs.WellPlaced.{IsUseBelow, IsUseOf, IsNextBinder, HasFewTurnsInside}
-use Rattle.fx_term.specs.Need.{need}
+use Rattle.fx_term.specs.Need.{need, most_need, NeedsFew}
+use Rattle.fx_term.specs.NodeNeed.{need_of_node}
 use Rattle.fx_term.specs.Meaning.{assemble}
+
+-- the scope in a part that runs in another fiber, or in the same one
+abbrev pub scope_inside : Bool → (ℕ → Option NameKind) → ℕ → Option NameKind
+scope_inside true scope = elsewhere scope
+scope_inside false scope = scope
 
 module _ (term : ℕ → Term) where
   -- each binder has the number of binders in whose scope it stands, and each name is below the bound
@@ -32,7 +38,8 @@ module _ (term : ℕ → Term) where
   -- each name is in scope and of its kind, and no binder binds a name that is in scope
   module _ (scope : ℕ → Option NameKind) where
     abbrev pub IsPartScoped : Part → Type 0
-    IsPartScoped p = IsNew scope p.binder × IsScoped (with_named p.binder p.kind scope) (term p.node.0)
+    IsPartScoped p =
+        IsNew (scope_inside p.elsewhere scope) p.binder × IsScoped (with_named p.binder p.kind (scope_inside p.elsewhere scope)) (term p.node.0)
 
     pub node_scoped : (n : Node) → AllByRecursion (IsUseOf scope) (uses n) → AllByRecursion IsPartScoped (parts n)
         → IsScoped scope (assemble (Some n) term)
@@ -57,12 +64,24 @@ module _ (term : ℕ → Term) where
     turns_of_node node.Canceled h = tt
     turns_of_node _ h = assumption
 
+  -- each part can use few fiber numbers
+  abbrev pub NeedsFewInside : Part → Type 0
+  NeedsFewInside p = NeedsFew (term p.node.0)
+
+  pub node_needs_few : (n : Node) → need (assemble (Some n) term) ≤ most_need → AllByRecursion NeedsFewInside (parts n) → NeedsFew (assemble (Some n) term)
+  node_needs_few node.Canceled few ps = tt
+  node_needs_few _ few ps = assumption
+
+  pub few_of_node : (n : Node) → NeedsFew (assemble (Some n) term) → AllByRecursion NeedsFewInside (parts n)
+  few_of_node node.Canceled h = tt
+  few_of_node _ h = assumption
+
+  -- how many it can use itself
+  pub need_is : (n : Node) → need (assemble (Some n) term) ≡ need_of_node (λ id. need (term id)) n
+  need_is (node.Pure a) = refl
+  need_is _ = omega arith
+
 -- a node's term depends on the terms of its parts alone
 pub node_same : (n : Node) (f g : ℕ → Term) → AllByRecursion (λ (p : Part). f p.node.0 ≡ g p.node.0) (parts n) → assemble (Some n) f ≡ assemble (Some n) g
 node_same node.Canceled f g h = refl
 node_same _ f g h = cc
-
--- no node uses a fiber number of its own
-pub node_needs_none : (n : Node) (term : ℕ → Term) → AllByRecursion (λ (p : Part). need (term p.node.0) ≡ 0) (parts n) → need (assemble (Some n) term) ≡ 0
-node_needs_none (node.For i c a) term h = omega (arith, ap (λ k. c * k) h.0)
-node_needs_none _ term h = omega arith

@@ -1,20 +1,24 @@
 -- The walk through a tree: how its spots come node by node, and that the root's term is right exactly where all are well placed.
-use Rattle.std.proofs.Common.{◌≡◌, ℕ, zero, suc, ◌-◌, ◌<◌, Option, Some, None, List, [], ◌∷◌, length, get_or, refl, sym, ap, subst, arith}
+use Rattle.std.proofs.Common.{◌≡◌, ℕ, zero, suc, ◌-◌, ◌<◌, ◌≤◌, Option, Some, None, List, [], ◌∷◌, length, get_or, refl, sym, ap, subst, arith}
 use Rattle.std.specs.Prelude.{All, slice_get}
 use Rattle.std.specs.List.{flat_map}
 use Rattle.std.proofs.lemmas.List.Elements.{All-nil, All-cons, All-head, All-tail, All-weaker}
 use Rattle.fx_term.specs.declared.node.Node.{Node}
 use Rattle.fx_term.specs.Scope.{IsInScope}
+use Rattle.fx_term.specs.Term.{Term}
 use Rattle.fx_term.specs.Meaning.{assemble, read, term_of, root_term}
 use Rattle.fx_term.specs.Tree.{ChildrenComeFirst}
 use Rattle.fx_term.specs.Turns.{HasFewTurns}
+use Rattle.fx_term.specs.Need.{need, most_need, NeedsFew}
 use Rattle.fx_term.specs.Signature.{parts}
 use Rattle.fx_term.specs.declared.code.signature.Part.{Part}
 use Rattle.fx_term.specs.Walk.{Spot, spot_of, spots_below, walk, spots_from, spots}
 use Rattle.fx_term.specs.WellPlaced.{IsWellPlaced}
 use Rattle.fx_term.proofs.AllParts.{all_map, all_from_map, all_flat_map, all_from_flat_map, flat_map_same}
+use Rattle.fx_term.proofs.NeedLaws.{few_need}
 use Rattle.fx_term.proofs.NodeTerms.{term_of_node}
 use Rattle.fx_term.proofs.PartLaws.{in_scope_node, right_slots, right_kinds, scope_of_parts, few_turns_node, right_turns, turns_of_parts}
+use Rattle.fx_term.proofs.PartLaws.{needs_few_node, needs_of_parts}
 
 -- the parts of the node at a spot
 abbrev pub parts_at : List Node → Spot → List Spot
@@ -60,6 +64,7 @@ module _ (nodes : List Node) (tree : ChildrenComeFirst nodes) where
 pub record IsTermRight (nodes : List Node) (s : Spot) : Type 0 where
   pub scope : IsInScope s.kinds (term_of nodes s.id)
   pub turns : HasFewTurns s.turns (term_of nodes s.id)
+  pub needs : NeedsFew (term_of nodes s.id)
 
 module _ (nodes : List Node) (tree : ChildrenComeFirst nodes) where
   -- where a node is well placed and the terms of its parts are right, its term is
@@ -68,7 +73,9 @@ module _ (nodes : List Node) (tree : ChildrenComeFirst nodes) where
     scope = subst (IsInScope s.kinds) (sym (term_at nodes tree s.id))
         (in_scope_node s.kinds s.turns (term_of nodes) (slice_get nodes s.id) placed.slots placed.kinds (λ i d h. (below i d h).scope));
     turns = subst (HasFewTurns s.turns) (sym (term_at nodes tree s.id))
-        (few_turns_node s.kinds s.turns (term_of nodes) (slice_get nodes s.id) placed.turns (λ i d h. (below i d h).turns));
+        (few_turns_node s.kinds s.turns (term_of nodes) (slice_get nodes s.id) placed.limits.turns (λ i d h. (below i d h).turns));
+    needs = subst NeedsFew (sym (term_at nodes tree s.id)) (needs_few_node s.kinds s.turns (term_of nodes) (slice_get nodes s.id)
+        (subst (λ (t : Term). need t ≤ most_need) (term_at nodes tree s.id) placed.limits.need) (λ i d h. (below i d h).needs));
   }
 
   -- the term as that of its node
@@ -83,7 +90,10 @@ module _ (nodes : List Node) (tree : ChildrenComeFirst nodes) where
   right_here s right = record {
     slots = right_slots s.kinds s.turns (term_of nodes) (slice_get nodes s.id) (scope_of_node s right);
     kinds = right_kinds s.kinds s.turns (term_of nodes) (slice_get nodes s.id) (scope_of_node s right);
-    turns = right_turns s.kinds s.turns (term_of nodes) (slice_get nodes s.id) (turns_of_node s right);
+    limits = record {
+      turns = right_turns s.kinds s.turns (term_of nodes) (slice_get nodes s.id) (turns_of_node s right);
+      need = few_need (term_of nodes s.id) right.needs;
+    };
   }
 
   -- and the terms of its parts are right
@@ -91,6 +101,7 @@ module _ (nodes : List Node) (tree : ChildrenComeFirst nodes) where
   right_down s right i d h = record {
     scope = scope_of_parts s.kinds s.turns (term_of nodes) (slice_get nodes s.id) (scope_of_node s right) i d h;
     turns = turns_of_parts s.kinds s.turns (term_of nodes) (slice_get nodes s.id) (turns_of_node s right) i d h;
+    needs = needs_of_parts s.kinds s.turns (term_of nodes) (slice_get nodes s.id) (subst NeedsFew (term_at nodes tree s.id) right.needs) i d h;
   }
 
   -- where all is well placed, the term is right
@@ -121,5 +132,5 @@ module _ (nodes : List Node) (tree : ChildrenComeFirst nodes) where
   pub root_right : All (IsWellPlaced nodes) (spots nodes) → IsTermRight nodes root
   root_right placed = right_from (suc (length nodes - 1)) root (omega arith) placed
 
-  pub root_placed : IsInScope [] (root_term nodes) → HasFewTurns 1 (root_term nodes) → All (IsWellPlaced nodes) (spots nodes)
-  root_placed scope turns = placed_from (suc (length nodes - 1)) root (omega arith) (record { scope = scope; turns = turns })
+  pub root_placed : IsInScope [] (root_term nodes) → HasFewTurns 1 (root_term nodes) → NeedsFew (root_term nodes) → All (IsWellPlaced nodes) (spots nodes)
+  root_placed scope turns needs = placed_from (suc (length nodes - 1)) root (omega arith) (record { scope = scope; turns = turns; needs = needs })

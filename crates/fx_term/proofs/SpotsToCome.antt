@@ -1,7 +1,7 @@
 -- What a walk has looked at, and what is still to come.
-use Rattle.std.proofs.Common.{◌≡◌, ◌≢◌, ◌-◌, ◌^◌, ◌<◌, ◌≤◌, Option, None, Some, List, [], ◌∷◌, ◌++◌, length}
+use Rattle.std.proofs.Common.{◌≡◌, ◌≢◌, ℕ, ◌-◌, ◌^◌, ◌<◌, ◌≤◌, Option, None, Some, List, [], ◌∷◌, ◌++◌, length}
 use Rattle.std.proofs.Common.{get_or, map, reverse, refl, sym, ◌∙◌, ap, subst, arith, append_assoc}
-use Rattle.std.specs.Prelude.{All, slice_get}
+use Rattle.std.specs.Prelude.{All, slice_get, slice_index}
 use Rattle.std.specs.List.{flat_map}
 use Rattle.std.proofs.lemmas.List.{append-nil, map_push, reverse-append, reverse-reverse}
 use Rattle.std.proofs.lemmas.List.Concat.{flat_map-append}
@@ -13,11 +13,15 @@ use Rattle.fx_term.specs.declared.code.walk.Pending.{Pending}
 use Rattle.fx_term.specs.declared.code.CodeFault.TheVariants as fault
 use Rattle.fx_term.specs.Tree.{IsOneTree}
 use Rattle.fx_term.specs.Walk.{Spot, spots_below, spots_from, spots}
-use Rattle.fx_term.specs.WellPlaced.{HasRightSlots, HasRightKinds, HasRightTurns, IsWellPlaced}
-use Rattle.fx_term.specs.Pending.{path_to, spot_at, AreNested, ArePushed}
+use Rattle.fx_term.specs.WellPlaced.{HasRightSlots, HasRightKinds, IsWithinLimits, IsWellPlaced}
+use Rattle.fx_term.specs.Pending.{path_to, seen_past, spot_at, AreNested, ArePushed}
+use Rattle.fx_term.specs.Need.{need}
+use Rattle.fx_term.specs.NodeNeed.{AreNeeds}
+use Rattle.fx_term.specs.Meaning.{term_of}
 use Rattle.fx_term.specs.Code.{IsFault, slot, kind, limit}
 use Rattle.fx_term.proofs.AllParts.{all_front, all_middle, all_reverse}
 use Rattle.fx_term.proofs.PendingLaws.{path_reaches, nested_last, nested_more, spots_kept}
+use Rattle.fx_term.proofs.SeenLaws.{length_seen}
 use Rattle.fx_term.proofs.SpotLaws.{parts_before, spots_at}
 use Rattle.fx_term.proofs.TreeLaws.{length_positive}
 
@@ -39,7 +43,7 @@ pub record IsWalked (nodes : List Node) (path : List NameKind) (stack : List Pen
 
 -- where the walk begins
 unfoldable pub root_pending : List Node → Pending
-root_pending nodes = record { node = record { 0 = length nodes - 1 }; outer = 0; own = None; turns = 1 }
+root_pending nodes = record { node = record { 0 = length nodes - 1 }; outer = 0; foreign = 0; own = None; turns = 1 }
 
 come_pop : (nodes : List Node) (path : List NameKind) (rest : List Pending) (p : Pending)
     → spots_to_come nodes path (rest ++ p ∷ []) ≡ spots_from nodes (spot_at path p) ++ spots_to_come nodes path rest
@@ -80,7 +84,7 @@ walked_root nodes some =
       split = sym come;
       placed = All-nil (IsWellPlaced nodes);
       near = All-cons (IsNear nodes) (spot_at [] (root_pending nodes)) [] (omega arith) (All-nil (IsNear nodes));
-      nested = (omega arith, omega arith);
+      nested = (omega arith, omega arith, omega arith);
     }
 
 pub walked_none : (nodes : List Node) (path : List NameKind) (stack : List Pending) → nodes ≢ [] → path ≡ [] → stack ≡ [] ++ root_pending nodes ∷ []
@@ -109,7 +113,7 @@ module _ (nodes : List Node) (tree : IsOneTree nodes) (path : List NameKind) (st
   node_there : slice_get nodes p.node.0 ≡ Some (get_or nodes p.node.0 d)
   node_there = slice_get-get_or nodes p.node.0 d pending_near
 
-  nested_popped : AreNested 0 rest p.outer × p.outer ≤ length path
+  nested_popped : AreNested 0 rest p.outer × (p.foreign ≤ p.outer) × p.outer ≤ length path
   nested_popped = nested_last 0 rest p (length path) (subst (λ xs. AreNested 0 xs (length path)) popped walked.nested)
 
   -- its path is entered
@@ -118,13 +122,21 @@ module _ (nodes : List Node) (tree : IsOneTree nodes) (path : List NameKind) (st
     node_here = Some (get_or nodes p.node.0 d)
 
     abbrev parts_here : List Spot
-    parts_here = spots_below node_here here p.turns
+    parts_here = spots_below node_here (seen_past p.foreign here) p.turns
+
+    pub foreign_near : p.foreign ≤ length here
+    foreign_near =
+        let nested = nested_popped in
+        let reaches = path_reaches path p nested.2 in
+        subst (λ xs. p.foreign ≤ length xs) (sym entered) (omega arith)
 
     come_next : spots_to_come nodes path stack ≡ spot_at path p ∷ (flat_map (spots_from nodes) parts_here ++ spots_to_come nodes path rest)
     come_next = ap (spots_to_come nodes path) popped ∙ come_pop nodes path rest p
         ∙ ap (λ xs. xs ++ spots_to_come nodes path rest) (spots_at nodes tree.forest.before (spot_at path p))
-        ∙ ap (λ o. spot_at path p ∷ (flat_map (spots_from nodes) (spots_below o (path_to path p) p.turns) ++ spots_to_come nodes path rest)) node_there
-        ∙ ap (λ xs. spot_at path p ∷ (flat_map (spots_from nodes) (spots_below node_here xs p.turns) ++ spots_to_come nodes path rest)) (sym entered)
+        ∙ ap (λ o. spot_at path p ∷ (flat_map (spots_from nodes) (spots_below o (seen_past p.foreign (path_to path p)) p.turns)
+        ++ spots_to_come nodes path rest)) node_there
+        ∙ ap (λ xs. spot_at path p ∷ (flat_map (spots_from nodes) (spots_below node_here (seen_past p.foreign xs) p.turns)
+        ++ spots_to_come nodes path rest)) (sym entered)
 
     split_next : spots nodes ≡ walked.before ++ spot_at path p ∷ (flat_map (spots_from nodes) parts_here ++ spots_to_come nodes path rest)
     split_next = walked.split ∙ ap (λ xs. walked.before ++ xs) come_next
@@ -136,30 +148,58 @@ module _ (nodes : List Node) (tree : IsOneTree nodes) (path : List NameKind) (st
     right_here : (Right : List NameKind → Option Node → Type 0) → Right (path_to path p) (slice_get nodes p.node.0) → Right here node_here
     right_here Right h = subst (λ xs. Right xs node_here) (sym entered) (subst (λ o. Right (path_to path p) o) node_there h)
 
-    abbrev HasTurns : List NameKind → Option Node → Type 0
-    HasTurns kinds o = HasRightTurns p.turns o
+    abbrev HasSlots : List NameKind → Option Node → Type 0
+    HasSlots kinds o = HasRightSlots (length (seen_past p.foreign kinds)) o
 
-    pub wrong_slot : length nodes < 2 ^ 32 → (HasRightSlots here (Some (get_or nodes p.node.0 d)) → ⊥) → IsFault nodes (fault.Slot p.node)
+    abbrev HasKinds : List NameKind → Option Node → Type 0
+    HasKinds kinds o = HasRightKinds (seen_past p.foreign kinds) o
+
+    abbrev here_needs : ℕ
+    here_needs = need (term_of nodes p.node.0)
+
+    abbrev IsWithin : List NameKind → Option Node → Type 0
+    IsWithin kinds o = IsWithinLimits p.turns here_needs o
+
+    -- the limits are tested with the need that was made for the node
+    within_there : (needs : List ℕ) → AreNeeds nodes (length nodes) needs → IsWithinLimits p.turns (slice_index needs p.node.0) node_here
+        → IsWithin (path_to path p) (slice_get nodes p.node.0)
+    within_there needs are within =
+        let made = are.need p.node.0 pending_near in let few = within.need in right_there IsWithin (record { turns = within.turns; need = omega arith })
+
+    within_here : (needs : List ℕ) → AreNeeds nodes (length nodes) needs → IsWithin (path_to path p) (slice_get nodes p.node.0)
+        → IsWithinLimits p.turns (slice_index needs p.node.0) node_here
+    within_here needs are within =
+        let here = right_here IsWithin within in
+        let made = are.need p.node.0 pending_near in let few = here.need in record { turns = here.turns; need = omega arith }
+
+    slots_there : HasRightSlots (length here) node_here → HasSlots (path_to path p) (slice_get nodes p.node.0)
+    slots_there right = right_there HasSlots (subst (λ n. HasRightSlots n node_here) (sym (length_seen p.foreign here)) right)
+
+    pub wrong_slot : length nodes < 2 ^ 32 → (HasRightSlots (length here) (Some (get_or nodes p.node.0 d)) → ⊥) → IsFault nodes (fault.Slot p.node)
     wrong_slot fits wrong =
         slot walked.before (flat_map (spots_from nodes) parts_here ++ spots_to_come nodes path rest) (spot_at path p) fits tree split_next walked.placed
-        (λ right. wrong (right_here HasRightSlots right))
+        (λ right. wrong (subst (λ n. HasRightSlots n node_here) (length_seen p.foreign here) (right_here HasSlots right)))
 
-    pub wrong_kind : length nodes < 2 ^ 32 → HasRightSlots here (Some (get_or nodes p.node.0 d)) → (HasRightKinds here (Some (get_or nodes p.node.0 d)) → ⊥)
+    pub wrong_kind : length nodes < 2 ^ 32 → HasRightSlots (length here) (Some (get_or nodes p.node.0 d))
+        → (HasRightKinds (seen_past p.foreign here) (Some (get_or nodes p.node.0 d)) → ⊥)
         → IsFault nodes (fault.Kind p.node)
     wrong_kind fits right wrong =
         kind walked.before (flat_map (spots_from nodes) parts_here ++ spots_to_come nodes path rest) (spot_at path p) fits tree split_next walked.placed
-        (right_there HasRightSlots right) (λ of_kind. wrong (right_here HasRightKinds of_kind))
+        (slots_there right) (λ of_kind. wrong (right_here HasKinds of_kind))
 
-    pub too_many_turns : length nodes < 2 ^ 32 → HasRightSlots here (Some (get_or nodes p.node.0 d)) → HasRightKinds here (Some (get_or nodes p.node.0 d))
-        → (HasRightTurns p.turns (Some (get_or nodes p.node.0 d)) → ⊥) → IsFault nodes (fault.Limit p.node)
-    too_many_turns fits right of_kind wrong =
+    pub not_within : length nodes < 2 ^ 32 → HasRightSlots (length here) (Some (get_or nodes p.node.0 d))
+        → HasRightKinds (seen_past p.foreign here) (Some (get_or nodes p.node.0 d))
+        → (needs : List ℕ) → AreNeeds nodes (length nodes) needs → (IsWithinLimits p.turns (slice_index needs p.node.0) (Some (get_or nodes p.node.0 d)) → ⊥)
+        → IsFault nodes (fault.Limit p.node)
+    not_within fits right of_kind needs are wrong =
         limit walked.before (flat_map (spots_from nodes) parts_here ++ spots_to_come nodes path rest) (spot_at path p) fits tree split_next walked.placed
-        (right_there HasRightSlots right) (right_there HasRightKinds of_kind) (λ few. wrong (right_here HasTurns few))
+        (slots_there right) (right_there HasKinds of_kind) (λ within. wrong (within_here needs are within))
 
     -- its parts are pushed
-    module _ (new : List Pending) (pushed : ArePushed here (spots_below (Some (get_or nodes p.node.0 d)) here p.turns) rest new) where
+    module _ (new : List Pending)
+        (pushed : ArePushed here (spots_below (Some (get_or nodes p.node.0 d)) (seen_past p.foreign here) p.turns) rest new) where
       spots_rest : map (spot_at here) rest ≡ map (spot_at path) rest
-      spots_rest = ap (λ xs. map (spot_at xs) rest) entered ∙ spots_kept path p 0 rest nested_popped.0 nested_popped.1
+      spots_rest = ap (λ xs. map (spot_at xs) rest) entered ∙ spots_kept path p 0 rest nested_popped.0 nested_popped.2
 
       come_then : spots_to_come nodes path stack ≡ spot_at path p ∷ spots_to_come nodes here new
       come_then = come_next ∙ ap (λ xs. spot_at path p ∷ xs)
@@ -171,7 +211,8 @@ module _ (nodes : List Node) (tree : IsOneTree nodes) (path : List NameKind) (st
 
       near_parts : All (IsNear nodes) parts_here
       near_parts i s h =
-          let AreBefore = λ (kinds : List NameKind) (o : Option Node). All (λ (part : Spot). part.id < p.node.0) (spots_below o kinds p.turns) in
+          let AreBefore = λ (kinds : List NameKind) (o : Option Node).
+          All (λ (part : Spot). part.id < p.node.0) (spots_below o (seen_past p.foreign kinds) p.turns) in
           let before : (get_or parts_here i s).id < p.node.0 = right_here AreBefore (parts_before nodes tree.forest.before (spot_at path p)) i s h in
           let near = pending_near in
           omega arith
@@ -184,16 +225,17 @@ module _ (nodes : List Node) (tree : IsOneTree nodes) (path : List NameKind) (st
 
       nested_rest : AreNested 0 rest (length here)
       nested_rest =
-          nested_more 0 rest p.outer (length here) nested_popped.0 (subst (λ xs. p.outer ≤ length xs) (sym entered) (path_reaches path p nested_popped.1))
+          nested_more 0 rest p.outer (length here) nested_popped.0 (subst (λ xs. p.outer ≤ length xs) (sym entered) (path_reaches path p nested_popped.2))
 
-      pub walked_more : HasRightSlots here (Some (get_or nodes p.node.0 d)) → HasRightKinds here (Some (get_or nodes p.node.0 d))
-          → HasRightTurns p.turns (Some (get_or nodes p.node.0 d)) → IsWalked nodes here new
-      walked_more right of_kind few = record {
+      pub walked_more : HasRightSlots (length here) (Some (get_or nodes p.node.0 d)) → HasRightKinds (seen_past p.foreign here) (Some (get_or nodes p.node.0 d))
+          → (needs : List ℕ) → AreNeeds nodes (length nodes) needs → IsWithinLimits p.turns (slice_index needs p.node.0) (Some (get_or nodes p.node.0 d))
+          → IsWalked nodes here new
+      walked_more right of_kind needs are within = record {
         before = walked.before ++ spot_at path p ∷ [];
         split = walked.split ∙ ap (λ xs. walked.before ++ xs) come_then ∙ sym (append_assoc walked.before (spot_at path p ∷ []) (spots_to_come nodes here new));
         placed =
             All-push (IsWellPlaced nodes) walked.before (spot_at path p) walked.placed
-            (record { slots = right_there HasRightSlots right; kinds = right_there HasRightKinds of_kind; turns = right_there HasTurns few });
+            (record { slots = slots_there right; kinds = right_there HasKinds of_kind; limits = within_there needs are within });
         near = subst (All (IsNear nodes)) (sym pushed.spots) near_new;
         nested = pushed.nested nested_rest;
       }

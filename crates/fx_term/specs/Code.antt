@@ -5,18 +5,26 @@ use Rattle.fx_term.specs.declared.node.Node.{Node}
 use Rattle.fx_term.specs.declared.code.CodeFault.{CodeFault}
 use Rattle.fx_term.specs.declared.code.CodeFault.TheVariants.{Child, Slot, Kind, Limit, Memory}
 use Rattle.fx_term.specs.Scope.{IsInScope}
-use Rattle.fx_term.specs.Meaning.{root_term}
+use Rattle.fx_term.specs.Need.{need, NeedsFew}
+use Rattle.fx_term.specs.Meaning.{term_of, root_term}
 use Rattle.fx_term.specs.Turns.{HasFewTurns}
 use Rattle.fx_term.specs.Tree.{all_children, IsForest, IsOneTree}
 use Rattle.fx_term.specs.Walk.{Spot, spots}
-use Rattle.fx_term.specs.WellPlaced.{HasRightSlots, HasRightKinds, HasRightTurns, IsWellPlaced}
+use Rattle.fx_term.specs.WellPlaced.{HasRightSlots, HasRightKinds, IsWithinLimits, IsWellPlaced}
 
--- one tree whose term stands in no binder's scope, and whose loops have few turns
-pub record IsCode (nodes : List Node) : Type 0 where
+-- what a code is seen as: its nodes, and the number of queues that these may name
+pub record CodeView : Type 0 where
+  pub nodes : List Node
+  pub queues : ℕ
+
+-- one tree whose term stands in no binder's scope, whose loops have few turns, and whose parts can use few fiber numbers; no node names a queue so far, so that
+-- the nodes of a code are one with any number of queues
+pub record IsCode (queues : ℕ) (nodes : List Node) : Type 0 where
   pub fits : length nodes < 2 ^ 32
   pub tree : IsOneTree nodes
   pub scope : IsInScope [] (root_term nodes)
   pub turns : HasFewTurns 1 (root_term nodes)
+  pub needs : NeedsFew (root_term nodes)
 
 abbrev pub node_id : ℕ → NodeId
 node_id n = record { 0 = n }
@@ -33,14 +41,14 @@ pub data IsFault (nodes : List Node) : CodeFault → Type 0 where
       → (Contains (all_children nodes) id → ⊥) → IsFault nodes (Child (node_id id))
   -- from the root down, this node is the first that is not well placed, and a slot of it is wrong
   slot : (before after : List Spot) (s : Spot) → length nodes < 2 ^ 32 → IsOneTree nodes → spots nodes ≡ before ++ s ∷ after → All (IsWellPlaced nodes) before
-      → (HasRightSlots s.kinds (slice_get nodes s.id) → ⊥) → IsFault nodes (Slot (node_id s.id))
+      → (HasRightSlots (length s.kinds) (slice_get nodes s.id) → ⊥) → IsFault nodes (Slot (node_id s.id))
   -- from the root down, this node is the first that is not well placed, and its slots are right
   kind : (before after : List Spot) (s : Spot) → length nodes < 2 ^ 32 → IsOneTree nodes → spots nodes ≡ before ++ s ∷ after → All (IsWellPlaced nodes) before
-      → HasRightSlots s.kinds (slice_get nodes s.id) → (HasRightKinds s.kinds (slice_get nodes s.id) → ⊥) → IsFault nodes (Kind (node_id s.id))
+      → HasRightSlots (length s.kinds) (slice_get nodes s.id) → (HasRightKinds s.kinds (slice_get nodes s.id) → ⊥) → IsFault nodes (Kind (node_id s.id))
   -- from the root down, this node is the first that is not well placed; its slots are right, and its names are of the right kinds
   limit : (before after : List Spot) (s : Spot) → length nodes < 2 ^ 32 → IsOneTree nodes → spots nodes ≡ before ++ s ∷ after → All (IsWellPlaced nodes) before
-      → HasRightSlots s.kinds (slice_get nodes s.id) → HasRightKinds s.kinds (slice_get nodes s.id) → (HasRightTurns s.turns (slice_get nodes s.id) → ⊥)
-      → IsFault nodes (Limit (node_id s.id))
+      → HasRightSlots (length s.kinds) (slice_get nodes s.id) → HasRightKinds s.kinds (slice_get nodes s.id)
+      → (IsWithinLimits s.turns (need (term_of nodes s.id)) (slice_get nodes s.id) → ⊥) → IsFault nodes (Limit (node_id s.id))
 
 -- want of memory, or the first fault of the nodes
 abbrev pub IsRefusal : List Node → CodeFault → Type 0

@@ -5,6 +5,7 @@ pub mod Scope
 pub mod Forms
 pub mod Fill
 pub mod Meaning
+pub mod NodeNeed
 pub mod Tree
 pub mod Children
 pub mod Turns

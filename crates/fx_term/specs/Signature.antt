@@ -1,5 +1,5 @@
--- The binding signature of each form: the names that a node uses, and its parts in the order of the text.
-use Rattle.std.specs.Prelude.{ℕ, Option, Some, None, List, [], ◌∷◌}
+-- The signature of each form: the names that a node uses, its parts in the order of the text, and how many of them it runs.
+use Rattle.std.specs.Prelude.{ℕ, Bool, true, false, Option, Some, None, List, [], ◌∷◌}
 use Rattle.std.specs.List.{filter_map}
 use Rattle.fx_term.specs.declared.name_kind.NameKind.{NameKind}
 use Rattle.fx_term.specs.declared.name_kind.NameKind.TheVariants as kind
@@ -10,20 +10,28 @@ use Rattle.fx_term.specs.declared.node.Node.{Node}
 use Rattle.fx_term.specs.declared.node.Node.TheVariants as node
 use Rattle.fx_term.specs.declared.code.signature.Use.{Use}
 use Rattle.fx_term.specs.declared.code.signature.Part.{Part}
+use Rattle.fx_term.specs.declared.code.signature.Running.{Running}
+use Rattle.fx_term.specs.declared.code.signature.Running.TheVariants.{EachPart, OnePart}
 
 -- a number, or a name that is to stand for this
 abbrev pub use_as : NameKind → Arg → Use
 use_as k a = record { arg = a; kind = k }
 
--- a part in which nothing is bound, a part in the scope of a binder, and one that is repeated in the scope of a binder
+abbrev pub slot_as : NameKind → ℕ → Use
+slot_as k x = use_as k (Slot x)
+
+-- a part in which nothing is bound, a part in the scope of a binder, one that is repeated in the scope of a binder, and one that runs in another fiber
 abbrev pub plain : NodeId → Part
-plain id = record { node = id; binder = None; kind = kind.Value; count = None }
+plain id = record { node = id; binder = None; kind = kind.Value; count = None; elsewhere = false }
 
 abbrev pub part_under : Option ℕ → NameKind → NodeId → Part
-part_under x k id = record { node = id; binder = x; kind = k; count = None }
+part_under x k id = record { node = id; binder = x; kind = k; count = None; elsewhere = false }
 
 abbrev pub repeated : ℕ → ℕ → NodeId → Part
-repeated x count id = record { node = id; binder = Some x; kind = kind.Value; count = Some count }
+repeated x count id = record { node = id; binder = Some x; kind = kind.Value; count = Some count; elsewhere = false }
+
+abbrev pub started : NodeId → Part
+started id = record { node = id; binder = None; kind = kind.Value; count = None; elsewhere = true }
 
 -- the names that a node uses
 abbrev pub uses : Node → List Use
@@ -37,9 +45,13 @@ uses (node.Handle a x b) = []
 uses (node.If v a b) = use_as kind.Value v ∷ []
 uses (node.For i c a) = []
 uses (node.Mask p a) = []
-uses (node.Poll p a) = use_as kind.Poll (Slot p) ∷ []
+uses (node.Poll p a) = slot_as kind.Poll p ∷ []
 uses (node.OnCancel a f) = []
 uses (node.Bracket x a u r) = []
+uses (node.Start h a b) = []
+uses (node.Join f x a e b c) = slot_as kind.Fiber f ∷ []
+uses (node.Cancel f) = slot_as kind.Fiber f ∷ []
+uses (node.First f g) = slot_as kind.Fiber f ∷ slot_as kind.Fiber g ∷ []
 
 -- the parts of a node
 abbrev pub parts : Node → List Part
@@ -56,8 +68,18 @@ parts (node.Mask p a) = part_under (Some p) kind.Poll a ∷ []
 parts (node.Poll p a) = plain a ∷ []
 parts (node.OnCancel a f) = plain a ∷ plain f ∷ []
 parts (node.Bracket x a u r) = plain a ∷ part_under x kind.Value u ∷ part_under x kind.Value r ∷ []
+parts (node.Start h a b) = started a ∷ part_under (Some h) kind.Fiber b ∷ []
+parts (node.Join f x a e b c) = part_under (Some x) kind.Value a ∷ part_under (Some e) kind.Value b ∷ plain c ∷ []
+parts (node.Cancel f) = []
+parts (node.First f g) = []
 
--- the same where there may be no node
+-- whether a node runs each of its parts or one of them
+abbrev pub running : Node → Running
+running (node.If v a b) = OnePart
+running (node.Join f x a e b c) = OnePart
+running _ = EachPart
+
+-- the names and the parts where there may be no node
 abbrev pub uses_of : Option Node → List Use
 uses_of None = []
 uses_of (Some n) = uses n

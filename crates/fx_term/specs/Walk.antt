@@ -1,9 +1,10 @@
 -- The walk through a tree: its nodes from the root down, each with the names in whose scope it stands.
-use Rattle.std.specs.Prelude.{ℕ, zero, suc, ◌-◌, Option, Some, None, List, [], ◌∷◌, ◌++◌, length, map, slice_get}
+use Rattle.std.specs.Prelude.{ℕ, zero, suc, ◌-◌, Bool, true, false, Option, Some, None, List, [], ◌∷◌, ◌++◌, length, map, slice_get}
 use Rattle.std.specs.List.{flat_map}
 use Rattle.fx_term.specs.declared.name_kind.NameKind.{NameKind}
 use Rattle.fx_term.specs.declared.node.Node.{Node}
 use Rattle.fx_term.specs.declared.code.signature.Part.{Part}
+use Rattle.fx_term.specs.Scope.{kind_elsewhere}
 use Rattle.fx_term.specs.Signature.{parts_of}
 use Rattle.fx_term.specs.Turns.{turns_inside}
 
@@ -13,6 +14,11 @@ pub record Spot : Type 0 where
   pub kinds : List NameKind
   pub turns : ℕ
 
+-- the names in scope in a part that runs in another fiber, or in the same one
+abbrev pub kinds_inside : Bool → List NameKind → List NameKind
+kinds_inside true kinds = map kind_elsewhere kinds
+kinds_inside false kinds = kinds
+
 -- the names in scope under a binder
 abbrev pub kinds_under : Option ℕ → NameKind → List NameKind → List NameKind
 kinds_under None k kinds = kinds
@@ -20,7 +26,8 @@ kinds_under (Some x) k kinds = kinds ++ k ∷ []
 
 -- a part of a node that stands there, and is run so many times
 abbrev pub spot_of : List NameKind → ℕ → Part → Spot
-spot_of kinds turns p = record { id = p.node.0; kinds = kinds_under p.binder p.kind kinds; turns = turns_inside turns p.count }
+spot_of kinds turns p =
+    record { id = p.node.0; kinds = kinds_under p.binder p.kind (kinds_inside p.elsewhere kinds); turns = turns_inside turns p.count }
 
 -- the parts of a node in the order of the text, each where it stands
 abbrev pub spots_below : Option Node → List NameKind → ℕ → List Spot

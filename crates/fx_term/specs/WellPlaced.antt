@@ -1,5 +1,5 @@
 -- The tests at a node, where names of these kinds are in scope and the loops round it run it so many times.
-use Rattle.std.specs.Prelude.{ℕ, Option, List, length, slice_get, All}
+use Rattle.std.specs.Prelude.{ℕ, ◌≤◌, Option, List, length, slice_get, All}
 use Rattle.fx_term.specs.declared.name_kind.NameKind.{NameKind}
 use Rattle.fx_term.specs.declared.node.Node.{Node}
 use Rattle.fx_term.specs.declared.code.signature.Use.{Use}
@@ -7,6 +7,8 @@ use Rattle.fx_term.specs.declared.code.signature.Part.{Part}
 use Rattle.fx_term.specs.Signature.{uses_of, parts_of}
 use Rattle.fx_term.specs.Turns.{HasFewInside}
 use Rattle.fx_term.specs.Scope.{IsArgBelow, IsArgOf, IsBinderAt}
+use Rattle.fx_term.specs.Need.{need, most_need}
+use Rattle.fx_term.specs.Meaning.{term_of}
 use Rattle.fx_term.specs.Walk.{Spot}
 
 -- what is used is a number, or a name below the bound
@@ -25,10 +27,10 @@ IsNextBinder bound p = IsBinderAt bound p.binder
 abbrev pub HasFewTurnsInside : ℕ → Part → Type 0
 HasFewTurnsInside turns p = HasFewInside turns p.count
 
--- a binder of the node has the next slot, and each slot that it uses is that of a name in scope
-pub record HasRightSlots (kinds : List NameKind) (o : Option Node) : Type 0 where
-  pub binders : All (IsNextBinder (length kinds)) (parts_of o)
-  pub uses : All (IsUseBelow (length kinds)) (uses_of o)
+-- where so many names are in scope, a binder of the node has the next slot, and each slot that it uses is that of a name in scope
+pub record HasRightSlots (names : ℕ) (o : Option Node) : Type 0 where
+  pub binders : All (IsNextBinder names) (parts_of o)
+  pub uses : All (IsUseBelow names) (uses_of o)
 
 -- each name that the node uses is of the kind that it uses it as
 abbrev pub HasRightKinds : List NameKind → Option Node → Type 0
@@ -38,8 +40,13 @@ HasRightKinds kinds o = All (IsUseOf (λ x. slice_get kinds x)) (uses_of o)
 abbrev pub HasRightTurns : ℕ → Option Node → Type 0
 HasRightTurns turns o = All (HasFewTurnsInside turns) (parts_of o)
 
--- the node's slots are right where it stands, its names are of the right kinds, and a loop's part has few turns
+-- the node's part has few turns, where the node is run so many times, and of fiber numbers it can use no more than the most
+pub record IsWithinLimits (times numbers : ℕ) (o : Option Node) : Type 0 where
+  pub turns : HasRightTurns times o
+  pub need : numbers ≤ most_need
+
+-- the node's slots are right where it stands, its names are of the right kinds, and it keeps the limits
 pub record IsWellPlaced (nodes : List Node) (s : Spot) : Type 0 where
-  pub slots : HasRightSlots s.kinds (slice_get nodes s.id)
+  pub slots : HasRightSlots (length s.kinds) (slice_get nodes s.id)
   pub kinds : HasRightKinds s.kinds (slice_get nodes s.id)
-  pub turns : HasRightTurns s.turns (slice_get nodes s.id)
+  pub limits : IsWithinLimits s.turns (need (term_of nodes s.id)) (slice_get nodes s.id)

@@ -1,7 +1,10 @@
 //! What a fiber begins with.
+ghost use Rattle.std.specs.Prelude.{◌≡◌, IfOk};
 
+use crate::memory::Memory;
 use crate::node::NodeId;
 use crate::registers::Registers;
+use std::alloc::Global;
 
 /// What a fiber begins with: its node, the numbers in place of the names in scope there, and its
 /// range of fiber numbers, from `next` to below `end`.
@@ -11,4 +14,18 @@ pub struct Begin {
     pub slots: Registers,
     pub next: u32,
     pub end: u32,
+}
+
+impl Begin {
+    /// The same with numbers of its own.
+    pub fn copied(&self, alloc: Global) -> Result<Begin, Memory>
+        ensures { IfOk result (λ copy. copy ≡ self.now) }
+    {
+        Ok(Begin {
+            node: self.node,
+            slots: self.slots.copied(alloc)?,
+            next: self.next,
+            end: self.end,
+        })
+    }
 }

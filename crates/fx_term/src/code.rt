@@ -1,19 +1,23 @@
 //! The checked code of a script.
-ghost use Rattle.std.specs.Prelude.{◌≡◌, ◌+◌, ◌^◌, ◌<◌, Some, length, slice_get, IfOk, IfErr, OnOk, IsOkUnless};
+ghost use Rattle.std.specs.Prelude.{◌≡◌, ℕ, ◌+◌, ◌^◌, ◌<◌, Some, length, slice_get, IfOk, IfErr, OnOk, IsOkUnless};
 ghost use Rattle.fx_term.specs.Code.{IsCode, IsFault, IsRefusal};
+ghost use Rattle.fx_term.specs.NodeNeed.{AreNeeds};
 
 mod brand;
 mod children;
+mod needs;
 mod scope;
 mod signature;
 mod tree;
 mod turns;
 mod walk;
 
+use crate::code::needs::needs_of_nodes;
 use crate::code::tree::check_tree;
 use crate::code::walk::check_names;
 use crate::node::{Node, NodeId};
 pub use brand::CodeBrand;
+pub use needs::MOST_NEED;
 use std::alloc::{AllocError, AllocFailed, Global};
 use std::marker::Model;
 use thiserror::Error;
@@ -30,13 +34,14 @@ pub enum CodeFault {
     /// A binder of this node has another slot than the next, or a slot that it uses is not bound.
     #[error("node {}: a slot that is not bound, or a binder with a wrong slot", .0.0)]
     Slot(NodeId),
-    /// A slot that this node uses is that of a name of another kind: a poll's where a value is to
-    /// stand, or a value's where a poll is.
+    /// A slot that this node uses is that of a name of another kind, as a poll's where a value is to
+    /// stand, or that of a poll of another fiber.
     #[error("node {}: a slot that is that of a name of another kind", .0.0)]
     Kind(NodeId),
-    /// With this loop's count the product of the counts of the loops round its part, a count of 0
-    /// taken as 1, is above 1,000,000.
-    #[error("node {}: a count that takes the turns of a part above 1000000", .0.0)]
+    /// The need of this node, the number of fibers that it can start, is above 1,023; or, with this
+    /// loop's count, the product of the counts of the loops round its part, a count of 0 taken as 1,
+    /// is above 1,000,000.
+    #[error("node {}: a need above 1023, or a count that takes the turns of a part above 1000000", .0.0)]
     Limit(NodeId),
     /// Memory ran out before a fault was found.
     #[error("out of memory")]
@@ -95,76 +100,100 @@ fn check_count(nodes: &[Node]) -> Result<(), CodeFault>
     Ok(())
 }
 
-/// The tests of a whole list, each of which may suppose what those before it found.
-fn check_nodes(alloc: Global, nodes: &[Node]) -> Result<(), CodeFault>
-    ensures code { OnOk result (IsCode nodes.now) }
+/// The tests of a whole list, each of which may suppose what those before it found. It answers the
+/// needs of the nodes.
+fn check_nodes(alloc: Global, nodes: &[Node]) -> Result<Vec<u32>, CodeFault>
+    ensures code { OnOk result ((queues : ℕ) → IsCode queues nodes.now) }
+    ensures needs { IfOk result (λ needs. AreNeeds nodes.now (length nodes.now) needs.items) }
     ensures fault { IfErr result (IsRefusal nodes.now) }
 {
     check_count(nodes)?;
     check_tree(alloc, nodes)?;
-    check_names(alloc, nodes)
+    let needs = needs_of_nodes(alloc, nodes)?;
+    check_names(alloc, nodes, &needs)?;
+    Ok(needs)
 }
 
-/// One well-scoped term, as the list of its nodes. Contracts see it as that list.
+/// One well-scoped term, as the list of its nodes, each with its need, and the number of queues that
+/// they may name. Contracts see it as the list and that number.
 #[derive(Drop)]
 pub struct Code {
     nodes: Vec<Node>,
+    needs: Vec<u32>,
+    queues: u8,
 }
 
 impl Model for Code {
-    ghost use Rattle.std.specs.Prelude.{List};
-    ghost use Rattle.fx_term.specs.declared.node.Node.{Node};
+    ghost use Rattle.std.specs.Prelude.{length};
+    ghost use Rattle.fx_term.specs.Code.{CodeView, IsCode};
+    ghost use Rattle.fx_term.specs.NodeNeed.{AreNeeds};
 
-    ghost Value = { List Node };
+    ghost Value = { CodeView };
 
-    ghost view = { λ c. c.nodes.items };
+    ghost view = { λ c. record { nodes = c.nodes.items; queues = c.queues } };
 
-    ghost use Rattle.fx_term.specs.Code.{IsCode};
-
-    ghost invariant = { λ c. IsCode c.nodes.items };
+    ghost invariant = { λ c. IsCode c.queues c.nodes.items
+        × AreNeeds c.nodes.items (length c.nodes.items) c.needs.items };
 }
 
 impl Code {
+    ghost use Rattle.std.specs.Prelude.{◌≤◌};
+    ghost use Rattle.fx_term.specs.Need.{need, most_need};
+    ghost use Rattle.fx_term.specs.Meaning.{term_of};
     ghost use Rattle.fx_term.specs.declared.code.CodeFault.{CodeFault};
     ghost use Rattle.fx_term.specs.declared.code.CodeFault.TheVariants.{Memory};
 
     /// The code of these nodes, of which the last is the root. Its answer is the first fault in the
     /// order of the tests; a list has one such fault at most ([`laws`](crate::laws::faults)). It takes
-    /// time and memory in proportion to the number of nodes. `queues`, the number of the script's
-    /// queues, is read by nothing yet: no form names a queue so far.
+    /// time and memory in proportion to the number of nodes. `queues` is the number of the script's
+    /// queues; no test reads it yet, since no node names a queue so far.
     pub fn build(alloc: Global, nodes: Vec<Node>, queues: u8) -> Result<Code, CodeFault>
-        ensures built { IfOk result (λ code. code ≡ nodes.items) }
-        ensures code { OnOk result (IsCode nodes.items) }
-        ensures accepts { IsCode nodes.items → IsOkUnless result CodeFault.Memory }
+        ensures built { IfOk result (λ code. code.nodes ≡ nodes.items × code.queues ≡ queues) }
+        ensures code { OnOk result (IsCode queues nodes.items) }
+        ensures accepts { IsCode queues nodes.items → IsOkUnless result CodeFault.Memory }
         ensures first_fault { IfErr result (IsRefusal nodes.items) }
     {
-        check_nodes(alloc, &nodes)?;
-        Ok(Code { nodes })
+        let needs = check_nodes(alloc, &nodes)?;
+        Ok(Code {
+            nodes,
+            needs,
+            queues,
+        })
     }
 
     /// The number of nodes, which is not 0.
     pub fn len(&self) -> u32
-        ensures len { result ≡ length self.now }
-        ensures code { IsCode self.now }
+        ensures len { result ≡ length self.now.nodes }
+        ensures code { IsCode self.now.queues self.now.nodes }
     {
         self.nodes.len() as u32
     }
 
     /// The node of the whole term, which is the last.
     pub fn root(&self) -> NodeId
-        ensures last { result.0 + 1 ≡ length self.now }
-        ensures code { IsCode self.now }
+        ensures last { result.0 + 1 ≡ length self.now.nodes }
+        ensures code { IsCode self.now.queues self.now.nodes }
     {
         NodeId(self.len() - 1)
     }
 
     /// The node of this number.
-    pub fn node(&self, id: NodeId) -> Node
-        requires { id.0 < length self.now }
-        ensures node { slice_get self.now id.0 ≡ Some result }
-        ensures code { IsCode self.now }
+    pub fn node(&self, id: NodeId) -> &Node
+        requires { id.0 < length self.now.nodes }
+        ensures node { slice_get self.now.nodes id.0 ≡ Some result.now }
+        ensures code { IsCode self.now.queues self.now.nodes }
     {
-        self.nodes[id.0 as usize]
+        &self.nodes[id.0 as usize]
+    }
+
+    /// The need of the node of this number: how many fiber numbers its term can use. That of the root
+    /// is the number of fibers that the whole term can start.
+    pub fn need(&self, id: NodeId) -> u32
+        requires { id.0 < length self.now.nodes }
+        ensures need { result ≡ need (term_of self.now.nodes id.0) }
+        ensures few { result ≤ most_need }
+    {
+        self.needs[id.0 as usize]
     }
 }
 

@@ -2,3 +2,4 @@
 //! law.
 
 pub mod faults;
+pub mod needs;

@@ -9,8 +9,10 @@
 //! 3. Each node but the last is a child, so the last one is the root.
 //! 4. From the root down, node by node: a binder has the number of names in whose scope it stands, and
 //!    a name that is used is in scope there; then, that name is of the kind that it is used as, a
-//!    value or a poll; then, the counts of the loops round a part have a product of at most
-//!    1,000,000, a count of 0 taken as 1.
+//!    value, a poll or a fiber, and a poll is none of another fiber: one whose mask stands outside of
+//!    the part that a start gives to a new fiber; then, the node can use at most 1,023 fiber
+//!    numbers, and the counts of the loops round its part have a product of at most 1,000,000, a
+//!    count of 0 taken as 1.
 //!
 //! A `Code` never changes, and nothing but `build` makes one.
 #![tactic(auto)]
@@ -29,7 +31,7 @@ mod queue_event;
 mod registers;
 
 pub use begin::Begin;
-pub use code::{Code, CodeBrand, CodeFault, MOST_TURNS, turns_of_loop};
+pub use code::{Code, CodeBrand, CodeFault, MOST_NEED, MOST_TURNS, turns_of_loop};
 pub use done::Done;
 pub use event::Event;
 pub use item::Item;

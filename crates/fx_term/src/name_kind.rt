@@ -13,3 +13,19 @@ pub enum NameKind {
     /// may be used as nothing.
     OtherPoll,
 }
+
+impl NameKind {
+    ghost use Rattle.std.specs.Prelude.{◌≡◌};
+    ghost use Rattle.fx_term.specs.Scope.{kind_elsewhere};
+
+    /// What the name stands for inside another fiber.
+    pub fn elsewhere(self) -> NameKind
+        ensures { result ≡ kind_elsewhere self }
+    {
+        match self {
+            NameKind::Poll | NameKind::OtherPoll => NameKind::OtherPoll,
+            NameKind::Value => NameKind::Value,
+            NameKind::Fiber => NameKind::Fiber,
+        }
+    }
+}

@@ -41,4 +41,14 @@ pub enum Node {
     /// Acquires by the first part, whose value has this slot in the others; uses by the second part;
     /// releases by the third, once (`bracket`).
     Bracket(Option<u32>, NodeId, NodeId, NodeId),
+    /// Starts a fiber that runs the first part; by this slot it is known in the second one (`start`).
+    Start(u32, NodeId, NodeId),
+    /// Waits until the fiber of the first slot has ended, and goes on by how it did: where it
+    /// succeeded, with its value, by the next slot, in the first part; where it erred, with its error,
+    /// by the last slot, in the second; where it was canceled, with the third (`join`).
+    Join(u32, u32, NodeId, u32, NodeId, NodeId),
+    /// Cancels the fiber of this slot, waits until it has ended, and gives 0 (`cancel`).
+    Cancel(u32),
+    /// Waits until one of these fibers has ended: gives 0 for the left one, 1 for the right.
+    First(u32, u32),
 }

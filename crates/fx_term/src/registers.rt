@@ -1,5 +1,5 @@
 //! The numbers of the names in scope.
-ghost use Rattle.std.specs.Prelude.{◌≡◌, [], length, OnOk, OnErr};
+ghost use Rattle.std.specs.Prelude.{◌≡◌, ◌<◌, Some, [], length, IfOk, OnOk, OnErr};
 ghost use Rattle.fx_term.specs.declared.node.Arg.TheVariants.{Number};
 ghost use Rattle.fx_term.specs.Fill.{fill_arg};
 ghost use Rattle.fx_term.specs.Scope.{IsArgBelow};
@@ -35,6 +35,15 @@ impl Registers {
         }
     }
 
+    /// The same numbers in memory of their own.
+    pub fn copied(&self, alloc: Global) -> Result<Registers, Memory>
+        ensures { IfOk result (λ copy. copy ≡ self.now) }
+    {
+        Ok(Registers {
+            numbers: Vec::from_slice(alloc, &self.numbers)?,
+        })
+    }
+
     /// Gives the binder's name the number. The numbers of names above it are gone.
     pub fn bind(&mut self, name: Option<u32>, number: u64) -> Result<(), Memory>
         requires { ReachUpTo name (length self.old) }
@@ -47,6 +56,17 @@ impl Registers {
             self.numbers.push_reserved(number);
         }
         Ok(())
+    }
+
+    /// Gives a name that has a number another one, which needs no memory. The numbers of names above it
+    /// are gone.
+    pub fn rebind(&mut self, slot: u32, number: u64)
+        requires { slot < length self.old }
+        ensures { self.new ≡ with_number (Some slot) number self.old }
+    {
+        let below = slot as usize;
+        self.numbers.truncate(below);
+        self.numbers.push_reserved(number);
     }
 
     /// The number that an argument stands for.

@@ -18,3 +18,8 @@ pub mod ThroughLaws
 pub mod GrammarLaws
 pub mod ScopeKept
 pub mod ScriptLaws
+pub mod ScriptNeeds
+pub mod ScriptTerms
+pub mod PicksLaws
+pub mod WordLaws
+pub mod ScheduleLaws

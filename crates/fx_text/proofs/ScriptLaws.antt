@@ -46,6 +46,7 @@ use Rattle.fx_text.specs.View.{Answers, meaning}
 use Rattle.fx_text.proofs.PartLaws.{bind_ok, ok_pair, part_ok, part_again, main_word_is}
 use Rattle.fx_text.proofs.GrammarLaws.{parts_sound, group_sound, parts_complete}
 use Rattle.fx_text.proofs.ScopeKept.{script_fits}
+use Rattle.fx_text.proofs.ScriptNeeds.{script_needs_few}
 
 top_ok : (l : Lexeme) (k : Token) (u : Unit {0}) (rest : List ℕ) → top_opening l k ≡ Ok (u, rest) → (k ≡ Open) × (l.rest ≡ rest)
 top_ok l Open u rest e = (refl, (ok_pair tt u l.rest rest e).1)
@@ -65,7 +66,7 @@ last_ok m n l (Name x) e = absurd cc
 last_ok m n l Stray e = absurd cc
 last_ok m n l Misnumber e = absurd cc
 
-offset_ok : {A : Type 0} (n : ℕ) (r : Result A Fault) (x : A) → at_offset n r ≡ Ok x → r ≡ Ok x
+pub offset_ok : {A : Type 0} (n : ℕ) (r : Result A Fault) (x : A) → at_offset n r ≡ Ok x → r ≡ Ok x
 offset_ok n (Ok y) x e = cc
 offset_ok n (Err f) x e = absurd cc
 
@@ -141,17 +142,19 @@ pub reading_law : (text : List ℕ) (m : Meaning) → IsScript text m ↔ (readi
 reading_law text m = (script_complete text m, script_sound text m)
 
 -- an answer that is a text's is in the grammar
-pub answer_found : (text : List ℕ) (r : Result Script TextFault) → Answers r (reading text) → IfOk r (λ s. IsScript text (meaning s))
+pub answer_found : (text : List ℕ) (r : Result Script TextFault) → Answers meaning r (reading text) → IfOk r (λ s. IsScript text (meaning s))
 answer_found text (Ok s) a = script_sound text (meaning s) a
 answer_found text (Err f) a = tt
 
 -- and where the text is a script, it is that script's
-pub answer_only : (text : List ℕ) (r : Result Script TextFault) → Answers r (reading text) → (m : Meaning) → IsScript text m → Answers r (Ok m)
-answer_only text r a m s = subst (λ (x : Result Meaning TextFault). Answers r x) (script_complete text m s) a
+pub answer_only : (text : List ℕ) (r : Result Script TextFault) → Answers meaning r (reading text) → (m : Meaning) → IsScript text m → Answers meaning r (Ok m)
+answer_only text r a m s = subst (λ (x : Result Meaning TextFault). Answers meaning r x) (script_complete text m s) a
 
 -- the nodes of a script are a code
 pub script_code : (text : List ℕ) (nodes : List Node) → length text ≤ most_bytes → script_at text ≡ Ok (of_term (root_term nodes)) → IsOneTree nodes
-    → length nodes ≤ most_nodes → IsCode nodes
+    → length nodes ≤ most_nodes → IsCode 0 nodes
 script_code text nodes short read tree fits =
-    let stands = script_fits text (of_term (root_term nodes)) (text_sound text (of_term (root_term nodes)) short read) in
-    record { fits = omega arith; tree = tree; scope = stands.scope; turns = stands.turns }
+    let m = of_term (root_term nodes) in
+    let is_script = text_sound text m short read in
+    let stands = script_fits text m is_script in
+    record { fits = omega arith; tree = tree; scope = stands.scope; turns = stands.turns; needs = script_needs_few text m is_script }

@@ -28,22 +28,22 @@ after_spaces_le (b ∷ bytes) = by_test (is_space b) (after_spaces_le bytes)
     by_test true h = omega arith
     by_test false h = omega arith
 
+pub digit_too : (b : ℕ) → is_digit b ≡ true → is_letter_or_digit b ≡ true
+digit_too b e = rw e (or_true _)
+  where
+    or_true : (p : Bool) → (p || true) ≡ true
+    or_true true = refl
+    or_true false = refl
+
 module _ (b : ℕ) (bytes : List ℕ) where
   after_word_le : is_letter_or_digit b ≡ true → length (after_word (b ∷ bytes)) ≤ length bytes
   after_word_le e =
       let n : prefix_len is_letter_or_digit (b ∷ bytes) ≡ 1 + prefix_len is_letter_or_digit bytes = rw e refl in
       rw n (omega (arith, length-drop (1 + prefix_len is_letter_or_digit bytes) (b ∷ bytes)))
 
-  digit_too : is_digit b ≡ true → is_letter_or_digit b ≡ true
-  digit_too e = rw e (or_true _)
-    where
-      or_true : (p : Bool) → (p || true) ≡ true
-      or_true true = refl
-      or_true false = refl
-
   -- what is left after a token is shorter
   front_le : length (front (b ∷ bytes)).rest ≤ length bytes
-  front_le = by_tests (length (b ∷ bytes)) (b == 40) (b == 41) (is_digit b) (is_letter_or_digit b) digit_too after_word_le
+  front_le = by_tests (length (b ∷ bytes)) (b == 40) (b == 41) (is_digit b) (is_letter_or_digit b) (digit_too b) after_word_le
     where
       by_tests : (from : ℕ) (opening closing digit letter : Bool) → (digit ≡ true → letter ≡ true)
           → (letter ≡ true → length (after_word (b ∷ bytes)) ≤ length bytes)

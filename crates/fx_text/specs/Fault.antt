@@ -1,7 +1,10 @@
--- The numbers of the kinds of faults.
-use Rattle.std.specs.Prelude.{ℕ}
+-- The numbers of the kinds of faults, and where a fault is.
+use Rattle.std.specs.Prelude.{ℕ, ◌-◌}
 use Rattle.fx_text.specs.declared.fault.TextKind.{TextKind}
 use Rattle.fx_text.specs.declared.fault.TextKind.TheVariants as kind
+use Rattle.fx_text.specs.declared.fault.TextFault.{TextFault}
+use Rattle.fx_text.specs.declared.fault.ReadError.{ReadError}
+use Rattle.fx_text.specs.declared.fault.ReadError.TheVariants as errors
 
 -- the number of a kind; the numbers in between are those of other forms
 abbrev pub kind_number : TextKind → ℕ
@@ -17,3 +20,8 @@ kind_number kind.Size = 9
 kind_number kind.Depth = 11
 kind_number kind.Main = 13
 kind_number kind.Memory = 14
+
+-- what is answered for it, where the text has so many bytes
+abbrev pub answered : ℕ → ReadError → TextFault
+answered len errors.Memory = record { kind = kind.Memory; at = 0 }
+answered len (errors.Fault f) = record { kind = f.kind; at = len - f.left }

@@ -8,6 +8,7 @@ pub mod Part
 pub mod Meaning
 pub mod Reading
 pub mod Grammar
+pub mod Schedule
 pub mod View
 pub mod TokenView
 pub mod ScopeView

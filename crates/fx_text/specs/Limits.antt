@@ -24,3 +24,13 @@ form_spares = 7
 -- at most so many nodes are made over so many parts: what these leave over, and one
 abbrev pub most_made : ℕ → ℕ
 most_made parts = 1 + term_spares * parts
+
+-- the most bytes of a schedule, the most words of it, and the largest number of a fiber that it may name
+abbrev pub most_schedule_bytes : ℕ
+most_schedule_bytes = 2097152
+
+abbrev pub most_picks : ℕ
+most_picks = 100000
+
+abbrev pub most_number : ℕ
+most_number = 4294967295

@@ -8,9 +8,9 @@ use Rattle.fx_text.specs.Reading.{Meaning}
 
 -- what a script means
 abbrev pub meaning : Script → Meaning
-meaning s = record { queues = map (λ q. (string_bytes q.name, q.cap)) s.queues.items; term = root_term s.code }
+meaning s = record { queues = map (λ q. (string_bytes q.name, q.cap)) s.queues.items; term = root_term s.code.nodes }
 
--- the answer is what the text says, or its first fault; or memory ran out
-abbrev pub Answers : Result Script TextFault → Result Meaning TextFault → Type 0
-Answers (Ok s) read = read ≡ Ok (meaning s)
-Answers (Err f) read = (f ≡ record { kind = kind.Memory; at = 0 }) ⊎ (read ≡ Err f)
+-- the answer, seen by view, is what the text says, or its first fault; or memory ran out
+abbrev pub Answers : {X Y : Type 0} → (X → Y) → Result X TextFault → Result Y TextFault → Type 0
+Answers view (Ok x) read = read ≡ Ok (view x)
+Answers view (Err f) read = (f ≡ record { kind = kind.Memory; at = 0 }) ⊎ (read ≡ Err f)

@@ -1,7 +1,7 @@
 //! What is wrong with a text.
-ghost use Rattle.std.specs.Prelude.{◌≡◌};
+ghost use Rattle.std.specs.Prelude.{◌≡◌, ◌<◌, ◌^◌, length};
 ghost use Rattle.fx_text.specs.declared.fault.ReadError.TheVariants as errors;
-ghost use Rattle.fx_text.specs.Fault.{kind_number};
+ghost use Rattle.fx_text.specs.Fault.{kind_number, answered};
 
 use std::alloc::{AllocError, AllocFailed};
 use thiserror::Error;
@@ -9,14 +9,15 @@ use thiserror::Error;
 /// The kind of a fault.
 #[derive(Clone, Copy, PartialEq, Eq, Debug, Error)]
 pub enum TextKind {
-    /// The text has more than 65,536 bytes.
-    #[error("the text has more than 65536 bytes")]
+    /// A script has more than 65,536 bytes, or a schedule more than 2,097,152.
+    #[error("the text is too long")]
     Length,
     /// A byte that no token or space has.
     #[error("no text has this byte")]
     Byte,
-    /// A word that begins with a digit and is no number.
-    #[error("a word that begins with a digit and is no number below 18446744073709551616")]
+    /// In a script a word that begins with a digit and is no number, in a schedule a number above
+    /// 4,294,967,295.
+    #[error("no number, or one that is too large")]
     Number,
     /// The text ends inside a form.
     #[error("the text ends inside a form")]
@@ -24,7 +25,7 @@ pub enum TextKind {
     /// A token after `(` that is no word of a form, or at the top before `main` another token than `(`.
     #[error("no word of a form")]
     Form,
-    /// Another token than its place wants.
+    /// Another token than its place wants, or a word of a schedule that is no pick.
     #[error("not what is wanted here")]
     Unwanted,
     /// A name that is not in scope, or is of another kind.
@@ -33,8 +34,8 @@ pub enum TextKind {
     /// A binder whose name is in scope.
     #[error("this name is in scope already")]
     Taken,
-    /// A count that takes the turns of its loop above 1,000,000.
-    #[error("a count that takes the turns of its loop above 1000000")]
+    /// A count that takes the turns of its loop above 1,000,000, or the 100,001st word of a schedule.
+    #[error("more turns of a loop, or more words of a schedule, than there may be")]
     Size,
     /// A `(` where 100 are open.
     #[error("100 parentheses are open already")]
@@ -98,6 +99,25 @@ pub(crate) struct Fault {
 pub(crate) enum ReadError {
     Memory,
     Fault(Fault),
+}
+
+impl ReadError {
+    /// What is answered for it, by its place in the text.
+    pub(crate) fn answered(self, text: &[u8]) -> TextFault
+        requires { length text.now < 2 ^ 32 }
+        ensures { result ≡ answered (length text.now) self }
+    {
+        match self {
+            ReadError::Memory => TextFault {
+                kind: TextKind::Memory,
+                at: 0,
+            },
+            ReadError::Fault(fault) => TextFault {
+                kind: fault.kind,
+                at: text.len().saturating_sub(fault.left) as u32,
+            },
+        }
+    }
 }
 
 impl From<AllocError> for ReadError {

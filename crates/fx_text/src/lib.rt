@@ -1,6 +1,6 @@
-//! Reads scripts.
+//! Reads scripts and schedules.
 //!
-//! A text is read once, from left to right, up to its first fault.
+//! A text is read once, from left to right, up to its first fault. Of a script:
 //!
 //! 1. Each form has a row in one table: its parts in the order of the text, the scope in which each
 //!    stands, and the term that the form is. A resource of `using` and the list of these have a row
@@ -17,6 +17,9 @@
 //!    parts of a `seq` and the resources of a `using` are read in a loop, and made one term in
 //!    another, from the last to the first.
 //! 7. Want of memory is answered only where a growth was refused.
+//!
+//! Of a schedule, which is read word by word, the grammar and the reading are likewise two
+//! definitions that say the same.
 #![tactic(auto)]
 
 mod fault;
@@ -25,12 +28,14 @@ pub mod laws;
 mod part;
 mod pick;
 mod reader;
+mod schedules;
 mod scope;
 mod script;
 mod token;
 
 pub use fault::{TextFault, TextKind};
 pub use pick::Pick;
+pub use schedules::schedule;
 pub use script::{QueueDecl, Script, parse};
 
 #[cfg(test)]

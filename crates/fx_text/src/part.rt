@@ -198,7 +198,8 @@ pub(crate) fn main_word(bytes: &[u8]) -> Result<&[u8], ReadError>
 /// The fault where a group has to begin and no more `(` may be open.
 pub(crate) fn too_deep(bytes: &[u8]) -> ReadError
     ensures { let l = next bytes.now in
-        ReadError.Fault (record { kind = kind_of (too_deep l.token) l.token; left = l.from }) ≡ result }
+        ReadError.Fault (record { kind = kind_of (too_deep l.token) l.token; left = l.from })
+        ≡ result }
 {
     let lexeme = next(bytes);
     let kind = match lexeme.token {

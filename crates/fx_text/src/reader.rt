@@ -168,7 +168,8 @@ impl<'a> Reader<'a> {
         requires ready { IsReady 2 self.old bytes.now }
         requires turns { TurnsFit self.old.turns inner }
         ensures { ReadsTerm form_spares self.old self.new bytes.now
-            (parts_at (group_at room) (still (Head.One inner.entry form) (scope_of self.old)) bytes.now)
+            (parts_at (group_at room)
+            (still (Head.One inner.entry form) (scope_of self.old)) bytes.now)
             result }
     {
         let (part, rest) = self.term_in(inner, room, bytes)?;
@@ -187,7 +188,8 @@ impl<'a> Reader<'a> {
         requires ready { IsReady 2 self.old bytes.now }
         requires turns { TurnsFit self.old.turns inner }
         ensures { ReadsTerm form_spares self.old self.new bytes.now
-            (parts_at (group_at room) (still (Head.Two inner.entry form) (scope_of self.old)) bytes.now)
+            (parts_at (group_at room)
+            (still (Head.Two inner.entry form) (scope_of self.old)) bytes.now)
             result }
     {
         let (first, rest) = self.term(room, bytes)?;

@@ -43,15 +43,15 @@ pub fn parse(alloc: Global, text: &[u8]) -> Result<Script, TextFault>
     // What is read is in the grammar.
     ensures found { IfOk result (λ s. IsScript text.now (meaning s)) }
     // What is in the grammar is read, unless memory runs out.
-    ensures only { (m : Meaning) → IsScript text.now m → Answers result (Ok m) }
+    ensures only { (m : Meaning) → IsScript text.now m → Answers meaning result (Ok m) }
     // Which fault it is, and where.
-    ensures exact { Answers result (reading text.now) }
+    ensures exact { Answers meaning result (reading text.now) }
 {
     read_all(alloc, text)
 }
 
 fn read_all(alloc: Global, text: &[u8]) -> Result<Script, TextFault>
-    ensures { Answers result (reading text.now) }
+    ensures { Answers meaning result (reading text.now) }
 {
     if text.len() > MOST_BYTES {
         return Err(TextFault {
@@ -61,14 +61,7 @@ fn read_all(alloc: Global, text: &[u8]) -> Result<Script, TextFault>
     }
     match read_script(alloc, text) {
         Ok(script) => Ok(script),
-        Err(ReadError::Memory) => Err(TextFault {
-            kind: TextKind::Memory,
-            at: 0,
-        }),
-        Err(ReadError::Fault(fault)) => Err(TextFault {
-            kind: fault.kind,
-            at: text.len().saturating_sub(fault.left) as u32,
-        }),
+        Err(error) => Err(error.answered(text)),
     }
 }
 
@@ -138,8 +131,8 @@ fn last(bytes: &[u8]) -> Result<(), ReadError>
 
 /// The nodes as a code, which they are.
 fn checked(alloc: Global, nodes: Vec<Node>) -> Result<Code, ReadError>
-    requires { IsCode nodes.items }
-    ensures code { IfOk result (λ code. code ≡ nodes.items) }
+    requires { IsCode 0 nodes.items }
+    ensures code { IfOk result (λ code. code.nodes ≡ nodes.items) }
     ensures only_memory { IsOkUnless result ReadError.Memory }
 {
     match Code::build(alloc, nodes, 0) {

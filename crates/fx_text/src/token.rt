@@ -25,25 +25,25 @@ pub(crate) struct Lexeme<'a> {
     pub(crate) rest: &'a [u8],
 }
 
-fn is_space(b: u8) -> bool
+pub(crate) fn is_space(b: u8) -> bool
     ensures { result ≡ is_space b }
 {
     b == b' ' || b == b'\t' || b == b'\n' || b == b'\r'
 }
 
-fn is_digit(b: u8) -> bool
+pub(crate) fn is_digit(b: u8) -> bool
     ensures { result ≡ is_digit b }
 {
     b'0' <= b && b <= b'9'
 }
 
-fn is_letter_or_digit(b: u8) -> bool
+pub(crate) fn is_letter_or_digit(b: u8) -> bool
     ensures { result ≡ is_letter_or_digit b }
 {
     (b'a' <= b && b <= b'z') || is_digit(b)
 }
 
-fn after_spaces(bytes: &[u8]) -> &[u8]
+pub(crate) fn after_spaces(bytes: &[u8]) -> &[u8]
     ensures rest { result.now ≡ after_spaces bytes.now }
     ensures within { length result.now ≤ length bytes.now }
 {
@@ -66,7 +66,7 @@ fn word_len(bytes: &[u8]) -> usize
     bytes.iter().take_while(|b| is_letter_or_digit(**b)).count()
 }
 
-fn number(word: &[u8]) -> Token<'_>
+pub(crate) fn number(word: &[u8]) -> Token<'_>
     ensures { view_token result ≡ number word.now }
 {
     let mut value: u64 = 0;

@@ -1,16 +1,45 @@
 //! Runs of one fiber over a port that is requested at some look, and their traces, counted by hand from
 //! the table.
-ghost use Rattle.std.specs.Prelude.{◌≡◌, Some, is_some, if◌then◌else◌, ◌||◌, List, [], ◌∷◌, ◌++◌, map, option_to_list};
+ghost use Rattle.std.specs.Prelude.{◌≡◌, Some, None, is_some, ◌||◌, List};
 ghost use Rattle.fx_term.specs.declared.node.Node.{Node};
-ghost use Rattle.fx_fiber.specs.Deed.{Saw, Ended};
 
 use super::*;
 use crate::begin::main_begin;
-use fx_term::{Arg, Begin, CodeBrand, Node, NodeId, Outcome};
+use fx_term::{Arg, Begin, CodeBrand, Memory, Node, NodeId, Outcome};
 use std::cell::Cell;
 use std::marker::{Brand, PhantomData};
 use std::process::Abort;
 use std::test::Fail;
+
+macro_rules! pure {
+    ($n:expr) => { Node::Pure(Arg::Number($n)) };
+}
+
+macro_rules! raise {
+    ($e:expr) => { Node::Raise(Arg::Number($e)) };
+}
+
+macro_rules! seq {
+    ($first:expr, $then:expr) => { Node::Let(None, NodeId($first), NodeId($then)) };
+}
+
+macro_rules! mask {
+    ($slot:expr, $part:expr) => { Node::Mask($slot, NodeId($part)) };
+}
+
+macro_rules! poll {
+    ($slot:expr, $part:expr) => { Node::Poll($slot, NodeId($part)) };
+}
+
+macro_rules! on_cancel {
+    ($part:expr, $finalizer:expr) => { Node::OnCancel(NodeId($part), NodeId($finalizer)) };
+}
+
+macro_rules! bracket {
+    ($name:expr, $acquire:expr, $used:expr, $release:expr) => {
+        Node::Bracket($name, NodeId($acquire), NodeId($used), NodeId($release))
+    };
+}
 
 mod binding;
 mod leaves;
@@ -26,13 +55,36 @@ struct Looks {
     request: Option<u32>,
 }
 
-/// A port that answers one look at most with a request, and keeps the end that it was told.
+/// A port that answers one look at most with a request, and keeps the end that it was told. No other
+/// fiber takes a step, so none has ended, and none sees what is requested of it.
 #[derive(Drop)]
 struct TestPort<J: CodeBrand> {
+    alloc: Global,
+    id: u32,
     begin: Begin,
+    rest: u32,
     saw: bool,
     told: Option<Outcome>,
     of: PhantomData<J>,
+}
+
+impl<J: CodeBrand> TestPort<J> {
+    fn new(alloc: Global, id: u32, begin: Begin) -> TestPort<J>
+        ensures id { result.id ≡ id }
+        ensures begin { result.begin ≡ begin }
+        ensures rest { result.rest ≡ begin.next }
+        ensures going { result.told ≡ None }
+    {
+        TestPort {
+            alloc,
+            id,
+            rest: begin.next,
+            begin,
+            saw: false,
+            told: None,
+            of: PhantomData,
+        }
+    }
 }
 
 impl<J: CodeBrand> Port for TestPort<J> {
@@ -40,20 +92,23 @@ impl<J: CodeBrand> Port for TestPort<J> {
 
     ghost code = { J.nodes };
 
-    ghost number = { λ _. 0 };
+    ghost number = { λ p. p.id };
 
     ghost beginning = { λ p. p.begin };
 
     ghost has_finished = { λ p. is_some p.told };
 
-    ghost agrees = { λ p deeds. deeds ≡ (if p.saw then Saw ∷ [] else []) ++ map Ended (option_to_list p.told) };
+    ghost agrees = { λ p deeds. Unit {0} };
 
     ghost calls = { record {
       looks = λ p s answer p' s'. (p' ≡ record p { saw = answer || p.saw }) × (s' ≡ s);
+      requests = λ p s id p' s'. (p' ≡ p) × (s' ≡ s);
+      peeks = λ p s id answer p' s'. (answer ≡ None) × (p' ≡ p) × (s' ≡ s);
+      starts = λ p s id begin child p' s'. (child.begin ≡ begin) × (p' ≡ record p { rest = begin.end }) × (s' ≡ s);
       finishes = λ p s outcome p' s'. (p' ≡ record p { told = Some outcome }) × (s' ≡ s);
     } };
 
-    ghost rest = { λ p. record { next = p.begin.next; end = p.begin.end } };
+    ghost rest = { λ p. record { next = p.rest; end = p.begin.end } };
 
     fn look(&mut self, looks: &mut Looks) -> bool {
         let number = looks.made.get().saturating_add(1);
@@ -65,8 +120,40 @@ impl<J: CodeBrand> Port for TestPort<J> {
         true
     }
 
+    fn request(&mut self, _looks: &mut Looks, _id: u32) {}
+
+    fn peek(&mut self, _looks: &mut Looks, _id: u32) -> Option<Outcome> {
+        None
+    }
+
+    fn start(&mut self, _looks: &mut Looks, id: u32, begin: &Begin) -> Result<Self, Memory> {
+        let child = TestPort::new(self.alloc, id, begin.copied(self.alloc)?);
+        self.rest = begin.end;
+        Ok(child)
+    }
+
     fn finish(&mut self, looks: &mut Looks, outcome: Outcome) {
         self.told = Some(outcome);
+    }
+}
+
+/// What a step answered, without the fiber that it started.
+#[derive(Clone, Copy, PartialEq, Eq, Debug)]
+enum Answer {
+    Went,
+    Child,
+    Waits,
+    Gave,
+    Ended,
+}
+
+fn answer_of<P: Port>(stepped: &Stepped<P>) -> Answer {
+    match stepped {
+        Stepped::Went => Answer::Went,
+        Stepped::Child(_) => Answer::Child,
+        Stepped::Waits => Answer::Waits,
+        Stepped::Gave => Answer::Gave,
+        Stepped::Ended => Answer::Ended,
     }
 }
 
@@ -74,12 +161,30 @@ impl<J: CodeBrand> Port for TestPort<J> {
 #[derive(Drop)]
 struct Ran {
     id: u32,
-    answers: Vec<Stepped>,
+    answers: Vec<Answer>,
     trace: Vec<Event>,
     told: Option<Outcome>,
     looks: u32,
     had_ended_first: bool,
     has_ended: bool,
+}
+
+impl Ran {
+    /// Whether the main fiber made these events, with so many looks, and had not ended before.
+    fn has(&self, trace: &[Event], looks: u32) -> bool {
+        self.id == 0
+            && !self.had_ended_first
+            && self.looks == looks
+            && self.trace.as_slice() == trace
+    }
+
+    /// Whether the fiber has ended, and told its port so as its last event says.
+    fn told_its_end(&self) -> bool {
+        match (self.told, self.trace.last()) {
+            (Some(outcome), Some(last)) => self.has_ended && *last == Event::Ended(outcome),
+            _ => false,
+        }
+    }
 }
 
 /// Runs the main fiber of a code for so many steps at most.
@@ -89,18 +194,13 @@ fn drive<J: CodeBrand>(
     request: Option<u32>,
     steps: u32,
 ) -> Result<Ran, Fail>
-    requires { code.now ≡ J.nodes }
+    requires { code.now.nodes ≡ J.nodes }
 {
     let mut looks = Looks {
         made: Cell::new(0),
         request,
     };
-    let port: TestPort<J> = TestPort {
-        begin: main_begin(alloc, code),
-        saw: false,
-        told: None,
-        of: PhantomData,
-    };
+    let port: TestPort<J> = TestPort::new(alloc, 0, main_begin(alloc, code));
     let mut fiber = Fiber::new(alloc, code, port)?;
     let had_ended_first = fiber.has_ended();
     let mut answers = Vec::new(alloc);
@@ -108,13 +208,13 @@ fn drive<J: CodeBrand>(
         if fiber.has_ended() {
             break;
         }
-        answers.push(fiber.step(code, &mut looks)?)?;
+        answers.push(answer_of(&fiber.step(code, &mut looks)?))?;
     }
     Ok(Ran {
         id: fiber.id(),
         answers,
         trace: Vec::from_slice(alloc, fiber.trace())?,
-        told: fiber.state.port.told,
+        told: fiber.port.told,
         looks: looks.made.get(),
         had_ended_first,
         has_ended: fiber.has_ended(),
@@ -136,46 +236,9 @@ type Row<'a> = (&'a str, &'a [Node], Option<u32>, &'a [Event], u32);
 fn assert_runs(rt: &impl Abort, alloc: Global, rows: &[Row]) -> Result<(), Fail> {
     for &(row, nodes, request, trace, looks) in rows {
         let ran = run(alloc, nodes, request, 100)?;
-        assert_eq!(rt; ran.id, 0, "{row}");
-        assert_eq!(rt; ran.had_ended_first, false, "{row}");
-        assert_eq!(rt; ran.trace.as_slice(), trace, "{row}");
-        assert_eq!(rt; ran.has_ended, true, "{row}");
-        assert_eq!(rt;
-            ran.told.map(|outcome| Event::Ended(outcome)),
-            trace.last().copied(),
-            "{row}"
-        );
-        assert_eq!(rt; ran.looks, looks, "{row}");
+        assert!(rt; ran.has(trace, looks) && ran.told_its_end(), "{row}");
     }
     Ok(())
-}
-
-fn pure(n: u64) -> Node {
-    Node::Pure(Arg::Number(n))
-}
-
-fn raise(e: u64) -> Node {
-    Node::Raise(Arg::Number(e))
-}
-
-fn seq(first: u32, then: u32) -> Node {
-    Node::Let(None, NodeId(first), NodeId(then))
-}
-
-fn mask(slot: u32, part: u32) -> Node {
-    Node::Mask(slot, NodeId(part))
-}
-
-fn poll(slot: u32, part: u32) -> Node {
-    Node::Poll(slot, NodeId(part))
-}
-
-fn on_cancel(part: u32, finalizer: u32) -> Node {
-    Node::OnCancel(NodeId(part), NodeId(finalizer))
-}
-
-fn bracket(name: Option<u32>, acquire: u32, used: u32, release: u32) -> Node {
-    Node::Bracket(name, NodeId(acquire), NodeId(used), NodeId(release))
 }
 
 const CANCELED: Node = Node::Canceled;

@@ -53,11 +53,12 @@ pub fn uncancelable_cancels_associated_finalizer()
 /// that is seen: seen before the term is entered, it leaves out the finalizers that stand round the
 /// first leaf of the term.
 pub fn force_after_pure_is_identity()
-    ensures same { (n : ℕ) (t : Term) → ShowTheSameUnlessSeenFirst (forced_after (Pure (Number n)) t) t }
+    ensures same { (n : ℕ) (t : Term)
+        → ShowTheSameUnlessSeenFirst (forced_after (Pure (Number n)) t) t }
     ensures all { (n : ℕ) (t : Term) → ShowsAllOf (forced_after (Pure (Number n)) t) t }
 {}
 
 /// The term of a code is plain, as is each part of it, so the other laws speak of what scripts have.
 pub fn code_is_plain()
-    ensures { (nodes : List Node) → IsCode nodes → IsPlain (root_term nodes) }
+    ensures { (queues : ℕ) (nodes : List Node) → IsCode queues nodes → IsPlain (root_term nodes) }
 {}

@@ -17,6 +17,7 @@ pub fn ended_report_holds()
 /// In each lawful report the trace of a fiber that has ended is so, whether the others have ended or
 /// wait for good.
 pub fn ended_fiber_holds()
-    ensures { (s : ScriptView) (may : ℕ → Bool) (r : ReportView) → IsCore s.term → IsLawfulReport s may r
-        → (f : ℕ) (x : FiberReportView) → fiber_in r f ≡ Some x → x.has_ended ≡ true → EndsBalanced x.trace }
+    ensures { (s : ScriptView) (may : ℕ → Bool) (r : ReportView) → IsCore s.term
+        → IsLawfulReport s may r → (f : ℕ) (x : FiberReportView) → fiber_in r f ≡ Some x
+        → x.has_ended ≡ true → EndsBalanced x.trace }
 {}

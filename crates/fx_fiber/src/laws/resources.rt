@@ -1,5 +1,5 @@
 //! Laws of what a fiber acquires and releases. A function here does nothing: its contract is the law.
-ghost use Rattle.std.specs.Prelude.{◌≡◌, List};
+ghost use Rattle.std.specs.Prelude.{◌≡◌, ℕ, List};
 ghost use Rattle.std.specs.List.{range_with_len};
 ghost use Rattle.fx_term.specs.declared.node.Node.{Node};
 ghost use Rattle.fx_term.specs.declared.outcome.Outcome.{Outcome};
@@ -14,7 +14,7 @@ ghost use Rattle.fx_fiber.specs.Balanced.{acquired_numbers, IsBalanced, IsBalanc
 
 /// The term of a code is core, so the law below holds of the main fiber of each code.
 pub fn code_is_core()
-    ensures { (nodes : List Node) → IsCode nodes → IsCore (root_term nodes) }
+    ensures { (queues : ℕ) (nodes : List Node) → IsCode queues nodes → IsCore (root_term nodes) }
 {}
 
 /// A fiber that began at a core term and has ended has released what it acquired, each once and

@@ -10,10 +10,12 @@ ghost use Rattle.fx_fiber.specs.Scopes.{IsScopedOver, IsProgressScopedOver, Star
 /// terms. It joins, cancels and awaits only fibers whose numbers were given to it: in the term that it
 /// began with, or as the numbers of its range that it has taken since. So do the fibers that it starts.
 pub fn running_terms_stay_scoped()
-    ensures term { (is_given : ℕ → Bool) (b : Origin) (labels : List Label) (d : Counts) (q : Progress)
-        → IsScopedOver is_given b.term → ((f : ℕ) → b.next ≤ f → f < d.next → is_given f ≡ true)
+    ensures term { (is_given : ℕ → Bool) (b : Origin) (labels : List Label) (d : Counts)
+        (q : Progress) → IsScopedOver is_given b.term
+        → ((f : ℕ) → b.next ≤ f → f < d.next → is_given f ≡ true)
         → IsRun b labels d q → IsProgressScopedOver is_given q }
-    ensures children { (is_given : ℕ → Bool) (b : Origin) (labels : List Label) (d : Counts) (q : Progress)
-        → IsScopedOver is_given b.term → ((f : ℕ) → b.next ≤ f → f < d.next → is_given f ≡ true)
+    ensures children { (is_given : ℕ → Bool) (b : Origin) (labels : List Label) (d : Counts)
+        (q : Progress) → IsScopedOver is_given b.term
+        → ((f : ℕ) → b.next ≤ f → f < d.next → is_given f ≡ true)
         → IsRun b labels d q → All (StartsScopedOver is_given) labels }
 {}

@@ -3,11 +3,11 @@ ghost use Rattle.std.specs.Prelude.{◌≡◌, ℕ};
 ghost use Rattle.fx_fiber.specs.Row.{Counts};
 ghost use Rattle.fx_fiber.specs.Step.{Progress};
 ghost use Rattle.fx_fiber.specs.Outside.{Outside, can_step};
-ghost use Rattle.fx_fiber.specs.Waiting.{Wait};
+ghost use Rattle.fx_fiber.specs.declared.source.Source.{Source};
 ghost use Rattle.fx_fiber.specs.WaitsFor.{has_come, IsWaiting};
 
 /// A fiber that waits can step exactly where what it waits for has come.
 pub fn waits_until_it_has_come()
-    ensures { (o : Outside) (f : ℕ) (c : Counts) (p : Progress) (w : Wait)
+    ensures { (o : Outside) (f : ℕ) (c : Counts) (p : Progress) (w : Source)
         → IsWaiting (o.is_requested f) c p w → can_step o f c p ≡ has_come o w }
 {}

@@ -2,11 +2,15 @@
 ghost use Rattle.std.specs.Prelude.{◌≡◌, ◌^◌, ◌<◌, Some, [], IfOk, OnErr};
 ghost use Rattle.fx_term.specs.declared.node.Node.TheVariants as node;
 ghost use Rattle.fx_fiber.specs.Methods.{MakesRule, Interrupts, IsSame, StandsAt, IsBeforeTurn, ReturnsInto};
-ghost use Rattle.fx_fiber.specs.Methods.{ReturnsOut, IsReturning, IsLeafNode, IsInterrupted};
+ghost use Rattle.fx_fiber.specs.Methods.{ReturnsOut, IsReturning, IsLeafNode, IsLocalLeaf, IsInterrupted, MakesCall};
+ghost use Rattle.fx_fiber.specs.Fiber.{is_fiber_number};
+ghost use Rattle.fx_fiber.specs.Scopes.{IsProgressScopedOver};
+ghost use Rattle.fx_fiber.specs.Machine.{progress_of};
 
 use crate::machine::Machine;
 use crate::machine::interruption::Interruption;
 use crate::machine::made::Made;
+use crate::port::Port;
 use fx_frames::Frame;
 use fx_term::{Arg, Code, Done, Memory, Node, NodeId};
 
@@ -14,28 +18,64 @@ impl Machine {
     ghost use Rattle.std.specs.Prelude.{List, slice_get};
     ghost use Rattle.fx_term.specs.declared.node.Node.{Node};
 
-    /// The row of a leaf; at `never` there is none.
-    pub fn leaf_rule(&mut self, id: NodeId, node: Node) -> Result<Made, Memory>
+    /// The row of a leaf, or none where the fiber waits.
+    pub fn leaf_rule<P: Port>(
+        &mut self,
+        port: &mut P,
+        shared: &mut P::Shared,
+        id: NodeId,
+        node: &Node,
+    ) -> Result<Made, Memory>
+        requires at { StandsAt P.code self.old id node.now }
+        requires leaf { IsLeafNode (Some node.now) }
+        requires countable { self.old.masks.entries < 2 ^ 63 }
+        requires scoped { IsProgressScopedOver is_fiber_number (progress_of P.code self.old) }
+        ensures ok { IfOk result (λ made. MakesCall P.calls P.agrees P.code
+            self.old port.old shared.old made self.new port.new shared.new) }
+        ensures same { OnErr result (IsSame P.code self.old self.new) }
+        ensures unchanged { OnErr result ((port.new ≡ port.old) × (shared.new ≡ shared.old)) }
+        ensures number { P.number port.new ≡ P.number port.old }
+        ensures beginning { P.beginning port.new ≡ P.beginning port.old }
+        ensures rest { P.rest port.new ≡ P.rest port.old }
+        ensures finished { P.has_finished port.new ≡ P.has_finished port.old }
+    {
+        match *node {
+            Node::Never => Ok(Made::Waits),
+            Node::Start(slot, started, then) => Ok(Made::Starts(slot, started, then)),
+            Node::Join(..) => self.join(port, shared, id, node),
+            Node::Cancel(fiber) => Ok(self.request(port, shared, fiber)),
+            Node::First(left, right) => Ok(self.first(port, shared, left, right)),
+            _ => self.local_rule(id, node),
+        }
+    }
+
+    /// The row of a leaf for which the port is not asked.
+    fn local_rule(&mut self, id: NodeId, node: &Node) -> Result<Made, Memory>
         ghost nodes: { List Node }
-        requires at { StandsAt nodes self.old id node }
-        requires leaf { IsLeafNode (Some node) }
+        requires at { StandsAt nodes self.old id node.now }
+        requires leaf { IsLocalLeaf node.now }
         requires countable { self.old.masks.entries < 2 ^ 63 }
         ensures ok { IfOk result (λ made. MakesRule nodes self.old made self.new) }
         ensures err { OnErr result (IsSame nodes self.old self.new) }
     {
-        match node {
+        match *node {
             Node::Pure(value) => Ok(self.pure(value)),
             Node::Raise(error) => Ok(self.raise(error)),
             Node::Canceled => Ok(self.self_request()),
-            Node::Never => Ok(Made::Waits),
             Node::Cede => Ok(self.cede()),
             Node::If(value, part, other) => Ok(self.if_rule(value, part, other)),
             Node::For(..) => Ok(self.for_begins(id)),
             Node::Mask(name, part) => self.mask(name, part),
             Node::Poll(name, part) => self.poll(name, part),
-            Node::Let(..) | Node::Handle(..) | Node::OnCancel(..) | Node::Bracket(..) => {
-                unreachable!()
-            }
+            Node::Never
+            | Node::Let(..)
+            | Node::Handle(..)
+            | Node::OnCancel(..)
+            | Node::Bracket(..)
+            | Node::Start(..)
+            | Node::Join(..)
+            | Node::Cancel(_)
+            | Node::First(..) => { unreachable!() }
         }
     }
 
@@ -53,13 +93,13 @@ impl Machine {
     }
 
     /// The row of a loop: a turn, or its end.
-    pub fn turn_rule(&mut self, id: NodeId, turn: u32, node: Node) -> Result<Made, Memory>
+    pub fn turn_rule(&mut self, id: NodeId, turn: u32, node: &Node) -> Result<Made, Memory>
         ghost nodes: { List Node }
-        requires at { IsBeforeTurn nodes self.old id turn node }
+        requires at { IsBeforeTurn nodes self.old id turn node.now }
         ensures ok { IfOk result (λ made. MakesRule nodes self.old made self.new) }
         ensures err { OnErr result (IsSame nodes self.old self.new) }
     {
-        let Node::For(name, count, part) = node else {
+        let Node::For(name, count, part) = *node else {
             unreachable!();
         };
         if turn < count {
@@ -72,40 +112,40 @@ impl Machine {
     /// The row of a result in its context, and the ends.
     pub fn result_rule(&mut self, code: &Code, done: Done) -> Result<Made, Memory>
         ghost nodes: { List Node }
-        requires code { code.now ≡ nodes }
+        requires code { code.now.nodes ≡ nodes }
         requires given { IsReturning nodes self.old done }
         requires countable { self.old.acquired < 2 ^ 63 }
         ensures ok { IfOk result (λ made. MakesRule nodes self.old made self.new) }
         ensures err { OnErr result (IsSame nodes self.old self.new) }
     {
         match (self.frames.last(), done) {
-            (Some(Frame::Let(name, b)), Done::Val(n)) => self.let_value(name, b, n),
-            (Some(Frame::Let(..)), Done::Err(_)) => Ok(self.let_error()),
-            (Some(Frame::Handle(..)), Done::Val(_)) => Ok(self.handle_value()),
-            (Some(Frame::Handle(name, b)), Done::Err(e)) => self.handle_error(name, b, e),
-            (Some(Frame::OnCancel(_)), _) => Ok(self.oncancel_ends()),
-            (Some(Frame::Masked), _) => Ok(self.masked_ends()),
-            (Some(Frame::Opened(r, took_off)), _) => Ok(self.opened_ends(r, took_off)),
-            (Some(Frame::Loop(id, turn)), Done::Val(_)) => Ok(self.turn_value(id, turn)),
-            (Some(Frame::Loop(..)), Done::Err(_)) => Ok(self.turn_error()),
-            (Some(Frame::Acquire(id)), Done::Val(n)) => self.acquire_rule(id, code.node(id), n),
-            (Some(Frame::Acquire(_)), Done::Err(_)) => Ok(self.acquire_fails()),
-            (Some(Frame::Using(k, release)), done) => self.used(k, release, done),
-            (Some(Frame::Releasing(k, result)), done) => Ok(self.released(k, result, done)),
+            (Some(&Frame::Let(name, b)), Done::Val(n)) => self.let_value(name, b, n),
+            (Some(&Frame::Let(..)), Done::Err(_)) => Ok(self.let_error()),
+            (Some(&Frame::Handle(..)), Done::Val(_)) => Ok(self.handle_value()),
+            (Some(&Frame::Handle(name, b)), Done::Err(e)) => self.handle_error(name, b, e),
+            (Some(&Frame::OnCancel(_)), _) => Ok(self.oncancel_ends()),
+            (Some(&Frame::Masked), _) => Ok(self.masked_ends()),
+            (Some(&Frame::Opened(r, took_off)), _) => Ok(self.opened_ends(r, took_off)),
+            (Some(&Frame::Loop(id, turn)), Done::Val(_)) => Ok(self.turn_value(id, turn)),
+            (Some(&Frame::Loop(..)), Done::Err(_)) => Ok(self.turn_error()),
+            (Some(&Frame::Acquire(id)), Done::Val(n)) => self.acquire_rule(id, code.node(id), n),
+            (Some(&Frame::Acquire(_)), Done::Err(_)) => Ok(self.acquire_fails()),
+            (Some(&Frame::Using(k, release)), done) => self.used(k, release, done),
+            (Some(&Frame::Releasing(k, result)), done) => Ok(self.released(k, result, done)),
             (None, done) => Ok(self.end_rule(done)),
         }
     }
 
     /// The row of a value in the acquire part of a bracket.
-    fn acquire_rule(&mut self, id: NodeId, node: Node, n: u64) -> Result<Made, Memory>
+    fn acquire_rule(&mut self, id: NodeId, node: &Node, n: u64) -> Result<Made, Memory>
         ghost nodes: { List Node }
         requires inside { ReturnsInto nodes self.old (Frame.Acquire id) (Done.Val n) }
-        requires node { slice_get nodes id.0 ≡ Some node }
+        requires node { slice_get nodes id.0 ≡ Some node.now }
         requires countable { self.old.acquired < 2 ^ 63 }
         ensures ok { IfOk result (λ made. MakesRule nodes self.old made self.new) }
         ensures err { OnErr result (IsSame nodes self.old self.new) }
     {
-        let Node::Bracket(name, _, use_part, release) = node else {
+        let Node::Bracket(name, _, use_part, release) = *node else {
             unreachable!();
         };
         self.acquired(name, use_part, release, n)

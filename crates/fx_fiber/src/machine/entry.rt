@@ -6,10 +6,10 @@ use fx_frames::Frame;
 use fx_term::{Node, NodeId};
 
 /// The context that is entered at this node, and the part that stands in it. A leaf has none.
-pub(crate) fn entry_of(id: NodeId, node: Node) -> Option<(Frame, NodeId)>
-    ensures { MatchOption result (IsLeafNode (Some node)) (λ entry. IsEntryOf id node entry.0 entry.1) }
+pub(crate) fn entry_of(id: NodeId, node: &Node) -> Option<(Frame, NodeId)>
+    ensures { MatchOption result (IsLeafNode (Some node.now)) (λ entry. IsEntryOf id node.now entry.0 entry.1) }
 {
-    match node {
+    match *node {
         Node::Let(name, first, second) => Some((Frame::Let(name, second), first)),
         Node::Handle(first, name, handler) => Some((Frame::Handle(name, handler), first)),
         Node::OnCancel(first, finalizer) => Some((Frame::OnCancel(finalizer), first)),
@@ -22,13 +22,17 @@ pub(crate) fn entry_of(id: NodeId, node: Node) -> Option<(Frame, NodeId)>
         | Node::If(..)
         | Node::For(..)
         | Node::Mask(..)
-        | Node::Poll(..) => None,
+        | Node::Poll(..)
+        | Node::Start(..)
+        | Node::Join(..)
+        | Node::Cancel(_)
+        | Node::First(..) => None,
     }
 }
 
 /// Whether the node is `canceled`.
-pub(crate) fn is_canceled(node: Node) -> bool
-    ensures { result ≡ is_canceled_node node }
+pub(crate) fn is_canceled(node: &Node) -> bool
+    ensures { result ≡ is_canceled_node node.now }
 {
     matches!(node, Node::Canceled)
 }

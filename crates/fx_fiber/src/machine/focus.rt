@@ -11,6 +11,8 @@ pub enum Focus {
     Return(Done),
     /// The loop of the `for` of this node, before its turn of this number.
     Turn(NodeId, u32),
+    /// The fiber canceled the one of this number, and waits until that has ended. The place is sealed.
+    Await(u32),
     /// The fiber was canceled, and is between two clean-ups.
     Unwinding,
     /// The fiber has ended so.

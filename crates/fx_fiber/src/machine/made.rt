@@ -1,6 +1,6 @@
 //! What was made in one step.
 
-use fx_term::Event;
+use fx_term::{Event, NodeId, Outcome};
 
 /// Which rule was made, by what it shows.
 #[derive(Clone, Copy, PartialEq, Eq, Debug)]
@@ -11,6 +11,11 @@ pub(crate) enum Made {
     Yielded,
     /// One that shows this event.
     Shows(Event),
+    /// One for which the fiber of this number had to have ended, and had ended so; it shows this event.
+    Learns(u32, Outcome, Event),
     /// None: the fiber waits.
     Waits,
+    /// None yet: a `start` stands here, with the slot of its name, the part that its fiber runs, and the
+    /// one that goes on. Its rule makes the fiber, over a port of its own.
+    Starts(u32, NodeId, NodeId),
 }

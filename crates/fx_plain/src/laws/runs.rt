@@ -39,7 +39,8 @@ pub fn what_steps_can_step()
 
 /// The picks choose one run.
 pub fn picks_choose_one_run()
-    ensures { (s : ScriptView) (ps : List Pick) (moves moves' : List Move) (last last' : WholeMachine)
+    ensures { (s : ScriptView) (ps : List Pick) (moves moves' : List Move)
+        (last last' : WholeMachine)
         → IsChosen s ps (opening s) moves last → IsChosen s ps (opening s) moves' last'
         → (moves ≡ moves') × (last ≡ last') }
 {}

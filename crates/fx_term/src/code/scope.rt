@@ -1,6 +1,7 @@
 //! Which names are right at a node: which are in scope there, and what they stand for.
-ghost use Rattle.std.specs.Prelude.{◌↔◌, Some, slice_get, length, IsTrue};
+ghost use Rattle.std.specs.Prelude.{◌≡◌, ◌↔◌, Some, slice_get, IsTrue};
 ghost use Rattle.fx_term.specs.Scope.{IsArgBelow, IsArgOf, IsBinderAt};
+ghost use Rattle.fx_term.specs.Pending.{seen_past};
 ghost use Rattle.fx_term.specs.WellPlaced.{HasRightSlots, HasRightKinds};
 
 use crate::code::signature::Use;
@@ -27,36 +28,45 @@ fn is_next(binder: Option<u32>, names: usize) -> bool
     }
 }
 
-/// Are the slots of this node right where names of these kinds are in scope?
-pub(crate) fn has_right_slots(node: Node, kinds: &[NameKind]) -> bool
-    ensures { IsTrue result ↔ HasRightSlots kinds.now (Some node) }
+/// Are the slots of this node right where so many names are in scope?
+pub(crate) fn has_right_slots(node: Node, names: usize) -> bool
+    ensures { IsTrue result ↔ HasRightSlots names (Some node) }
 {
-    let names = kinds.len();
     let uses = node.uses();
     let parts = node.parts();
     uses.iter().all(|entry| entry.is_none_or(|used| is_in_scope(used.arg, names)))
         && parts.iter().all(|entry| entry.is_none_or(|part| is_next(part.binder, names)))
 }
 
+/// What the name of this slot stands for in a fiber, where names of these kinds are in scope, so
+/// many of them, the outermost ones, outside of the fiber.
+#[tactic(auto, using(crate::proofs::SeenLaws::get_foreign, crate::proofs::SeenLaws::get_own))]
+fn kind_of(slot: u32, kinds: &[NameKind], foreign: usize) -> Option<NameKind>
+    ensures { result ≡ slice_get (seen_past foreign kinds.now) slot }
+{
+    let kind = *kinds.get(slot as usize)?;
+    if (slot as usize) < foreign {
+        return Some(kind.elsewhere());
+    }
+    Some(kind)
+}
+
 /// Is it a number, or a name of the kind that it is used as?
-fn is_of_kind(used: Use, kinds: &[NameKind]) -> bool
-    ensures { IsTrue result ↔ IsArgOf used.kind (λ x. slice_get kinds.now x) used.arg }
+fn is_of_kind(used: Use, kinds: &[NameKind], foreign: usize) -> bool
+    ensures { IsTrue result ↔ IsArgOf used.kind
+        (λ x. slice_get (seen_past foreign kinds.now) x) used.arg }
 {
     match used.arg {
         Arg::Number(_) => true,
-        Arg::Slot(slot) => match kinds.get(slot as usize) {
-            None => false,
-            Some(kind) => *kind == used.kind,
-        },
+        Arg::Slot(slot) => kind_of(slot, kinds, foreign) == Some(used.kind),
     }
 }
 
 /// Is each name that this node uses of the kind that it uses it as, where names of these kinds are
-/// in scope?
-pub(crate) fn has_right_kinds(node: Node, kinds: &[NameKind]) -> bool
-    ensures { IsTrue result ↔ HasRightKinds kinds.now (Some node) }
+/// in scope, so many of them, the outermost ones, outside of its fiber?
+pub(crate) fn has_right_kinds(node: Node, kinds: &[NameKind], foreign: usize) -> bool
+    ensures { IsTrue result ↔ HasRightKinds (seen_past foreign kinds.now) (Some node) }
 {
     let uses = node.uses();
-    uses.iter()
-        .all(|entry| entry.is_none_or(|used| is_of_kind(used, kinds)))
+    uses.iter().all(|entry| entry.is_none_or(|used| is_of_kind(used, kinds, foreign)))
 }

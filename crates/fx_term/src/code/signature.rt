@@ -1,7 +1,7 @@
-//! The binding signature of each form: the names that a node uses, and its parts in the order of the
-//! text, each with what is bound in it. Every test of a code goes over these two tables.
+//! The signature of each form: the names that a node uses; its parts in the order of the text, each
+//! with what is bound in it; and how many of them it runs. Every test of a code goes over these tables.
 ghost use Rattle.std.specs.Prelude.{◌≡◌, Some};
-ghost use Rattle.fx_term.specs.Signature.{uses, parts, present, use_as, plain, part_under, repeated};
+ghost use Rattle.fx_term.specs.Signature.{uses, parts, running, present, use_as, slot_as, plain, part_under, repeated, started};
 
 use crate::name_kind::NameKind;
 use crate::node::{Arg, Node, NodeId};
@@ -24,6 +24,17 @@ pub(crate) struct Part {
     pub kind: NameKind,
     /// The count of the loop that repeats it, if one does.
     pub count: Option<u32>,
+    /// Does it run in another fiber than its node?
+    pub elsewhere: bool,
+}
+
+/// Which of its parts a node runs.
+#[derive(Clone, Copy)]
+pub(crate) enum Running {
+    /// Each of them may be run.
+    EachPart,
+    /// One of them is.
+    OnePart,
 }
 
 /// A number, or a name that is to stand for this.
@@ -31,6 +42,13 @@ fn use_as(kind: NameKind, arg: Arg) -> Option<Use>
     ensures { result ≡ Some (use_as kind arg) }
 {
     Some(Use { arg, kind })
+}
+
+/// A name, which is to stand for this.
+fn slot_as(kind: NameKind, slot: u32) -> Option<Use>
+    ensures { result ≡ Some (slot_as kind slot) }
+{
+    use_as(kind, Arg::Slot(slot))
 }
 
 /// A part in which nothing is bound.
@@ -49,6 +67,7 @@ fn part_under(binder: Option<u32>, kind: NameKind, node: NodeId) -> Option<Part>
         binder,
         kind,
         count: None,
+        elsewhere: false,
     })
 }
 
@@ -61,17 +80,33 @@ fn repeated(slot: u32, count: u32, node: NodeId) -> Option<Part>
         binder: Some(slot),
         kind: NameKind::Value,
         count: Some(count),
+        elsewhere: false,
+    })
+}
+
+/// A part that runs in another fiber.
+fn started(node: NodeId) -> Option<Part>
+    ensures { result ≡ Some (started node) }
+{
+    Some(Part {
+        node,
+        binder: None,
+        kind: NameKind::Value,
+        count: None,
+        elsewhere: true,
     })
 }
 
 impl Node {
     /// The names that it uses.
-    pub(crate) fn uses(self) -> [Option<Use>; 1]
+    pub(crate) fn uses(self) -> [Option<Use>; 2]
         ensures { present result ≡ uses self }
     {
         match self {
-            Node::Pure(v) | Node::Raise(v) | Node::If(v, ..) => [use_as(NameKind::Value, v)],
-            Node::Poll(p, _) => [use_as(NameKind::Poll, Arg::Slot(p))],
+            Node::Pure(v) | Node::Raise(v) | Node::If(v, ..) => [use_as(NameKind::Value, v), None],
+            Node::Poll(p, _) => [slot_as(NameKind::Poll, p), None],
+            Node::Join(f, ..) | Node::Cancel(f) => [slot_as(NameKind::Fiber, f), None],
+            Node::First(f, g) => [slot_as(NameKind::Fiber, f), slot_as(NameKind::Fiber, g)],
             Node::Canceled
             | Node::Never
             | Node::Cede
@@ -80,7 +115,8 @@ impl Node {
             | Node::For(..)
             | Node::Mask(..)
             | Node::OnCancel(..)
-            | Node::Bracket(..) => [None],
+            | Node::Bracket(..)
+            | Node::Start(..) => [None, None],
         }
     }
 
@@ -89,9 +125,13 @@ impl Node {
         ensures { present result ≡ parts self }
     {
         match self {
-            Node::Pure(_) | Node::Raise(_) | Node::Canceled | Node::Never | Node::Cede => {
-                [None, None, None]
-            }
+            Node::Pure(_)
+            | Node::Raise(_)
+            | Node::Canceled
+            | Node::Never
+            | Node::Cede
+            | Node::Cancel(_)
+            | Node::First(..) => [None, None, None],
             Node::Let(x, a, b) | Node::Handle(a, x, b) => {
                 [plain(a), part_under(x, NameKind::Value, b), None]
             }
@@ -104,6 +144,36 @@ impl Node {
                 part_under(x, NameKind::Value, used),
                 part_under(x, NameKind::Value, release),
             ],
+            Node::Start(h, a, b) => [started(a), part_under(Some(h), NameKind::Fiber, b), None],
+            Node::Join(_, x, a, e, b, c) => [
+                part_under(Some(x), NameKind::Value, a),
+                part_under(Some(e), NameKind::Value, b),
+                plain(c),
+            ],
+        }
+    }
+
+    /// Which of its parts it runs.
+    pub(crate) fn running(self) -> Running
+        ensures { result ≡ running self }
+    {
+        match self {
+            Node::If(..) | Node::Join(..) => Running::OnePart,
+            Node::Pure(_)
+            | Node::Raise(_)
+            | Node::Canceled
+            | Node::Never
+            | Node::Cede
+            | Node::Let(..)
+            | Node::Handle(..)
+            | Node::For(..)
+            | Node::Mask(..)
+            | Node::Poll(..)
+            | Node::OnCancel(..)
+            | Node::Bracket(..)
+            | Node::Start(..)
+            | Node::Cancel(_)
+            | Node::First(..) => Running::EachPart,
         }
     }
 }

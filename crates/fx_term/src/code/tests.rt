@@ -1,6 +1,9 @@
 //! Codes and their first faults, from nodes made by hand.
 ghost use Rattle.std.specs.Prelude.{◌≡◌, length, IfOk};
 
+mod fibers;
+mod needs;
+
 use super::*;
 use crate::node::Arg;
 use std::test::Fail;
@@ -51,6 +54,22 @@ fn bracket(slot: u32, acquire: u32, used: u32, release: u32) -> Node {
     Node::Bracket(Some(slot), NodeId(acquire), NodeId(used), NodeId(release))
 }
 
+fn start(slot: u32, started: u32, then: u32) -> Node {
+    Node::Start(slot, NodeId(started), NodeId(then))
+}
+
+/// A join of the fiber of slot 0, the one name in scope.
+fn join(succeeded: u32, errored: u32, canceled: u32) -> Node {
+    Node::Join(
+        0,
+        1,
+        NodeId(succeeded),
+        1,
+        NodeId(errored),
+        NodeId(canceled),
+    )
+}
+
 fn child(id: u32) -> CodeFault {
     CodeFault::Child(NodeId(id))
 }
@@ -68,7 +87,7 @@ fn limit(id: u32) -> CodeFault {
 }
 
 fn built(alloc: Global, nodes: &[Node]) -> Result<Code, CodeFault>
-    ensures { IfOk result (λ code. length code ≡ length nodes.now) }
+    ensures { IfOk result (λ code. length code.nodes ≡ length nodes.now) }
 {
     Code::build(alloc, Vec::from_slice(alloc, nodes)?, 0)
 }
@@ -534,7 +553,7 @@ fn keeps_the_nodes(rt: HostRuntime) -> Result<(), Fail> {
         assert_eq!(rt; code.len() as usize, nodes.len());
         assert_eq!(rt; code.root().0 as usize, nodes.len() - 1);
         for id in 0..code.len() {
-            assert_eq!(rt; code.node(NodeId(id)), nodes[id as usize], "node {id}");
+            assert_eq!(rt; *code.node(NodeId(id)), nodes[id as usize], "node {id}");
         }
     }
     Ok(())
@@ -588,7 +607,7 @@ fn says_what_is_wrong(rt: HostRuntime) -> Result<(), Fail> {
         (
             limit(6),
             5,
-            "node 6: a count that takes the turns of a part above 1000000",
+            "node 6: a need above 1023, or a count that takes the turns of a part above 1000000",
         ),
     ];
     for (fault, number, text) in cases {

@@ -1,26 +1,30 @@
 //! The walk through a tree from its root, a parent before its children.
-ghost use Rattle.std.specs.Prelude.{◌≡◌, ◌^◌, ◌<◌, List, ◌++◌, ◌∷◌, [], length, Some, All, OnOk, IfErr};
+ghost use Rattle.std.specs.Prelude.{◌≡◌, ◌^◌, ◌<◌, ◌≤◌, List, ◌++◌, ◌∷◌, [], length, Some, All, OnOk, IfErr};
 ghost use Rattle.fx_term.specs.Tree.{IsOneTree};
 ghost use Rattle.fx_term.specs.Turns.{HasFewInside};
 ghost use Rattle.fx_term.specs.Walk.{spots, spots_below};
 ghost use Rattle.fx_term.specs.WellPlaced.{HasRightTurns, IsWellPlaced};
-ghost use Rattle.fx_term.specs.Pending.{path_to, under, ArePushed};
+ghost use Rattle.fx_term.specs.NodeNeed.{AreNeeds};
+ghost use Rattle.fx_term.specs.Pending.{path_to, seen_past, under, ArePushed};
 ghost use Rattle.fx_term.specs.Code.{IsRefusal};
 
 use crate::code::CodeFault;
+use crate::code::needs::is_within_limits;
 use crate::code::scope::{has_right_kinds, has_right_slots};
 use crate::code::signature::Part;
-use crate::code::turns::{has_right_turns, turns_inside};
+use crate::code::turns::turns_inside;
 use crate::name_kind::NameKind;
 use crate::node::{Node, NodeId};
 use std::alloc::Global;
 
-/// A node that is still to be looked at, how many names are in scope where its parent stands, the
-/// kind of the name that the parent binds for it, and how often the loops round it run it.
+/// A node that is still to be looked at, how many names are in scope where its parent stands, how
+/// many of these outside of the fiber that runs the node, the kind of the name that the parent binds
+/// for it, and how often the loops round it run it.
 #[derive(Clone, Copy)]
 pub(crate) struct Pending {
     node: NodeId,
     outer: usize,
+    foreign: usize,
     own: Option<NameKind>,
     turns: u32,
 }
@@ -37,51 +41,59 @@ fn enter(path: &mut Vec<NameKind>, pending: Pending) -> Result<(), CodeFault>
     Ok(())
 }
 
-/// Pushes a part of a node that is run so many times, where names of these kinds are in scope.
+/// Pushes a part of this parent, where names of these kinds are in scope.
 fn push_part(
     stack: &mut Vec<Pending>,
     part: Part,
     path: &[NameKind],
-    turns: u32,
+    parent: Pending,
 ) -> Result<(), CodeFault>
-    requires { HasFewInside turns part.count }
-    ensures pushed { OnOk result (stack.new.items ≡ stack.old.items ++ under path.now turns part ∷ []) }
+    requires { HasFewInside parent.turns part.count }
+    ensures pushed { OnOk result (stack.new.items ≡ stack.old.items ++ under path.now parent part ∷ []) }
     ensures memory { IfErr result (λ fault. fault ≡ CodeFault.Memory) }
 {
     stack.push(Pending {
         node: part.node,
         outer: path.len(),
+        foreign: if part.elsewhere {
+            path.len()
+        } else {
+            parent.foreign
+        },
         own: part.binder.map(|_| part.kind),
-        turns: turns_inside(turns, part.count),
+        turns: turns_inside(parent.turns, part.count),
     })?;
     Ok(())
 }
 
-/// Pushes the parts of a node that is run so many times, where names of these kinds are in scope, the
+/// Pushes the parts of this parent, whose node it is, where names of these kinds are in scope, the
 /// last part first.
 fn push_parts(
     stack: &mut Vec<Pending>,
     node: Node,
     path: &[NameKind],
-    turns: u32,
+    parent: Pending,
 ) -> Result<(), CodeFault>
-    requires { HasRightTurns turns (Some node) }
+    requires turns { HasRightTurns parent.turns (Some node) }
+    requires foreign { parent.foreign ≤ length path.now }
     ensures pushed { OnOk result (ArePushed path.now
-        (spots_below (Some node) path.now turns) stack.old.items stack.new.items) }
+        (spots_below (Some node) (seen_past parent.foreign path.now) parent.turns)
+        stack.old.items stack.new.items) }
     ensures memory { IfErr result (λ fault. fault ≡ CodeFault.Memory) }
 {
     let parts = node.parts();
     for index in (0..parts.len()).rev() {
         let Some(part) = parts[index] else { continue };
-        push_part(stack, part, path, turns)?;
+        push_part(stack, part, path, parent)?;
     }
     Ok(())
 }
 
-/// Tests the names and counts of each node of a tree, from its root down.
-pub(crate) fn check_names(alloc: Global, nodes: &[Node]) -> Result<(), CodeFault>
+/// Tests the names and limits of each node of a tree, from its root down.
+pub(crate) fn check_names(alloc: Global, nodes: &[Node], needs: &[u32]) -> Result<(), CodeFault>
     requires fits { length nodes.now < 2 ^ 32 }
     requires tree { IsOneTree nodes.now }
+    requires needs { AreNeeds nodes.now (length nodes.now) needs.now }
     ensures placed { OnOk result (All (IsWellPlaced nodes.now) (spots nodes.now)) }
     ensures fault { IfErr result (IsRefusal nodes.now) }
 {
@@ -90,6 +102,7 @@ pub(crate) fn check_names(alloc: Global, nodes: &[Node]) -> Result<(), CodeFault
     stack.push(Pending {
         node: NodeId((nodes.len() - 1) as u32),
         outer: 0,
+        foreign: 0,
         own: None,
         turns: 1,
     })?;
@@ -97,16 +110,16 @@ pub(crate) fn check_names(alloc: Global, nodes: &[Node]) -> Result<(), CodeFault
         enter(&mut path, pending)?;
         let kinds = path.as_slice();
         let node = nodes[pending.node.0 as usize];
-        if !has_right_slots(node, kinds) {
+        if !has_right_slots(node, kinds.len()) {
             return Err(CodeFault::Slot(pending.node));
         }
-        if !has_right_kinds(node, kinds) {
+        if !has_right_kinds(node, kinds, pending.foreign) {
             return Err(CodeFault::Kind(pending.node));
         }
-        if !has_right_turns(node, pending.turns) {
+        if !is_within_limits(node, pending.turns, needs[pending.node.0 as usize]) {
             return Err(CodeFault::Limit(pending.node));
         }
-        push_parts(&mut stack, node, kinds, pending.turns)?;
+        push_parts(&mut stack, node, kinds, pending)?;
     }
     Ok(())
 }

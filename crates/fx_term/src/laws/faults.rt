@@ -1,5 +1,5 @@
 //! Laws of the first fault of a list of nodes.
-ghost use Rattle.std.specs.Prelude.{◌≡◌, List};
+ghost use Rattle.std.specs.Prelude.{◌≡◌, ℕ, List};
 ghost use Rattle.fx_term.specs.declared.code.CodeFault.{CodeFault};
 ghost use Rattle.fx_term.specs.declared.node.Node.{Node};
 ghost use Rattle.fx_term.specs.Code.{IsCode, IsFault};
@@ -11,7 +11,7 @@ pub fn first_fault_is_one()
 {}
 
 /// A list of nodes that has a fault is no code.
-#[tactic(auto, using(crate::proofs::CodeLaws::no_fault_of_code))]
 pub fn code_has_no_fault()
-    ensures { (nodes : List Node) (f : CodeFault) → IsFault nodes f → ¬ IsCode nodes }
+    ensures { (queues : ℕ) (nodes : List Node) (f : CodeFault) → IsFault nodes f
+        → ¬ IsCode queues nodes }
 {}

@@ -13,5 +13,9 @@ fn keeps_the_numbers_by_slot(rt: HostRuntime) -> Result<(), Fail> {
     assert_eq!(rt; registers.number_of(Arg::Number(8)), 8);
     registers.bind(Some(0), 9)?;
     assert_eq!(rt; registers.number_of(Arg::Slot(0)), 9);
+    let copy = registers.copied(rt.alloc())?;
+    registers.rebind(0, 4);
+    assert_eq!(rt; registers.number_of(Arg::Slot(0)), 4);
+    assert_eq!(rt; copy.number_of(Arg::Slot(0)), 9);
     Ok(())
 }

@@ -1,6 +1,6 @@
 use Rattle.std.proofs.lemmas.Result.{err_from_is_err_and}
 use Rattle.fibers.proofs.Answered.{answers_text, fails_to_answer, reads_text}
-use Rattle.fibers.proofs.Bytes.{keeps_same}
+use Rattle.fx_plain.proofs.Written.{keeps_same}
 use Rattle.fibers.proofs.replay.replay_text.Goals as goal
 
 pub returns-in_err-answer : goal.returns-in_err-answer
@@ -12,6 +12,7 @@ pub returns-in_err-write_text : goal.returns-in_err-write_text
 returns-in_err-write_text g c =
     let fault = err_from_is_err_and c.from_residual-in_err-write_text.result c.from_residual-in_err-write_text.ensures.1 in
     let taken = rw (← c.deref.ensures.value) at c.in_ok-text.ensures.text in
+    let part = rw c.in_err-write_text.ensures.fault at c.in_err-write_text.ensures.part in
     rw (fault.1, fault.2, c.in_err-write_text.ensures.fault) (
       _,
       reads_text _ _ _ taken,
@@ -19,7 +20,7 @@ returns-in_err-write_text g c =
         status = _;
         whole = _;
         answer = answers_text _ _ _ _ _ taken c.in_ok-answer.ensures;
-        part = rw c.as_bytes.ensures.value at c.in_err-write_text.ensures.prefix;
+        part = rw c.as_bytes.ensures.value at part;
       },
     )
 

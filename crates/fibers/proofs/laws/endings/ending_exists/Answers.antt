@@ -1,5 +1,4 @@
 use Rattle.fx_term.specs.Meaning.{root_term}
-use Rattle.fibers.proofs.CodeTerms.{code_is_simple}
 use Rattle.fibers.proofs.Endings.{simple_ends}
 use Rattle.fibers.proofs.laws.endings.ending_exists.Goals as goal
 
@@ -7,4 +6,4 @@ pub returns-clause-term : goal.returns-clause-term
 returns-clause-term c = simple_ends
 
 pub returns-clause-code : goal.returns-clause-code
-returns-clause-code c nodes code = simple_ends (root_term nodes) (code_is_simple nodes code) code.scope
+returns-clause-code c queues nodes code simple = simple_ends (root_term nodes) simple code.scope

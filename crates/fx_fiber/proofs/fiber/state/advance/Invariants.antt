@@ -3,9 +3,6 @@ use Rattle.fx_fiber.proofs.fiber.state.advance.Given as goal
 abbrev pub ghost-interrupted : goal.ghost-interrupted
 ghost-interrupted g a = g.P.Port.code
 
-abbrev pub ghost-leaf_rule : goal.ghost-leaf_rule
-ghost-leaf_rule g a = g.P.Port.code
-
 abbrev pub ghost-turn_rule : goal.ghost-turn_rule
 ghost-turn_rule g a = g.P.Port.code
 

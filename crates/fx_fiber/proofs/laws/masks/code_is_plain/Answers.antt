@@ -2,4 +2,4 @@ use Rattle.fx_fiber.proofs.PlainCode.{code_is_plain}
 use Rattle.fx_fiber.proofs.laws.masks.code_is_plain.Goals as goal
 
 pub returns : goal.returns
-returns c = code_is_plain
+returns c queues = code_is_plain

@@ -2,4 +2,4 @@ use Rattle.fx_term.proofs.CoreTerms.{code_is_core}
 use Rattle.fx_fiber.proofs.laws.resources.code_is_core.Goals as goal
 
 pub returns : goal.returns
-returns c = code_is_core
+returns c queues = code_is_core

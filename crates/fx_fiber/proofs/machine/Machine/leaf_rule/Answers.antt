@@ -1,7 +1,42 @@
+use Rattle.std.proofs.Common.{◌≡◌, ◌≢◌, ℕ, Some, refl, append-nil}
+use Rattle.fx_term.specs.declared.node.NodeId.{NodeId}
+use Rattle.fx_term.specs.declared.node.Node.{Node}
+use Rattle.fx_term.specs.declared.node.Node.TheVariants as node
+use Rattle.fx_fiber.specs.Methods.{IsLeafNode, IsLocalLeaf}
+use Rattle.fx_fiber.proofs.Calls.{waits_call}
 use Rattle.fx_fiber.proofs.Leaves.{never_waits}
 use Rattle.fx_fiber.proofs.machine.Machine.leaf_rule.Goals as goal
 
+local_leaf : (n : Node) → IsLeafNode (Some n) → n ≢ node.Never → ((h : ℕ) (a b : NodeId) → n ≡ node.Start h a b → ⊥)
+    → ((f x : ℕ) (a : NodeId) (e : ℕ) (b d : NodeId) → n ≡ node.Join f x a e b d → ⊥) → ((f : ℕ) → n ≡ node.Cancel f → ⊥)
+    → ((f g : ℕ) → n ≡ node.First f g → ⊥) → IsLocalLeaf n
+local_leaf node.Never leaf a b c d e = absurd (a refl)
+local_leaf (node.Start h x y) leaf a b c d e = absurd (b h x y refl)
+local_leaf (node.Join f x p q y z) leaf a b c d e = absurd (c f x p q y z refl)
+local_leaf (node.Cancel f) leaf a b c d e = absurd (d f refl)
+local_leaf (node.First f g) leaf a b c d e = absurd (e f g refl)
+local_leaf n leaf a b c d e = leaf
+
+pub local_rule-requires : goal.local_rule-requires
+local_rule-requires g c =
+    let rest = c.in_default in (
+      c.requires.at,
+      (local_leaf c.args.node.now c.requires.leaf rest.not-Never rest.not-Start rest.not-Join rest.not-Cancel rest.not-First, c.requires.countable),
+    )
+
 pub returns-in-Never-clause-ok : goal.returns-in-Never-clause-ok
 returns-in-Never-clause-ok g c =
-    let stands = rw c.in-Never.is at c.requires.0 in
-    record { sound = stands.at.sound; rule = never_waits g.nodes c.args.self.now c.args.id stands.at stands.free; is_local = tt }
+    let stands = rw c.in-Never.is at c.requires.at in
+    waits_call g.P.Port.calls g.P.Port.agrees g.P.Port.code _ _ _ _ _ _ _ (never_waits g.P.Port.code c.args.self.now c.args.id stands.at stands.free) tt refl
+    refl
+
+pub returns-in-Start-clause-ok : goal.returns-in-Start-clause-ok
+returns-in-Start-clause-ok g c =
+    let stands = rw c.in-Start.is at c.requires.at in
+    record {
+      sound = stands.at.sound;
+      rule = record { same = record { sound = stands.at.sound; progress = refl; counts = refl }; id = c.args.id; stands = stands };
+      own = tt;
+      told = (refl, refl);
+      agreed = λ deeds k. rw append-nil k;
+    }

@@ -5,8 +5,8 @@ use Rattle.std.proofs.lemmas.Bool.{false≢true}
 use Rattle.fx_term.specs.declared.node.Node.{Node}
 use Rattle.fx_term.specs.declared.node.Arg.TheVariants.{Number}
 use Rattle.fx_term.specs.declared.node.Node.TheVariants.{Pure}
-use Rattle.fx_term.proofs.SpotsToCome.{spots_to_come, IsWalked, root_pending, walked_none, walked_all, walked_more, pending_near}
-use Rattle.fx_term.proofs.SpotsToCome.{wrong_slot, wrong_kind, too_many_turns, fewer_to_come}
+use Rattle.fx_term.proofs.SpotsToCome.{spots_to_come, IsWalked, root_pending, walked_none, walked_all, walked_more, pending_near, foreign_near}
+use Rattle.fx_term.proofs.SpotsToCome.{wrong_slot, wrong_kind, not_within, fewer_to_come}
 use Rattle.fx_term.proofs.code.walk.check_names.Goals as goal
 
 -- what an index out of range would give, which is none of these here
@@ -40,13 +40,26 @@ returns-then-not-has_right_kinds-clause-fault c =
     (c.if-not-has_right_slots.ensures.0 refl)
     (λ of_kind. false≢true (c.if-not-has_right_kinds.ensures.1 of_kind)))
 
-pub returns-then-not-has_right_turns-clause-fault : goal.returns-then-not-has_right_turns-clause-fault
-returns-then-not-has_right_turns-clause-fault c =
-    inr (too_many_turns c.args.nodes.now c.requires.tree c.loop-pending.path.items c.loop-pending.stack.items c.loop-pending.invariant
+pub bounds-needs-pending : goal.bounds-needs-pending
+bounds-needs-pending c =
+    let each = c.requires.needs.each in
+    let near = pending_near c.args.nodes.now c.requires.tree c.loop-pending.path.items c.loop-pending.stack.items c.loop-pending.invariant
+    c.pop.new.self.items c.in-Some.pending c.in-Some.ensures.items absent in
+    omega arith
+
+pub returns-then-not-is_within_limits-clause-fault : goal.returns-then-not-is_within_limits-clause-fault
+returns-then-not-is_within_limits-clause-fault c =
+    inr (not_within c.args.nodes.now c.requires.tree c.loop-pending.path.items c.loop-pending.stack.items c.loop-pending.invariant
     c.pop.new.self.items c.in-Some.pending c.in-Some.ensures.items absent
     c.as_slice-kinds.result.now (c.as_slice-kinds.ensures.value ∙ c.in_ok-enter.ensures.entered) c.requires.fits
     (c.if-not-has_right_slots.ensures.0 refl) (c.if-not-has_right_kinds.ensures.0 refl)
-    (λ few. false≢true (c.if-not-has_right_turns.ensures.1 few)))
+    c.args.needs.now c.requires.needs (λ within. false≢true (c.if-not-is_within_limits.ensures.1 within)))
+
+pub push_parts-requires-clause-foreign : goal.push_parts-requires-clause-foreign
+push_parts-requires-clause-foreign c =
+    foreign_near c.args.nodes.now c.requires.tree c.loop-pending.path.items c.loop-pending.stack.items c.loop-pending.invariant
+    c.pop.new.self.items c.in-Some.pending c.in-Some.ensures.items absent
+    c.as_slice-kinds.result.now (c.as_slice-kinds.ensures.value ∙ c.in_ok-enter.ensures.entered)
 
 pub loop-pending-smaller : goal.loop-pending-smaller
 loop-pending-smaller c =
@@ -62,7 +75,8 @@ loop-pending-preserved c =
     (walked_more c.args.nodes.now c.requires.tree c.loop-pending.path.items c.loop-pending.stack.items c.loop-pending.invariant
     c.pop.new.self.items c.in-Some.pending c.in-Some.ensures.items absent
     c.as_slice-kinds.result.now (c.as_slice-kinds.ensures.value ∙ c.in_ok-enter.ensures.entered) c.push_parts.new.stack.items c.in_ok-push_parts.ensures.pushed
-    (c.if-not-has_right_slots.ensures.0 refl) (c.if-not-has_right_kinds.ensures.0 refl) (c.if-not-has_right_turns.ensures.0 refl))
+    (c.if-not-has_right_slots.ensures.0 refl) (c.if-not-has_right_kinds.ensures.0 refl)
+    c.args.needs.now c.requires.needs (c.if-not-is_within_limits.ensures.0 refl))
 
 pub returns-clause-placed : goal.returns-clause-placed
 returns-clause-placed c =

@@ -1,0 +1,119 @@
+-- The rule of `start`.
+use Rattle.std.proofs.Common.{◌≡◌, ℕ, suc, ◌+◌, ◌<◌, ◌≤◌, ◌^◌, Bool, true, false, Option, Some, None, List, [], ◌∷◌, length, refl, sym, ◌∙◌, ap, subst, arith}
+use Rattle.std.specs.Prelude.{All}
+use Rattle.fx_term.specs.declared.node.NodeId.{NodeId}
+use Rattle.fx_term.specs.declared.node.Node.{Node}
+use Rattle.fx_term.specs.declared.node.Node.TheVariants as node
+use Rattle.fx_term.specs.declared.begin.Begin.{Begin}
+use Rattle.fx_term.specs.Term.{Term, Let, Handle, If, For, Mask, Poll, OnCancel, Bracket, Start, Join, TryTake, Masked, Opened, InUse, InRelease, Loop}
+use Rattle.fx_term.specs.Fill.{lower, lower_named, fill}
+use Rattle.fx_term.specs.Registers.{with_number}
+use Rattle.fx_term.specs.Scope.{HasLevels}
+use Rattle.fx_term.specs.Meaning.{term_of}
+use Rattle.fx_term.specs.Need.{need}
+use Rattle.fx_fiber.specs.declared.machine.focus.Focus.TheVariants.{Eval}
+use Rattle.fx_fiber.specs.declared.machine.Machine.{Machine}
+use Rattle.fx_fiber.specs.Row.{Counts, Starts, numbers_taken, start}
+use Rattle.fx_fiber.specs.Origin.{Origin, child_origin, origin_of}
+use Rattle.fx_fiber.specs.Step.{Progress, Runs, Step}
+use Rattle.fx_fiber.specs.Work.{work, work_left}
+use Rattle.fx_fiber.specs.NeedLeft.{need_left, HasRoom}
+use Rattle.fx_fiber.specs.Fiber.{is_fiber_number}
+use Rattle.fx_fiber.specs.Scopes.{IsScopedOver, IsProgressScopedOver}
+use Rattle.fx_fiber.specs.Machine.{filled, progress_at, progress_of, counts_of}
+use Rattle.fx_fiber.specs.Sound.{IsNode, IsBound, IsSound, IsSoundBegin}
+use Rattle.fx_fiber.specs.Methods.{Steps, IsSame, IsEvaluating, must_cancel_machine}
+use Rattle.fx_fiber.proofs.AllWork.{step_leaves_less, unknown_small}
+use Rattle.fx_fiber.proofs.Keeping.{taken_fit}
+use Rattle.fx_fiber.proofs.Leaves.{levels, child, row_at, name_reaches, register_stays, named_sound, named_is}
+use Rattle.fx_fiber.proofs.Nodes.{child_before}
+use Rattle.fx_fiber.proofs.RangeLaws.{step_need}
+use Rattle.fx_fiber.proofs.ScopedRuns.{step_over}
+
+-- numbers for names leave the need as it is
+pub fill_need : (b : ℕ) (ns : List ℕ) (t : Term) → need (fill b ns t) ≡ need t
+fill_need b ns (Let x t u) = let p = fill_need b ns t in let q = fill_need (lower_named b x) ns u in cc
+fill_need b ns (Handle t x u) = let p = fill_need b ns t in let q = fill_need (lower_named b x) ns u in cc
+fill_need b ns (If v t u) = let p = fill_need b ns t in let q = fill_need b ns u in cc
+fill_need b ns (For i c t) = let p = fill_need (lower b i) ns t in cc
+fill_need b ns (Mask x t) = let p = fill_need (lower b x) ns t in cc
+fill_need b ns (Poll v t) = let p = fill_need b ns t in cc
+fill_need b ns (OnCancel t f) = let p = fill_need b ns t in let q = fill_need b ns f in cc
+fill_need b ns (Bracket x t u r) = let p = fill_need b ns t in let q = fill_need (lower_named b x) ns u in let o = fill_need (lower_named b x) ns r in cc
+fill_need b ns (Start h t u) = let p = fill_need b ns t in let q = fill_need (lower b h) ns u in cc
+fill_need b ns (Join f x t e u v) = let p = fill_need (lower b x) ns t in let q = fill_need (lower b e) ns u in let o = fill_need b ns v in cc
+fill_need b ns (TryTake q x t u) = let p = fill_need (lower b x) ns t in let o = fill_need b ns u in cc
+fill_need b ns (Masked r t) = let p = fill_need b ns t in cc
+fill_need b ns (Opened r t) = let p = fill_need b ns t in cc
+fill_need b ns (InUse k t r) = let p = fill_need b ns t in let q = fill_need b ns r in cc
+fill_need b ns (InRelease k t v) = let p = fill_need b ns t in cc
+fill_need b ns (Loop i k c t) = let p = fill_need (lower b i) ns t in cc
+fill_need b ns _ = refl
+
+-- a fiber that stands at a start
+module _ (nodes : List Node) (s : Machine) (id : NodeId) (h : ℕ) (a b : NodeId) (at : IsEvaluating nodes s id (node.Start h a b)) where
+  start_levels : HasLevels at.sound.bound (term_of nodes a.0) × (h ≡ at.sound.bound) × HasLevels (suc at.sound.bound) (term_of nodes b.0)
+  start_levels = levels nodes s id (node.Start h a b) at
+
+  below : All (λ c. c < id.0) (a.0 ∷ b.0 ∷ [])
+  below = child_before nodes s.registers s.frames s.masks s.cleanups s.focus id (node.Start h a b) at.focus at.node at.sound
+
+  pub started_node : IsNode nodes at.sound.bound a
+  started_node = child nodes s id _ at a _ (below 0 0 (omega arith)) start_levels.0
+
+  then_bound : IsBound nodes at.sound.bound (Some h) b
+  then_bound = record { binder = start_levels.1; node = child nodes s id _ at b _ (below 1 0 (omega arith)) start_levels.2 }
+
+  pub start_reaches : h ≤ length s.registers
+  start_reaches = name_reaches nodes s id _ at h start_levels.1
+
+  -- what the child begins with has a number for each name in scope
+  pub sound_begin : (ns : List ℕ) (next end : ℕ) → ns ≡ s.registers → IsSoundBegin nodes (record { node = a; slots = ns; next = next; end = end })
+  sound_begin ns next end e = record { tree = at.sound.tree; bound = at.sound.bound; fits = rw e at.sound.fits; node = started_node }
+
+  -- the register of the name is had before the port is asked
+  pub start_stays : (n : ℕ) (t : Machine) → t ≡ record s { registers = with_number (Some h) n s.registers } → IsSame nodes s t
+  start_stays n = register_stays nodes s id _ at h start_levels.1 n
+
+  pub then_sound : (n : ℕ) → IsSound nodes (with_number (Some h) n s.registers) s.frames s.masks s.cleanups (Eval b)
+  then_sound n = named_sound nodes s id _ at h start_levels.1 n b then_bound
+
+  -- the term of the child
+  abbrev pub part : Term
+  part = filled nodes s.registers a
+
+  module _ (free : must_cancel_machine nodes s ≡ false) where
+    -- the fiber goes on with the number of its child by the name
+    pub start_step : Step (counts_of s) (progress_of nodes s) (Starts s.next (child_origin s.next part)) (numbers_taken (1 + need part) (counts_of s))
+        (progress_at nodes (with_number (Some h) s.next s.registers) s.frames s.masks.regions s.cleanups (Eval b))
+    start_step = row_at nodes s id (node.Start h a b) at tt free (numbers_taken (1 + need part) (counts_of s)) (Starts s.next (child_origin s.next part))
+        _ _ _ refl (named_is nodes s id _ at h start_levels.1 s.next b then_bound) (λ k e. start)
+
+    module _ (room : s.next + need_left (progress_of nodes s) ≤ s.end) where
+      -- its numbers are in its range
+      pub start_within : s.next + 1 + need part ≤ s.end
+      start_within = let n = step_need start_step in omega arith
+
+      pub part_scoped : s.end < 2 ^ 32 → IsProgressScopedOver is_fiber_number (progress_of nodes s) → IsScopedOver is_fiber_number part
+      part_scoped word over = (step_over is_fiber_number start_step (taken_fit start_step room word) over).1
+
+    pub part_works : s.masks.entries + s.acquired + work_left (progress_of nodes s) < 2 ^ 63 → 1 + work part < 2 ^ 63
+    part_works few = let p = step_leaves_less start_step in let q = unknown_small s.known in omega arith
+
+    -- so it makes the rule
+    pub start_makes : (n : ℕ) (t : Machine) → n ≡ need part
+        → t ≡ record s { registers = with_number (Some h) s.next s.registers; focus = Eval b; next = s.next + 1 + n }
+        → Steps nodes s (Starts s.next (child_origin s.next part)) t
+    start_makes n t e is =
+        let counts : numbers_taken (1 + need part) (counts_of s) ≡ record (counts_of s) { next = s.next + 1 + n } =
+        ap (λ (k : ℕ). record (counts_of s) { next = k }) (omega arith) in
+        rw is (subst (λ (d : Counts). Step (counts_of s) (progress_of nodes s) (Starts s.next (child_origin s.next part)) d
+        (progress_at nodes (with_number (Some h) s.next s.registers) s.frames s.masks.regions s.cleanups (Eval b))) counts start_step)
+
+  -- the child begins with the term of its part
+  pub begins_so : (ns : List ℕ) (n : ℕ) → ns ≡ s.registers → n ≡ need part
+      → origin_of nodes (record { node = a; slots = ns; next = s.next + 1; end = s.next + 1 + n }) ≡ child_origin s.next part
+  begins_so ns n e f = rw (e, f) refl
+
+  pub need_is : (n : ℕ) → n ≡ need (term_of nodes a.0) → n ≡ need part
+  need_is n e = e ∙ sym (fill_need (length s.registers) s.registers (term_of nodes a.0))

@@ -1,0 +1,25 @@
+use Rattle.std.proofs.Common.{◌∙◌, ap}
+use Rattle.fx_fiber.specs.Origin.{Origin}
+use Rattle.fx_fiber.specs.Fiber.{is_fiber_number}
+use Rattle.fx_fiber.specs.Step.{Runs}
+use Rattle.fx_fiber.proofs.Beginnings.{main_begins, main_work_fits, main_scoped, main_room}
+use Rattle.fx_fiber.proofs.fiber.Fiber.new.Goals as goal
+
+pub beginning-requires-2-clause-countable : goal.beginning-requires-2-clause-countable
+beginning-requires-2-clause-countable g c =
+    rw (c.requires.beginning, ← c.requires.code) (main_work_fits c.args.code.now.nodes c.main_begin-begin.ensures.code)
+
+pub beginning-requires-2-clause-scoped : goal.beginning-requires-2-clause-scoped
+beginning-requires-2-clause-scoped g c =
+    rw (c.requires.beginning, ← c.requires.code) (main_scoped is_fiber_number c.args.code.now.nodes c.main_begin-begin.ensures.code)
+
+pub beginning-requires-2-clause-room : goal.beginning-requires-2-clause-room
+beginning-requires-2-clause-room g c = rw (c.requires.beginning, ← c.requires.code) (main_room c.args.code.now.nodes)
+
+pub beginning-requires-2-clause-word : goal.beginning-requires-2-clause-word
+beginning-requires-2-clause-word g c = rw c.requires.beginning (rw c.main_begin-begin.ensures.begin at c.main_begin-begin.ensures.word)
+
+pub returns-clause-progress : goal.returns-clause-progress
+returns-clause-progress g c =
+    let first = rw (← c.requires.code, c.requires.beginning) at c.beginning-2.ensures.first in
+    first.progress_is ∙ ap (λ (b : Origin). Runs b.term) (main_begins c.args.code.now.nodes)

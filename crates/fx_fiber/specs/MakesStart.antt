@@ -1,0 +1,22 @@
+-- What the rule of `start` does.
+use Rattle.std.specs.Prelude.{◌≡◌, List, [], ◌∷◌, ◌++◌}
+use Rattle.fx_term.specs.declared.node.Node.{Node}
+use Rattle.fx_term.specs.declared.event.Event.{Event}
+use Rattle.fx_term.specs.declared.event.Event.TheVariants as event
+use Rattle.fx_fiber.specs.Row.{Starts}
+use Rattle.fx_fiber.specs.Origin.{Origin}
+use Rattle.fx_fiber.specs.Calls.{PortCalls}
+use Rattle.fx_fiber.specs.Deed.{Deed, Started}
+use Rattle.fx_fiber.specs.Fiber.{FiberView, IsAtFirst}
+use Rattle.fx_fiber.specs.MakesStep.{StartsChild}
+use Rattle.fx_fiber.specs.Methods.{Steps}
+use Rattle.fx_fiber.specs.declared.machine.Machine.{Machine}
+
+-- the fiber starts a child, which is before its first step, over the port that the call gave
+pub record MakesStart {P S : Type 0} (calls : PortCalls P S) (nodes : List Node) (s : Machine) (p : P) (sh : S) (trace : List Event) (child : FiberView P)
+    (s' : Machine) (p' : P) (sh' : S) (trace' : List Event) : Type 0 where
+  pub origin : Origin
+  pub rule : Steps nodes s (Starts s.next origin) s'
+  pub traced : trace' ≡ trace ++ event.Start s.next ∷ []
+  pub first : IsAtFirst nodes origin child
+  pub told : StartsChild calls nodes s.next origin child.port p sh p' sh'

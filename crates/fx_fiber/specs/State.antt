@@ -1,0 +1,23 @@
+-- What a fiber has beside its port before its first step.
+use Rattle.std.specs.Prelude.{◌≡◌, ℕ, List, []}
+use Rattle.fx_term.specs.declared.node.Node.{Node}
+use Rattle.fx_term.specs.declared.begin.Begin.{Begin}
+use Rattle.fx_fiber.specs.Step.{Runs}
+use Rattle.fx_fiber.specs.Run.{first_counts}
+use Rattle.fx_fiber.specs.Origin.{origin_of}
+use Rattle.fx_fiber.specs.Machine.{counts_of, progress_of}
+use Rattle.fx_fiber.specs.Sound.{IsSoundMachine}
+use Rattle.fx_fiber.specs.declared.machine.Machine.{Machine}
+use Rattle.fx_fiber.specs.declared.fiber.state.State.{State}
+
+-- the machine of a fiber that begins so, before its first step
+pub record IsFirstMachine (nodes : List Node) (begin : Begin) (s : Machine) : Type 0 where
+  pub sound : IsSoundMachine nodes s
+  pub counts : counts_of s ≡ first_counts (origin_of nodes begin)
+  pub progress : progress_of nodes s ≡ Runs (origin_of nodes begin).term
+
+-- that of a fiber with this number: it has shown nothing
+pub record IsFirstState (nodes : List Node) (id : ℕ) (begin : Begin) (s : State) : Type 0 where
+  pub number : s.id ≡ id
+  pub trace : s.trace.items ≡ []
+  pub machine : IsFirstMachine nodes begin s.machine

@@ -1,0 +1,64 @@
+//! The rule of `start`.
+ghost use Rattle.std.specs.Prelude.{◌≡◌, ◌<◌, false, IfOk, OnErr};
+ghost use Rattle.std.specs.Vec.{vec_len, vec_capacity};
+ghost use Rattle.fx_term.specs.declared.node.Node.TheVariants as node;
+ghost use Rattle.fx_term.specs.declared.node.NodeId.{NodeId};
+ghost use Rattle.fx_fiber.specs.Fiber.{IsKept};
+ghost use Rattle.fx_fiber.specs.MakesStart.{MakesStart};
+ghost use Rattle.fx_fiber.specs.Methods.{IsSame, StandsAt};
+
+use crate::fiber::Fiber;
+use crate::fiber::state::State;
+use crate::machine::focus::Focus;
+use crate::port::Port;
+use fx_term::{Begin, Code, Event, Memory, NodeId};
+use std::alloc::Global;
+
+/// Starts a fiber that runs one part, under no mask and not canceled, with the numbers of the names in
+/// scope; the other part goes on with the fiber's number by this name. All memory is had before the
+/// port starts the fiber. Its event has its room in the trace.
+pub(crate) fn start<P: Port>(
+    alloc: Global,
+    port: &mut P,
+    state: &mut State,
+    code: &Code,
+    shared: &mut P::Shared,
+    slot: u32,
+    started: NodeId,
+    then: NodeId,
+) -> Result<Fiber<P>, Memory>
+    requires code { code.now.nodes ≡ P.code }
+    requires stands { (id : NodeId)
+        × StandsAt P.code state.old.machine id (node.Start slot started then) }
+    requires kept { IsKept P.code (P.beginning port.old) (P.agrees port.old)
+        (P.has_finished port.old) (P.rest port.old) state.old.trace.items state.old.machine }
+    requires going { P.has_finished port.old ≡ false }
+    requires room { vec_len state.old.trace < vec_capacity state.old.trace }
+    ensures started { IfOk result (λ child. MakesStart P.calls P.code state.old.machine port.old
+        shared.old state.old.trace.items child state.new.machine port.new shared.new state.new.trace.items) }
+    ensures kept { IfOk result (λ child. IsKept P.code (P.beginning port.new) (P.agrees port.new)
+        (P.has_finished port.new) (P.rest port.new) state.new.trace.items state.new.machine) }
+    ensures same { OnErr result (IsSame P.code state.old.machine state.new.machine) }
+    ensures trace { OnErr result (state.new.trace.items ≡ state.old.trace.items) }
+    ensures unchanged { OnErr result ((port.new ≡ port.old) × (shared.new ≡ shared.old)) }
+    ensures id { state.new.id ≡ state.old.id }
+    ensures number { P.number port.new ≡ P.number port.old }
+    ensures beginning { P.beginning port.new ≡ P.beginning port.old }
+{
+    let machine = &mut state.machine;
+    let id = machine.next;
+    let next = id + 1;
+    let begin = Begin {
+        node: started,
+        slots: machine.registers.copied(alloc)?,
+        next,
+        end: next + code.need(started),
+    };
+    let child = State::beginning(alloc, id, &begin)?;
+    machine.registers.bind(Some(slot), u64::from(id))?;
+    let own = port.start(shared, id, &begin)?;
+    machine.next = begin.end;
+    machine.focus = Focus::Eval(then);
+    state.trace.push_reserved(Event::Start(id));
+    Ok(Fiber::beginning(own, child))
+}

@@ -1,0 +1,47 @@
+-- A fiber that answers over the world of one thread that it waits does so in the whole machine, for what has not come.
+use Rattle.std.proofs.Common.{◌≡◌, ℕ, ◌<◌, Bool, true, false, Option, Some, List, refl, sym, ◌∙◌, ap}
+use Rattle.std.specs.Prelude.{is_some, slice_set}
+use Rattle.fx_term.specs.declared.node.Node.{Node}
+use Rattle.fx_term.specs.Script.{ScriptView, total}
+use Rattle.fx_fiber.specs.declared.source.Source.{Source}
+use Rattle.fx_fiber.specs.declared.source.Source.TheVariants.{Nothing, Outcome, Either, Room, Element}
+use Rattle.fx_fiber.specs.Fiber.{FiberView, progress}
+use Rattle.fx_fiber.specs.Waiting.{IsRefused}
+use Rattle.fx_fiber.specs.WaitsFor.{IsWaiting}
+use Rattle.fx_fiber.specs.MakesStep.{looks_first, LooksInVain, OnlyWaits}
+use Rattle.fx_plain.specs.declared.class.Class.TheVariants.{Waits}
+use Rattle.fx_plain.specs.WholeMachine.{StartedFiber, WholeMachine}
+use Rattle.fx_plain.specs.Classes.{outcome_has_come}
+use Rattle.fx_plain.specs.World.{WorldView, outcome_in, HeldFiber, StandsFor}
+use Rattle.fx_plain.specs.PlainCalls.{PortView, plain_calls}
+use Rattle.fx_plain.specs.WorldClasses.{waits_at_queue, TellsWhoSteps}
+use Rattle.fx_plain.proofs.WorldClasses.{wait_tells}
+
+-- what was refused has not come
+refused_to_come : (w : WorldView) (p : PortView) (source : Source) → IsRefused plain_calls source p w → outcome_has_come (outcome_in w) (Waits source) ≡ false
+refused_to_come w p Nothing r = refl
+refused_to_come w p (Outcome g) r = ap is_some (sym r.0)
+refused_to_come w p (Either g h) r = rw (← r.0.0, ← r.1.0) refl
+refused_to_come w p (Room q) r = absurd r
+refused_to_come w p (Element q) r = absurd r
+
+refused_at_no_queue : (w : WorldView) (p : PortView) (source : Source) → IsRefused plain_calls source p w → waits_at_queue (Waits source) ≡ false
+refused_at_no_queue w p (Room q) r = absurd r
+refused_at_no_queue w p (Element q) r = absurd r
+refused_at_no_queue w p _ r = refl
+
+module _ (s : ScriptView) (w : WorldView) (held : List (Option HeldFiber)) (m : WholeMachine) (stands : StandsFor s w held m) (nodes : List Node)
+    (f : ℕ) (lt : f < total s) (old new : FiberView PortView) (w' : WorldView) (own : old.port.number ≡ f) (h : OnlyWaits plain_calls nodes old w new w') where
+  unasked : (due : Bool) → LooksInVain plain_calls due old.port w → due ≡ true → m.requested f ≡ false
+  unasked true looked e = sym (stands.requested f lt) ∙ sym (rw own at looked.0)
+  unasked false looked e = absurd cc
+
+  pub waits_so : IsWaiting (m.requested f) old.counts (progress nodes old) h.wait
+  waits_so = record { leaf = h.waits; free = h.free; unasked = unasked (looks_first old.counts.known (progress nodes old)) h.looked }
+
+  -- the world that notes it goes on to tell who can step
+  pub noted_wait_tells : TellsWhoSteps s w m → (x : StartedFiber) → m.fibers f ≡ Some x → x.counts ≡ old.counts → x.progress ≡ progress nodes old
+      → TellsWhoSteps s (record w { classes = slice_set w.classes f (Waits h.wait) }) m
+  noted_wait_tells tells x at counts progress_is =
+      wait_tells s w m tells f x h.wait lt at (rw (counts, progress_is) waits_so) (refused_to_come w old.port h.wait h.refused)
+      (refused_at_no_queue w old.port h.wait h.refused)

@@ -1,0 +1,13 @@
+use Rattle.std.proofs.Common.{◌≡◌, ◌++◌, length, codes, string_bytes}
+use Rattle.std.specs.List.{flat_map}
+use Rattle.fx_term.specs.declared.item.Item.{Item}
+use Rattle.fx_plain.specs.Text.{number}
+use Rattle.fx_plain.proofs.lines.push_queue_line.Given as goal
+
+-- what is written so far, and the values of the other elements, are the line
+abbrev pub invariant-loop-rest : goal.invariant-loop-rest
+invariant-loop-rest l = string_bytes l.text ++ flat_map (λ (x : Item). number x.value) l.rest
+    ≡ (string_bytes l.fn.text ++ codes "queue " ++ string_bytes l.queue.name ++ codes " left") ++ flat_map (λ (x : Item). number x.value) l.items
+
+abbrev pub decreases-loop-rest : goal.decreases-loop-rest
+decreases-loop-rest l = length l.rest

@@ -1,0 +1,104 @@
+-- The world that the fibers of one thread share, and the whole machine that it and they stand for.
+use Rattle.std.specs.Prelude.{◌≡◌, ℕ, ◌<◌, Bool, true, false, Option, Some, None, option_map, List, [], ◌∷◌, length, replicate, slice_set, slice_index_or}
+use Rattle.fx_term.specs.declared.outcome.Outcome.{Outcome}
+use Rattle.fx_term.specs.declared.event.Event.{Event}
+use Rattle.fx_term.specs.declared.event.Event.TheVariants as event
+use Rattle.fx_term.specs.Need.{need}
+use Rattle.fx_term.specs.Script.{ScriptView, total}
+use Rattle.fx_fiber.specs.Origin.{Origin, main_origin}
+use Rattle.fx_fiber.specs.Row.{Counts, Label, Shows, Starts}
+use Rattle.fx_fiber.specs.Step.{Progress}
+use Rattle.fx_fiber.specs.Run.{events}
+use Rattle.fx_plain.specs.declared.class.Class.{Class}
+use Rattle.fx_plain.specs.declared.class.Class.TheVariants.{Unstarted, Able}
+use Rattle.fx_plain.specs.ClassSets.{with_request, with_end}
+use Rattle.fx_plain.specs.WholeMachine.{StartedFiber, WholeMachine, begun, stepped, outcome_of}
+
+-- by fiber number: who is requested, who of these from outside, how each ended, and its class
+pub record WorldView : Type 0 where
+  pub requested : List Bool
+  pub from_outside : List Bool
+  pub outcomes : List (Option Outcome)
+  pub classes : List Class
+
+abbrev pub is_requested_in : WorldView → ℕ → Bool
+is_requested_in w f = slice_index_or w.requested f false
+
+abbrev pub outcome_in : WorldView → ℕ → Option Outcome
+outcome_in w f = slice_index_or w.outcomes f None
+
+-- the world after a request, after one from outside, after a start and after an end
+abbrev pub after_request : ℕ → WorldView → WorldView
+after_request g w = record w { requested = slice_set w.requested g true; classes = with_request g w.classes }
+
+abbrev pub after_request_from_outside : ℕ → WorldView → WorldView
+after_request_from_outside g w = record w {
+  requested = slice_set w.requested g true;
+  from_outside = slice_set w.from_outside g true;
+  classes = with_request g w.classes;
+}
+
+abbrev pub after_start : ℕ → WorldView → WorldView
+after_start g w = record w { classes = slice_set w.classes g Able }
+
+abbrev pub after_end : ℕ → Outcome → WorldView → WorldView
+after_end f o w = record w { outcomes = slice_set w.outcomes f (Some o); classes = with_end f w.classes }
+
+-- the label is that of no queue
+abbrev pub IsOfNoQueue : Label → Type 0
+IsOfNoQueue (Shows (event.Put q n)) = ⊥
+IsOfNoQueue (Shows (event.Got q n)) = ⊥
+IsOfNoQueue (Shows (event.Refused q)) = ⊥
+IsOfNoQueue (Shows (event.Empty q)) = ⊥
+IsOfNoQueue _ = Unit {0}
+
+-- the world after a step of fiber f with this label
+abbrev pub world_after : ℕ → Label → WorldView → WorldView
+world_after f (Starts g b) w = after_start g w
+world_after f (Shows (event.Request g)) w = after_request g w
+world_after f (Shows (event.Ended o)) w = after_end f o w
+world_after f _ w = w
+
+-- a fiber as code holds it: who started it, what it began with, its trace, its counts and how far it is
+pub record HeldFiber : Type 0 where
+  pub parent : Option ℕ
+  pub origin : Origin
+  pub trace : List Event
+  pub counts : Counts
+  pub progress : Progress
+
+abbrev pub held_of : StartedFiber → HeldFiber
+held_of x = record { parent = x.parent; origin = x.origin; trace = events x.labels; counts = x.counts; progress = x.progress }
+
+-- the fibers with the one that a step of fiber f starts
+abbrev pub with_child : ℕ → Label → List (Option HeldFiber) → List (Option HeldFiber)
+with_child f (Starts g b) held = slice_set held g (Some (held_of (begun (Some f) b)))
+with_child f _ held = held
+
+-- the fibers after a step of fiber f, which was x
+abbrev pub held_after : ℕ → StartedFiber → Label → Counts → Progress → List (Option HeldFiber) → List (Option HeldFiber)
+held_after f x l c p held = slice_set (with_child f l held) f (Some (held_of (stepped x l c p)))
+
+-- a world and its fibers stand for a whole machine. No script has a queue's form yet, so its queues are empty
+pub record StandsFor (s : ScriptView) (w : WorldView) (held : List (Option HeldFiber)) (m : WholeMachine) : Type 0 where
+  pub held_long : length held ≡ total s
+  pub requested_long : length w.requested ≡ total s
+  pub outside_long : length w.from_outside ≡ total s
+  pub outcomes_long : length w.outcomes ≡ total s
+  pub fibers : (f : ℕ) → slice_index_or held f None ≡ option_map held_of (m.fibers f)
+  pub requested : (f : ℕ) → f < total s → is_requested_in w f ≡ m.requested f
+  pub from_outside : (f : ℕ) → f < total s → slice_index_or w.from_outside f false ≡ m.from_outside f
+  pub outcomes : (f : ℕ) → outcome_in w f ≡ outcome_of m f
+  pub queues : (q : ℕ) → m.queues q ≡ []
+
+-- the world before any step, and its one fiber
+abbrev pub opening_world : ScriptView → WorldView
+opening_world s = record {
+  requested = replicate (total s) false;
+  from_outside = replicate (total s) false;
+  outcomes = replicate (total s) None;
+  classes = Able ∷ replicate (need s.term) Unstarted;
+}
+
+abbrev pub opening_held : ScriptView → List (Option HeldFiber)
+opening_held s = Some (held_of (begun None (main_origin s.term))) ∷ replicate (need s.term) None

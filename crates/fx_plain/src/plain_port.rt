@@ -1,0 +1,138 @@
+//! The port of a fiber of one thread.
+ghost use Rattle.std.specs.Prelude.{◌≡◌};
+ghost use Rattle.fx_plain.specs.PlainCalls.{new_port};
+
+use crate::plain_world::PlainWorld;
+use fx_fiber::Port;
+use fx_term::{Begin, CodeBrand, Memory, Outcome};
+use std::marker::{Model, PhantomData};
+use std::snapshot::Snapshot;
+
+/// The port of a fiber of one thread: its fiber's number. What that began with, the numbers that it has
+/// left, and whether its end was told are known to proofs alone.
+#[derive(Drop)]
+pub struct PlainPort<J: CodeBrand> {
+    id: u32,
+    begin: Snapshot<Begin>,
+    next: Snapshot<u32>,
+    has_finished: Snapshot<bool>,
+    of: PhantomData<J>,
+}
+
+impl<J: CodeBrand> Model for PlainPort<J> {
+    ghost use Rattle.fx_plain.specs.PlainCalls.{PortView};
+
+    ghost Value = { PortView };
+
+    ghost view = { λ p. record {
+      number = p.id;
+      beginning = p.begin.value;
+      rest = record { next = p.next.value; end = p.begin.value.end };
+      has_finished = p.has_finished.value;
+    } };
+}
+
+impl<J: CodeBrand> PlainPort<J> {
+    /// The port of a fiber of that number that begins so.
+    pub(crate) fn new(id: u32, begin: &Begin) -> PlainPort<J>
+        ensures { result ≡ new_port id begin.now }
+    {
+        PlainPort {
+            id,
+            begin: Snapshot::of(begin),
+            next: Snapshot::of(&begin.next),
+            has_finished: Snapshot::of(&false),
+            of: PhantomData,
+        }
+    }
+}
+
+impl<J: CodeBrand> Port for PlainPort<J> {
+    ghost use Rattle.fx_plain.specs.PlainCalls.{plain_calls};
+
+    type Shared = PlainWorld;
+
+    ghost code = { J.nodes };
+
+    ghost number = { λ port. port.number };
+
+    ghost beginning = { λ port. port.beginning };
+
+    ghost has_finished = { λ port. port.has_finished };
+
+    ghost rest = { λ port. port.rest };
+
+    // the calls say all
+    ghost agrees = { λ port deeds. Unit {0} };
+
+    ghost calls = { plain_calls };
+
+    fn look(&mut self, world: &mut PlainWorld) -> bool {
+        world.is_requested(self.id)
+    }
+
+    fn request(&mut self, world: &mut PlainWorld, id: u32) {
+        world.request(id);
+    }
+
+    fn peek(&mut self, world: &mut PlainWorld, id: u32) -> Option<Outcome> {
+        world.outcome(id)
+    }
+
+    fn start(
+        &mut self,
+        world: &mut PlainWorld,
+        id: u32,
+        begin: &Begin,
+    ) -> Result<PlainPort<J>, Memory> {
+        self.next = Snapshot::of(&begin.end);
+        world.start(id);
+        Ok(PlainPort::new(id, begin))
+    }
+
+    fn finish(&mut self, world: &mut PlainWorld, outcome: Outcome) {
+        self.has_finished = Snapshot::of(&true);
+        world.finish(self.id, outcome);
+    }
+}
+
+#[cfg(test)]
+mod tests {
+    use super::PlainPort;
+    use crate::plain_world::PlainWorld;
+    use fx_fiber::Port;
+    use fx_term::{Begin, NodeId, Outcome, Registers};
+    use std::marker::Brand;
+    use std::test::Fail;
+
+    #[test]
+    fn a_port_sees_what_another_one_did(rt: HostRuntime) -> Result<(), Fail> {
+        let mut world = PlainWorld::opening(rt.alloc(), 3)?;
+        let begin = Begin {
+            node: NodeId(0),
+            slots: Registers::new(rt.alloc()),
+            next: 1,
+            end: 3,
+        };
+        let mut main: PlainPort<Brand> = PlainPort::new(0, &begin);
+        let begin = Begin {
+            node: NodeId(0),
+            slots: Registers::new(rt.alloc()),
+            next: 2,
+            end: 2,
+        };
+        let mut child = main.start(&mut world, 1, &begin)?;
+        assert_eq!(rt; child.look(&mut world), false);
+        main.request(&mut world, 1);
+        assert_eq!(rt; child.look(&mut world), true);
+        assert_eq!(rt; main.look(&mut world), false);
+        assert_eq!(rt; main.peek(&mut world, 1), None);
+        child.finish(&mut world, Outcome::Canceled);
+        assert_eq!(rt; main.peek(&mut world, 1), Some(Outcome::Canceled));
+        assert_eq!(rt; main.peek(&mut world, 0), None);
+        // numbers of no fiber
+        main.request(&mut world, 3);
+        assert_eq!(rt; main.peek(&mut world, 3), None);
+        Ok(())
+    }
+}
