@@ -42,6 +42,7 @@ macro_rules! bracket {
 }
 
 mod binding;
+mod fibers;
 mod leaves;
 mod loops;
 mod masking;

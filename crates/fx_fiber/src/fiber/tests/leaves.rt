@@ -9,7 +9,7 @@ const CEDE: Node = Node::Cede;
 
 /// The first five steps of a run: what it is called, its code, the look from which on its fiber is
 /// requested, the answers of the steps, the trace after them, and how many looks there were.
-type Steps<'a> = (
+pub(super) type Steps<'a> = (
     &'a str,
     &'a [Node],
     Option<u32>,
@@ -19,7 +19,7 @@ type Steps<'a> = (
 );
 
 /// Runs the fiber of each row for five steps.
-fn assert_steps(rt: &impl Abort, alloc: Global, rows: &[Steps]) -> Result<(), Fail> {
+pub(super) fn assert_steps(rt: &impl Abort, alloc: Global, rows: &[Steps]) -> Result<(), Fail> {
     for &(row, nodes, request, answers, trace, looks) in rows {
         let ran = run(alloc, nodes, request, 5)?;
         assert!(rt;
