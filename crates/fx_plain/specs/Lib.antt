@@ -9,3 +9,4 @@ pub mod ClassSets
 pub mod PlainCalls
 pub mod World
 pub mod WorldClasses
+pub mod Replay

@@ -50,6 +50,7 @@
 //! laws of reports, ranges, puts and waits of the crate of fibers.
 #![tactic(auto)]
 
+mod chosen_run;
 mod class;
 mod classes;
 pub mod laws;
@@ -61,6 +62,7 @@ mod plain_port;
 mod plain_world;
 mod write;
 
+pub use chosen_run::replay;
 pub use lines::push_fiber_line;
 pub use out_fault::OutFault;
 pub use output::write_text;

