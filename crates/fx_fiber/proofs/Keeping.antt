@@ -17,7 +17,7 @@ use Rattle.fx_fiber.specs.declared.stepped.Stepped.TheVariants.{Went}
 use Rattle.fx_fiber.specs.Deed.{Deed, Ended, AreDeedsOf, AreDeeds}
 use Rattle.fx_fiber.specs.Machine.{progress_of, counts_of}
 use Rattle.fx_fiber.specs.Sound.{IsSoundMachine}
-use Rattle.fx_fiber.specs.State.{IsFirstMachine}
+use Rattle.fx_fiber.specs.Bare.{IsFirstMachine}
 use Rattle.fx_fiber.specs.Work.{work_left}
 use Rattle.fx_fiber.specs.Methods.{Steps, IsSame, label_of, deeds_made, Advances}
 use Rattle.fx_fiber.specs.Calls.{PortCalls, Range, range_of, first_range}

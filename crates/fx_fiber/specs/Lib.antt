@@ -8,7 +8,7 @@ pub mod Calls
 pub mod Waiting
 pub mod Machine
 pub mod Sound
-pub mod State
+pub mod Bare
 pub mod Methods
 pub mod Fiber
 pub mod MakesStep
