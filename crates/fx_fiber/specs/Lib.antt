@@ -20,6 +20,8 @@ pub mod Work
 pub mod Simple
 pub mod Scopes
 pub mod Outside
+pub mod Closed
+pub mod LeafBelow
 pub mod WaitsFor
 pub mod NeedLeft
 pub mod PutsLeft

@@ -2,6 +2,7 @@
 ghost use Rattle.std.specs.Prelude.{◌≡◌, ◌<◌, ◌^◌, [], false, IfOk, OnErr};
 
 use crate::begin::main_begin;
+use crate::closed::Closed;
 use crate::machine::focus::Focus;
 use crate::machine::made::Made;
 use crate::port::Port;
@@ -62,6 +63,8 @@ impl<P: Port> Fiber<P> {
     ghost use Rattle.fx_fiber.specs.NeedLeft.{HasRoom};
     ghost use Rattle.fx_fiber.specs.Fiber.{is_fiber_number, IsAtFirst, IsLawful, IsUnchanged, progress, has_ended};
     ghost use Rattle.fx_fiber.specs.MakesStep.{DoesStep};
+    ghost use Rattle.fx_fiber.specs.Outside.{can_step};
+    ghost use Rattle.fx_fiber.specs.Closed.{outside_of};
 
     /// The main fiber before its first step.
     pub fn new(alloc: Global, code: &Code, port: P) -> Result<Fiber<P>, Memory>
@@ -122,6 +125,16 @@ impl<P: Port> Fiber<P> {
         ensures finished { result ≡ P.has_finished self.now.port }
     {
         matches!(self.bare.machine.focus, Focus::Ended(_))
+    }
+
+    /// Whether the fiber can step where the outside is as a run left it: it has not ended, and is due to
+    /// be canceled, or has a request to see, or what its leaf waits for is there. It makes no step.
+    pub fn can_step(&self, code: &Code, closed: &Closed) -> bool
+        requires code { code.now.nodes ≡ P.code }
+        ensures { result ≡ can_step (outside_of closed.now) (P.number self.now.port)
+            self.now.counts (progress P.code self.now) }
+    {
+        self.bare.machine.can_step(code, self.id(), closed)
     }
 
     /// Makes exactly one rule; or answers that the fiber waits, and has changed nothing. Room for what

@@ -1,4 +1,4 @@
-use Rattle.std.proofs.Common.{◌≡◌, ◌+◌, refl, ◌∙◌, ap, subst, [], ◌∷◌, arith}
+use Rattle.std.proofs.Common.{◌+◌, refl, ◌∙◌, ap, subst, [], ◌∷◌, arith}
 use Rattle.fx_fiber.specs.declared.machine.focus.Focus.TheVariants.{Eval}
 use Rattle.fx_fiber.specs.declared.machine.Machine.{Machine}
 use Rattle.fx_term.specs.declared.begin.Begin.{Begin}
