@@ -1,4 +1,5 @@
 //! Where a fiber can step after so many steps, by what a run left.
+ghost use Rattle.std.specs.Prelude.{◌≡◌};
 
 use super::*;
 use Outcome::{Canceled, Errored, Succeeded};
