@@ -1,6 +1,6 @@
 -- The rules of `join`, `cancel` and `first`, and of a fiber that awaits one that it canceled.
-use Rattle.std.proofs.Common.{◌≡◌, ◌≢◌, ℕ, suc, ◌<◌, ◌≤◌, ◌^◌, Bool, true, false, Option, Some, None, List, [], ◌∷◌, length, refl, sym, ◌∙◌, ap, arith}
-use Rattle.std.specs.Prelude.{All, not, ◌&&◌, nat_lt, slice_index, option_and_then}
+use Rattle.std.proofs.Common.{◌≡◌, ℕ, suc, ◌<◌, ◌≤◌, ◌^◌, true, false, Option, Some, None, List, [], ◌∷◌, length, refl, sym, ◌∙◌, ap, arith}
+use Rattle.std.specs.Prelude.{All, slice_index, option_and_then}
 use Rattle.std.proofs.lemmas.Bool.{lt-ltb, ltb-true}
 use Rattle.fx_term.specs.declared.node.Arg.{Arg}
 use Rattle.fx_term.specs.declared.node.Arg.TheVariants.{Number, Slot}
@@ -23,10 +23,10 @@ use Rattle.fx_fiber.specs.declared.machine.focus.Focus.TheVariants as focus
 use Rattle.fx_fiber.specs.declared.machine.unwound.Unwound.{Unwound}
 use Rattle.fx_fiber.specs.declared.machine.Machine.{Machine}
 use Rattle.fx_fiber.specs.Path.{is_open, must_cancel}
-use Rattle.fx_fiber.specs.Row.{Label, Shows, Learns, Row, part_after, joined, request, awaited, first_left, first_right}
+use Rattle.fx_fiber.specs.Row.{Shows, Learns, part_after, joined, request, awaited, first_left, first_right}
 use Rattle.fx_fiber.specs.Step.{Progress, leaf_at, must_cancel_at, Step, row, cleans}
 use Rattle.fx_fiber.specs.Fiber.{is_fiber_number}
-use Rattle.fx_fiber.specs.Scopes.{IsArgGiven, IsScopedOver, IsProgressScopedOver}
+use Rattle.fx_fiber.specs.Scopes.{IsArgGiven, IsProgressScopedOver}
 use Rattle.fx_fiber.specs.MakesStep.{looks_first}
 use Rattle.fx_fiber.specs.declared.source.Source.TheVariants.{Either}
 use Rattle.fx_fiber.specs.Waiting.{wait_at}

@@ -17,7 +17,7 @@ use Rattle.fx_fiber.specs.declared.stepped.Stepped.TheVariants.{Went}
 use Rattle.fx_fiber.specs.Deed.{Deed, Ended, AreDeedsOf, AreDeeds}
 use Rattle.fx_fiber.specs.Machine.{progress_of, counts_of}
 use Rattle.fx_fiber.specs.Sound.{IsSoundMachine}
-use Rattle.fx_fiber.specs.State.{IsFirstMachine}
+use Rattle.fx_fiber.specs.Bare.{IsFirstMachine}
 use Rattle.fx_fiber.specs.Work.{work_left}
 use Rattle.fx_fiber.specs.Methods.{Steps, IsSame, label_of, deeds_made, Advances}
 use Rattle.fx_fiber.specs.Calls.{PortCalls, Range, range_of, first_range}
@@ -28,10 +28,8 @@ use Rattle.fx_fiber.proofs.Ends.{shows_end, ended_after}
 use Rattle.fx_fiber.proofs.Ranges.{step_keeps_range}
 use Rattle.std.proofs.lemmas.Bool.{lt-ltb}
 use Rattle.fx_fiber.specs.NeedLeft.{need_left, HasRoom}
-use Rattle.fx_fiber.specs.Scopes.{IsScopedOver, IsProgressScopedOver}
+use Rattle.fx_fiber.specs.Scopes.{IsScopedOver}
 use Rattle.fx_fiber.proofs.RangeLaws.{step_need}
-use Rattle.fx_term.specs.Need.{need}
-use Rattle.fx_fiber.proofs.ScopedCode.{code_is_scoped}
 use Rattle.fx_fiber.proofs.ScopedRuns.{GivesTaken, step_over}
 use Rattle.fx_fiber.proofs.StepLabels.{step_tells}
 

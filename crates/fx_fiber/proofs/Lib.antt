@@ -59,3 +59,4 @@ pub mod ScopedCode
 pub mod ScopedRuns
 pub mod Starts
 pub mod AllWork
+pub mod LeavesBelow

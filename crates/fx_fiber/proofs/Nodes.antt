@@ -31,7 +31,7 @@ pub arg_in_registers : (d e : ℕ) (a : Arg) → IsArgBelow d a → d ≤ e → 
 arg_in_registers d e (Number n) h p = tt
 arg_in_registers d e (Slot x) h p = omega arith
 
-leaf_of_node : (cs : List Closing) (b : ℕ) (ns : List ℕ) (f : ℕ → Term) (n : Node) → IsLeafNode (Some n) → IsLeafTerm cs (fill b ns (assemble (Some n) f))
+pub leaf_of_node : (cs : List Closing) (b : ℕ) (ns : List ℕ) (f : ℕ → Term) (n : Node) → IsLeafNode (Some n) → IsLeafTerm cs (fill b ns (assemble (Some n) f))
 leaf_of_node cs b ns f (node.Let x c d) h = absurd h
 leaf_of_node cs b ns f (node.Handle c x d) h = absurd h
 leaf_of_node cs b ns f (node.OnCancel c d) h = absurd h

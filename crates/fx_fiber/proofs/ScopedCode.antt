@@ -9,7 +9,6 @@ use Rattle.fx_term.specs.declared.node.Node.{Node}
 use Rattle.fx_term.specs.declared.node.Node.TheVariants as node
 use Rattle.fx_term.specs.Term.{Term}
 use Rattle.fx_term.specs.Tree.{children}
-use Rattle.fx_term.specs.Scope.{IsScoped}
 use Rattle.fx_term.specs.Meaning.{assemble, read, term_of, root_term}
 use Rattle.fx_term.specs.Code.{IsCode}
 use Rattle.fx_fiber.specs.Scopes.{UsesGiven, IsClosedTerm, IsScopedOver}

@@ -1,10 +1,9 @@
 -- The rule of `start`.
-use Rattle.std.proofs.Common.{◌≡◌, ℕ, suc, ◌+◌, ◌<◌, ◌≤◌, ◌^◌, Bool, true, false, Option, Some, None, List, [], ◌∷◌, length, refl, sym, ◌∙◌, ap, subst, arith}
+use Rattle.std.proofs.Common.{◌≡◌, ℕ, suc, ◌+◌, ◌<◌, ◌≤◌, ◌^◌, false, Some, List, [], ◌∷◌, length, refl, sym, ◌∙◌, ap, subst, arith}
 use Rattle.std.specs.Prelude.{All}
 use Rattle.fx_term.specs.declared.node.NodeId.{NodeId}
 use Rattle.fx_term.specs.declared.node.Node.{Node}
 use Rattle.fx_term.specs.declared.node.Node.TheVariants as node
-use Rattle.fx_term.specs.declared.begin.Begin.{Begin}
 use Rattle.fx_term.specs.Term.{Term, Let, Handle, If, For, Mask, Poll, OnCancel, Bracket, Start, Join, TryTake, Masked, Opened, InUse, InRelease, Loop}
 use Rattle.fx_term.specs.Fill.{lower, lower_named, fill}
 use Rattle.fx_term.specs.Registers.{with_number}
@@ -14,10 +13,10 @@ use Rattle.fx_term.specs.Need.{need}
 use Rattle.fx_fiber.specs.declared.machine.focus.Focus.TheVariants.{Eval}
 use Rattle.fx_fiber.specs.declared.machine.Machine.{Machine}
 use Rattle.fx_fiber.specs.Row.{Counts, Starts, numbers_taken, start}
-use Rattle.fx_fiber.specs.Origin.{Origin, child_origin, origin_of}
-use Rattle.fx_fiber.specs.Step.{Progress, Runs, Step}
+use Rattle.fx_fiber.specs.Origin.{child_origin, origin_of}
+use Rattle.fx_fiber.specs.Step.{Step}
 use Rattle.fx_fiber.specs.Work.{work, work_left}
-use Rattle.fx_fiber.specs.NeedLeft.{need_left, HasRoom}
+use Rattle.fx_fiber.specs.NeedLeft.{need_left}
 use Rattle.fx_fiber.specs.Fiber.{is_fiber_number}
 use Rattle.fx_fiber.specs.Scopes.{IsScopedOver, IsProgressScopedOver}
 use Rattle.fx_fiber.specs.Machine.{filled, progress_at, progress_of, counts_of}

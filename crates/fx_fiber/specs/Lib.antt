@@ -8,7 +8,7 @@ pub mod Calls
 pub mod Waiting
 pub mod Machine
 pub mod Sound
-pub mod State
+pub mod Bare
 pub mod Methods
 pub mod Fiber
 pub mod MakesStep
@@ -20,6 +20,8 @@ pub mod Work
 pub mod Simple
 pub mod Scopes
 pub mod Outside
+pub mod Closed
+pub mod LeafBelow
 pub mod WaitsFor
 pub mod NeedLeft
 pub mod PutsLeft

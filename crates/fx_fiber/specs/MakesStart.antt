@@ -6,7 +6,6 @@ use Rattle.fx_term.specs.declared.event.Event.TheVariants as event
 use Rattle.fx_fiber.specs.Row.{Starts}
 use Rattle.fx_fiber.specs.Origin.{Origin}
 use Rattle.fx_fiber.specs.Calls.{PortCalls}
-use Rattle.fx_fiber.specs.Deed.{Deed, Started}
 use Rattle.fx_fiber.specs.Fiber.{FiberView, IsAtFirst}
 use Rattle.fx_fiber.specs.MakesStep.{StartsChild}
 use Rattle.fx_fiber.specs.Methods.{Steps}

@@ -2,6 +2,7 @@
 ghost use Rattle.std.specs.Prelude.{◌≡◌, ◌<◌, ◌^◌, [], false, IfOk, OnErr};
 
 use crate::begin::main_begin;
+use crate::closed::Closed;
 use crate::machine::focus::Focus;
 use crate::machine::made::Made;
 use crate::port::Port;
@@ -10,11 +11,13 @@ use fx_term::{Code, Event, Memory};
 use std::alloc::Global;
 use std::marker::Model;
 
+mod advance;
+mod bare;
 mod start;
-mod state;
 
+use advance::advance;
+use bare::Bare;
 use start::start;
-use state::{State, advance};
 
 /// A fiber: a running term, what it keeps beside it, its trace, and its port. By its type the trace
 /// is that of a run from what the port says that the fiber began with, and the port agrees with what
@@ -22,7 +25,7 @@ use state::{State, advance};
 #[derive(Drop)]
 pub struct Fiber<P: Port> {
     port: P,
-    state: Box<State>,
+    bare: Box<Bare>,
 }
 
 impl<P: Port> Model for Fiber<P> {
@@ -34,18 +37,18 @@ impl<P: Port> Model for Fiber<P> {
 
     ghost view = { λ f. record {
       port = f.port;
-      trace = f.state.value.trace.items;
-      counts = counts_of f.state.value.machine;
-      registers = f.state.value.machine.registers;
-      frames = f.state.value.machine.frames;
-      closed = f.state.value.machine.masks.regions;
-      cleanups = f.state.value.machine.cleanups;
-      focus = f.state.value.machine.focus;
+      trace = f.bare.value.trace.items;
+      counts = counts_of f.bare.value.machine;
+      registers = f.bare.value.machine.registers;
+      frames = f.bare.value.machine.frames;
+      closed = f.bare.value.machine.masks.regions;
+      cleanups = f.bare.value.machine.cleanups;
+      focus = f.bare.value.machine.focus;
     } };
 
-    ghost invariant = { λ f. (P.number f.port ≡ f.state.value.id)
+    ghost invariant = { λ f. (P.number f.port ≡ f.bare.value.id)
         × IsKept P.code (P.beginning f.port) (P.agrees f.port) (P.has_finished f.port)
-        (P.rest f.port) f.state.value.trace.items f.state.value.machine };
+        (P.rest f.port) f.bare.value.trace.items f.bare.value.machine };
 }
 
 impl<P: Port> Fiber<P> {
@@ -55,11 +58,13 @@ impl<P: Port> Fiber<P> {
     ghost use Rattle.fx_fiber.specs.Calls.{first_range};
     ghost use Rattle.fx_fiber.specs.Step.{Runs};
     ghost use Rattle.fx_fiber.specs.Work.{work_left};
-    ghost use Rattle.fx_fiber.specs.State.{IsFirstState};
+    ghost use Rattle.fx_fiber.specs.Bare.{IsFirstBare};
     ghost use Rattle.fx_fiber.specs.Scopes.{IsScopedOver};
     ghost use Rattle.fx_fiber.specs.NeedLeft.{HasRoom};
     ghost use Rattle.fx_fiber.specs.Fiber.{is_fiber_number, IsAtFirst, IsLawful, IsUnchanged, progress, has_ended};
     ghost use Rattle.fx_fiber.specs.MakesStep.{DoesStep};
+    ghost use Rattle.fx_fiber.specs.Outside.{can_step};
+    ghost use Rattle.fx_fiber.specs.Closed.{outside_of};
 
     /// The main fiber before its first step.
     pub fn new(alloc: Global, code: &Code, port: P) -> Result<Fiber<P>, Memory>
@@ -78,13 +83,13 @@ impl<P: Port> Fiber<P> {
         ensures progress { IfOk result (λ fiber. progress code.now.nodes fiber ≡ Runs (root_term code.now.nodes)) }
     {
         let begin = main_begin(alloc, code);
-        let state = State::beginning(alloc, 0, &begin)?;
-        Ok(Fiber::beginning(port, state))
+        let bare = Bare::beginning(alloc, 0, &begin)?;
+        Ok(Fiber::beginning(port, bare))
     }
 
     /// The fiber over this port before its first step.
-    pub(crate) fn beginning(port: P, state: Box<State>) -> Fiber<P>
-        requires state { IsFirstState P.code (P.number port) (P.beginning port) state.value }
+    pub(crate) fn beginning(port: P, bare: Box<Bare>) -> Fiber<P>
+        requires bare { IsFirstBare P.code (P.number port) (P.beginning port) bare.value }
         requires countable { work_left (Runs (origin_of P.code (P.beginning port)).term) < 2 ^ 63 }
         requires scoped { IsScopedOver is_fiber_number (origin_of P.code (P.beginning port)).term }
         requires room { HasRoom (origin_of P.code (P.beginning port)) }
@@ -95,14 +100,14 @@ impl<P: Port> Fiber<P> {
         ensures port { result.port ≡ port }
         ensures first { IsAtFirst P.code (origin_of P.code (P.beginning port)) result }
     {
-        Fiber { port, state }
+        Fiber { port, bare }
     }
 
     /// The fiber's number.
     pub fn id(&self) -> u32
         ensures { result ≡ P.number self.now.port }
     {
-        self.state.id
+        self.bare.id
     }
 
     /// The events so far, the first one first.
@@ -111,7 +116,7 @@ impl<P: Port> Fiber<P> {
         ensures lawful { IsLawful P.code (P.beginning self.now.port) (P.agrees self.now.port)
             self.now.trace self.now.counts (progress P.code self.now) }
     {
-        &self.state.trace
+        &self.bare.trace
     }
 
     /// Whether the fiber has ended.
@@ -119,7 +124,17 @@ impl<P: Port> Fiber<P> {
         ensures ended { result ≡ has_ended (progress P.code self.now) }
         ensures finished { result ≡ P.has_finished self.now.port }
     {
-        matches!(self.state.machine.focus, Focus::Ended(_))
+        matches!(self.bare.machine.focus, Focus::Ended(_))
+    }
+
+    /// Whether the fiber can step where the outside is as a run left it: it has not ended, and is due to
+    /// be canceled, or has a request to see, or what its leaf waits for is there. It makes no step.
+    pub fn can_step(&self, code: &Code, closed: &Closed) -> bool
+        requires code { code.now.nodes ≡ P.code }
+        ensures { result ≡ can_step (outside_of closed.now) (P.number self.now.port)
+            self.now.counts (progress P.code self.now) }
+    {
+        self.bare.machine.can_step(code, self.id(), closed)
     }
 
     /// Makes exactly one rule; or answers that the fiber waits, and has changed nothing. Room for what
@@ -134,33 +149,23 @@ impl<P: Port> Fiber<P> {
         ensures number { P.number self.new.port ≡ P.number self.old.port }
         ensures beginning { P.beginning self.new.port ≡ P.beginning self.old.port }
     {
-        let state = &mut *self.state;
-        state.trace.reserve(1)?;
-        let event = match advance(&mut self.port, &mut state.machine, code, shared)? {
+        let bare = &mut *self.bare;
+        bare.trace.reserve(1)?;
+        let event = match advance(&mut self.port, &mut bare.machine, code, shared)? {
             Made::Shows(event) => event,
             Made::Silent => return Ok(Stepped::Went),
             Made::Yielded => return Ok(Stepped::Gave),
             Made::Waits => return Ok(Stepped::Waits),
             Made::Starts(slot, started, then) => {
-                let alloc = state.machine.alloc;
-                let child = start(
-                    alloc,
-                    &mut self.port,
-                    state,
-                    code,
-                    shared,
-                    slot,
-                    started,
-                    then,
-                )?;
+                let child = start(&mut self.port, bare, code, shared, slot, started, then)?;
                 return Ok(Stepped::Child(child));
             }
             Made::Learns(_, _, learnt) => {
-                state.trace.push_reserved(learnt);
+                bare.trace.push_reserved(learnt);
                 return Ok(Stepped::Went);
             }
         };
-        state.trace.push_reserved(event);
+        bare.trace.push_reserved(event);
         match event {
             Event::Ended(outcome) => {
                 self.port.finish(shared, outcome);

@@ -51,6 +51,7 @@
 #![tactic(auto)]
 
 mod begin;
+mod closed;
 mod fiber;
 mod fiber_report;
 pub mod laws;
@@ -61,6 +62,7 @@ mod source;
 mod stepped;
 
 pub use begin::main_begin;
+pub use closed::Closed;
 pub use fiber::Fiber;
 pub use fiber_report::{FiberReport, State};
 pub use port::Port;

@@ -8,19 +8,17 @@ ghost use Rattle.fx_fiber.specs.MakesStart.{MakesStart};
 ghost use Rattle.fx_fiber.specs.Methods.{IsSame, StandsAt};
 
 use crate::fiber::Fiber;
-use crate::fiber::state::State;
+use crate::fiber::bare::Bare;
 use crate::machine::focus::Focus;
 use crate::port::Port;
 use fx_term::{Begin, Code, Event, Memory, NodeId};
-use std::alloc::Global;
 
 /// Starts a fiber that runs one part, under no mask and not canceled, with the numbers of the names in
 /// scope; the other part goes on with the fiber's number by this name. All memory is had before the
 /// port starts the fiber. Its event has its room in the trace.
 pub(crate) fn start<P: Port>(
-    alloc: Global,
     port: &mut P,
-    state: &mut State,
+    bare: &mut Bare,
     code: &Code,
     shared: &mut P::Shared,
     slot: u32,
@@ -29,23 +27,24 @@ pub(crate) fn start<P: Port>(
 ) -> Result<Fiber<P>, Memory>
     requires code { code.now.nodes ≡ P.code }
     requires stands { (id : NodeId)
-        × StandsAt P.code state.old.machine id (node.Start slot started then) }
+        × StandsAt P.code bare.old.machine id (node.Start slot started then) }
     requires kept { IsKept P.code (P.beginning port.old) (P.agrees port.old)
-        (P.has_finished port.old) (P.rest port.old) state.old.trace.items state.old.machine }
+        (P.has_finished port.old) (P.rest port.old) bare.old.trace.items bare.old.machine }
     requires going { P.has_finished port.old ≡ false }
-    requires room { vec_len state.old.trace < vec_capacity state.old.trace }
-    ensures started { IfOk result (λ child. MakesStart P.calls P.code state.old.machine port.old
-        shared.old state.old.trace.items child state.new.machine port.new shared.new state.new.trace.items) }
+    requires room { vec_len bare.old.trace < vec_capacity bare.old.trace }
+    ensures started { IfOk result (λ child. MakesStart P.calls P.code bare.old.machine port.old
+        shared.old bare.old.trace.items child bare.new.machine port.new shared.new bare.new.trace.items) }
     ensures kept { IfOk result (λ child. IsKept P.code (P.beginning port.new) (P.agrees port.new)
-        (P.has_finished port.new) (P.rest port.new) state.new.trace.items state.new.machine) }
-    ensures same { OnErr result (IsSame P.code state.old.machine state.new.machine) }
-    ensures trace { OnErr result (state.new.trace.items ≡ state.old.trace.items) }
+        (P.has_finished port.new) (P.rest port.new) bare.new.trace.items bare.new.machine) }
+    ensures same { OnErr result (IsSame P.code bare.old.machine bare.new.machine) }
+    ensures trace { OnErr result (bare.new.trace.items ≡ bare.old.trace.items) }
     ensures unchanged { OnErr result ((port.new ≡ port.old) × (shared.new ≡ shared.old)) }
-    ensures id { state.new.id ≡ state.old.id }
+    ensures id { bare.new.id ≡ bare.old.id }
     ensures number { P.number port.new ≡ P.number port.old }
     ensures beginning { P.beginning port.new ≡ P.beginning port.old }
 {
-    let machine = &mut state.machine;
+    let machine = &mut bare.machine;
+    let alloc = machine.alloc;
     let id = machine.next;
     let next = id + 1;
     let begin = Begin {
@@ -54,11 +53,11 @@ pub(crate) fn start<P: Port>(
         next,
         end: next + code.need(started),
     };
-    let child = State::beginning(alloc, id, &begin)?;
+    let child = Bare::beginning(alloc, id, &begin)?;
     machine.registers.bind(Some(slot), u64::from(id))?;
     let own = port.start(shared, id, &begin)?;
     machine.next = begin.end;
     machine.focus = Focus::Eval(then);
-    state.trace.push_reserved(Event::Start(id));
+    bare.trace.push_reserved(Event::Start(id));
     Ok(Fiber::beginning(own, child))
 }

@@ -41,7 +41,14 @@ macro_rules! bracket {
     };
 }
 
+macro_rules! start {
+    ($slot:expr, $started:expr, $then:expr) => {
+        Node::Start($slot, NodeId($started), NodeId($then))
+    };
+}
+
 mod binding;
+mod can_step;
 mod fibers;
 mod leaves;
 mod loops;

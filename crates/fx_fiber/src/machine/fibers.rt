@@ -22,7 +22,7 @@ impl Machine {
     ghost use Rattle.fx_term.specs.declared.node.NodeId.{NodeId};
 
     /// The number of the fiber that a name stands for.
-    fn fiber_of(&self, slot: u32) -> u32
+    pub fn fiber_of(&self, slot: u32) -> u32
         requires bound { slot < length self.now.registers }
         requires fits { slice_index self.now.registers slot < 2 ^ 32 }
         ensures { fill_arg (length self.now.registers) self.now.registers (arg.Slot slot) ≡ arg.Number result }

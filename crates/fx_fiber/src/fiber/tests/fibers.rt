@@ -4,12 +4,6 @@ use super::leaves::{Steps, assert_steps};
 use super::*;
 use Answer::{Child, Ended, Waits, Went};
 
-macro_rules! start {
-    ($slot:expr, $started:expr, $then:expr) => {
-        Node::Start($slot, NodeId($started), NodeId($then))
-    };
-}
-
 static STARTS: [Steps; 3] = [
     (
         "start h (pure 1) (pure 2)",

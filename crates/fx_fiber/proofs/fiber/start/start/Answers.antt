@@ -1,4 +1,4 @@
-use Rattle.std.proofs.Common.{◌≡◌, ◌+◌, refl, ◌∙◌, ap, subst, [], ◌∷◌, arith}
+use Rattle.std.proofs.Common.{◌+◌, refl, ◌∙◌, ap, subst, [], ◌∷◌, arith}
 use Rattle.fx_fiber.specs.declared.machine.focus.Focus.TheVariants.{Eval}
 use Rattle.fx_fiber.specs.declared.machine.Machine.{Machine}
 use Rattle.fx_term.specs.declared.begin.Begin.{Begin}
@@ -18,77 +18,77 @@ pub overflow_add-next : goal.overflow_add-next
 overflow_add-next g c =
     let at = c.requires.stands.1 in
     let k = c.requires.kept in
-    let p = start_within g.P.Port.code c.args.state.now.machine _ _ _ _ at.at at.free k.room in let q = k.word in omega arith
+    let p = start_within g.P.Port.code c.args.bare.now.machine _ _ _ _ at.at at.free k.room in let q = k.word in omega arith
 
 pub need-requires : goal.need-requires
-need-requires g c = rw c.requires.code (started_node g.P.Port.code c.args.state.now.machine _ _ _ _ c.requires.stands.1.at).number
+need-requires g c = rw c.requires.code (started_node g.P.Port.code c.args.bare.now.machine _ _ _ _ c.requires.stands.1.at).number
 
 pub overflow_add-begin : goal.overflow_add-begin
 overflow_add-begin g c =
     let at = c.requires.stands.1 in
     let k = c.requires.kept in
-    let p = start_within g.P.Port.code c.args.state.now.machine _ _ _ _ at.at at.free k.room in
-    let n = need_is g.P.Port.code c.args.state.now.machine _ _ _ _ at.at c.need.result (rw c.requires.code at c.need.ensures.need) in
+    let p = start_within g.P.Port.code c.args.bare.now.machine _ _ _ _ at.at at.free k.room in
+    let n = need_is g.P.Port.code c.args.bare.now.machine _ _ _ _ at.at c.need.result (rw c.requires.code at c.need.ensures.need) in
     let q = k.word in omega arith
 
 pub beginning-requires : goal.beginning-requires
 beginning-requires g c =
-    sound_begin g.P.Port.code c.args.state.now.machine _ _ _ _ c.requires.stands.1.at _ _ _ c.in_ok-copied.ensures
+    sound_begin g.P.Port.code c.args.bare.now.machine _ _ _ _ c.requires.stands.1.at _ _ _ c.in_ok-copied.ensures
 
 pub bind-requires : goal.bind-requires
-bind-requires g c = start_reaches g.P.Port.code c.args.state.now.machine _ _ _ _ c.requires.stands.1.at
+bind-requires g c = start_reaches g.P.Port.code c.args.bare.now.machine _ _ _ _ c.requires.stands.1.at
 
 pub start-requires-clause-range : goal.start-requires-clause-range
 start-requires-clause-range g c =
     let at = c.requires.stands.1 in
     let k = c.requires.kept in
-    let p = start_within g.P.Port.code c.args.state.now.machine _ _ _ _ at.at at.free k.room in
-    let n = need_is g.P.Port.code c.args.state.now.machine _ _ _ _ at.at c.need.result (rw c.requires.code at c.need.ensures.need) in
+    let p = start_within g.P.Port.code c.args.bare.now.machine _ _ _ _ at.at at.free k.room in
+    let n = need_is g.P.Port.code c.args.bare.now.machine _ _ _ _ at.at c.need.result (rw c.requires.code at c.need.ensures.need) in
     rw k.numbers (record { number = refl; follows = refl; ordered = omega arith; within = omega arith })
 
 pub returns-in_err-own-clause-same : goal.returns-in_err-own-clause-same
 returns-in_err-own-clause-same g c =
-    on_any_error {P = IsSame g.P.Port.code c.args.state.now.machine _} _
-    (start_stays g.P.Port.code c.args.state.now.machine _ _ _ _ c.requires.stands.1.at c.from.result _ (rw c.in_ok-bind.ensures.ok refl))
+    on_any_error {P = IsSame g.P.Port.code c.args.bare.now.machine _} _
+    (start_stays g.P.Port.code c.args.bare.now.machine _ _ _ _ c.requires.stands.1.at c.from.result _ (rw c.in_ok-bind.ensures.ok refl))
 
 pub push_reserved-requires : goal.push_reserved-requires
 push_reserved-requires g c = c.requires.room
 
-pub beginning-requires-2-clause-state : goal.beginning-requires-2-clause-state
-beginning-requires-2-clause-state g c = rw (c.in_ok-own.ensures.child_number, c.in_ok-own.ensures.child_beginning) c.in_ok-child.ensures
+pub beginning-requires-2-clause-bare : goal.beginning-requires-2-clause-bare
+beginning-requires-2-clause-bare g c = rw (c.in_ok-own.ensures.child_number, c.in_ok-own.ensures.child_beginning) c.in_ok-child.ensures
 
 pub beginning-requires-2-clause-countable : goal.beginning-requires-2-clause-countable
 beginning-requires-2-clause-countable g c =
     let at = c.requires.stands.1 in
     rw (c.in_ok-own.ensures.child_beginning, c.in_ok-copied.ensures)
-    (part_works g.P.Port.code c.args.state.now.machine _ _ _ _ at.at at.free c.requires.kept.countable)
+    (part_works g.P.Port.code c.args.bare.now.machine _ _ _ _ at.at at.free c.requires.kept.countable)
 
 pub beginning-requires-2-clause-scoped : goal.beginning-requires-2-clause-scoped
 beginning-requires-2-clause-scoped g c =
     let at = c.requires.stands.1 in
     let k = c.requires.kept in
     rw (c.in_ok-own.ensures.child_beginning, c.in_ok-copied.ensures)
-    (part_scoped g.P.Port.code c.args.state.now.machine _ _ _ _ at.at at.free k.room k.word k.scoped)
+    (part_scoped g.P.Port.code c.args.bare.now.machine _ _ _ _ at.at at.free k.room k.word k.scoped)
 
 pub beginning-requires-2-clause-room : goal.beginning-requires-2-clause-room
 beginning-requires-2-clause-room g c =
     let at = c.requires.stands.1 in
-    let n = need_is g.P.Port.code c.args.state.now.machine _ _ _ _ at.at c.need.result (rw c.requires.code at c.need.ensures.need) in
+    let n = need_is g.P.Port.code c.args.bare.now.machine _ _ _ _ at.at c.need.result (rw c.requires.code at c.need.ensures.need) in
     rw (c.in_ok-own.ensures.child_beginning, c.in_ok-copied.ensures) (omega arith)
 
 pub beginning-requires-2-clause-word : goal.beginning-requires-2-clause-word
 beginning-requires-2-clause-word g c =
     let at = c.requires.stands.1 in
     let k = c.requires.kept in
-    let p = start_within g.P.Port.code c.args.state.now.machine _ _ _ _ at.at at.free k.room in
-    let n = need_is g.P.Port.code c.args.state.now.machine _ _ _ _ at.at c.need.result (rw c.requires.code at c.need.ensures.need) in
+    let p = start_within g.P.Port.code c.args.bare.now.machine _ _ _ _ at.at at.free k.room in
+    let n = need_is g.P.Port.code c.args.bare.now.machine _ _ _ _ at.at c.need.result (rw c.requires.code at c.need.ensures.need) in
     let q = k.word in
     rw c.in_ok-own.ensures.child_beginning (omega arith)
 
 pub returns-clause-started : goal.returns-clause-started
 returns-clause-started g c =
     let at = c.requires.stands.1 in
-    let s = c.args.state.now.machine in
+    let s = c.args.bare.now.machine in
     let n = need_is g.P.Port.code s _ _ _ _ at.at c.need.result (rw c.requires.code at c.need.ensures.need) in
     let begins = begins_so g.P.Port.code s _ _ _ _ at.at _ c.need.result c.in_ok-copied.ensures n in
     let t : Machine = record s { registers = c.bind.new.self; focus = Eval c.args.then; next = s.next + 1 + c.need.result } in
@@ -104,7 +104,7 @@ returns-clause-started g c =
 pub returns-clause-kept : goal.returns-clause-kept
 returns-clause-kept g c =
     let at = c.requires.stands.1 in
-    let s = c.args.state.now.machine in
+    let s = c.args.bare.now.machine in
     let k = c.requires.kept in
     let n = need_is g.P.Port.code s _ _ _ _ at.at c.need.result (rw c.requires.code at c.need.ensures.need) in
     let begins = begins_so g.P.Port.code s _ _ _ _ at.at _ c.need.result c.in_ok-copied.ensures n in

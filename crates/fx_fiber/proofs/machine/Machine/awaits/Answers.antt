@@ -1,4 +1,3 @@
-use Rattle.fx_term.specs.declared.event.Event.TheVariants as event
 use Rattle.fx_fiber.proofs.Calls.{waits_call, learns_call}
 use Rattle.fx_fiber.proofs.Fibers.{await_sound, await_step, await_waits}
 use Rattle.fx_fiber.proofs.machine.Machine.awaits.Goals as goal

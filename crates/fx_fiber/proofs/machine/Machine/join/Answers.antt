@@ -1,5 +1,4 @@
-use Rattle.std.proofs.Common.{refl, ◌∙◌, ap}
-use Rattle.fx_term.specs.declared.event.Event.TheVariants as event
+use Rattle.std.proofs.Common.{refl}
 use Rattle.fx_fiber.proofs.Calls.{waits_call, learns_call}
 use Rattle.fx_fiber.proofs.Fibers.{join_within, join_fits, join_reaches, join_has_register, join_goes_on, join_waits}
 use Rattle.fx_fiber.proofs.machine.Machine.join.Goals as goal

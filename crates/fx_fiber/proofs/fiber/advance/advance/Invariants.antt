@@ -1,4 +1,4 @@
-use Rattle.fx_fiber.proofs.fiber.state.advance.Given as goal
+use Rattle.fx_fiber.proofs.fiber.advance.advance.Given as goal
 
 abbrev pub ghost-interrupted : goal.ghost-interrupted
 ghost-interrupted g a = g.P.Port.code

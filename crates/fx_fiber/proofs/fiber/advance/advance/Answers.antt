@@ -6,7 +6,7 @@ use Rattle.fx_fiber.proofs.Calls.{local_call}
 use Rattle.fx_fiber.proofs.Advances.{inside_leaf, inside_result, inside_loop, same_here, is_interrupted, is_free}
 use Rattle.fx_fiber.proofs.Advances.{interrupted_advances, rule_advances, await_advances}
 use Rattle.fx_fiber.proofs.Nodes.{loop_number}
-use Rattle.fx_fiber.proofs.fiber.state.advance.Goals as goal
+use Rattle.fx_fiber.proofs.fiber.advance.advance.Goals as goal
 
 pub interrupted-requires : goal.interrupted-requires
 interrupted-requires g c =

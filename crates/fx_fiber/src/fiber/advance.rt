@@ -1,4 +1,4 @@
-//! What a fiber has beside its port, and what it makes in a step.
+//! What a fiber makes in a step.
 ghost use Rattle.std.specs.Prelude.{◌≡◌, ◌^◌, ◌<◌, ◌++◌, ◌∷◌, ◌&&◌, ◌||◌, [], Some, List, IfOk, OnErr};
 ghost use Rattle.fx_fiber.specs.Sound.{IsSoundMachine};
 ghost use Rattle.fx_fiber.specs.Methods.{Advances, ComesFirst, IsSame, IsGoing, is_open_machine};
@@ -13,8 +13,7 @@ use crate::machine::focus::Focus;
 use crate::machine::interruption::Interruption;
 use crate::machine::made::Made;
 use crate::port::Port;
-use fx_term::{Begin, Code, Event, Memory};
-use std::alloc::Global;
+use fx_term::{Code, Memory};
 
 /// What comes before the rule of the place: at an open one cancellation where it is due, and else a
 /// request where a look finds one.
@@ -88,36 +87,5 @@ pub(crate) fn advance<P: Port>(
         Focus::Await(fiber) => Ok(machine.awaits(port, shared, fiber)),
         Focus::Unwinding => Ok(machine.unwinds()),
         Focus::Ended(_) => unreachable!(),
-    }
-}
-
-/// What a fiber has beside its port. No port is named here, so a child's is made before its port is.
-#[derive(Drop)]
-pub(crate) struct State {
-    /// The fiber's number.
-    pub id: u32,
-    /// The events so far, the first one first.
-    pub trace: Vec<Event>,
-    /// Where the fiber stands.
-    pub machine: Machine,
-}
-
-impl State {
-    ghost use Rattle.std.specs.Prelude.{List};
-    ghost use Rattle.fx_term.specs.declared.node.Node.{Node};
-    ghost use Rattle.fx_fiber.specs.Sound.{IsSoundBegin};
-    ghost use Rattle.fx_fiber.specs.State.{IsFirstState};
-
-    /// That of a fiber with this number, which begins so, before its first step.
-    pub fn beginning(alloc: Global, id: u32, begin: &Begin) -> Result<Box<State>, Memory>
-        ghost nodes: { List Node }
-        requires { IsSoundBegin nodes begin.now }
-        ensures { IfOk result (λ state. IsFirstState nodes id begin.now state.value) }
-    {
-        let mut trace = Vec::new(alloc);
-        // A fiber has at least one event, its end.
-        trace.reserve(1)?;
-        let machine = Machine::beginning(alloc, begin)?;
-        Ok(Box::new(alloc, State { id, trace, machine })?)
     }
 }

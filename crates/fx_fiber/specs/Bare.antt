@@ -8,7 +8,7 @@ use Rattle.fx_fiber.specs.Origin.{origin_of}
 use Rattle.fx_fiber.specs.Machine.{counts_of, progress_of}
 use Rattle.fx_fiber.specs.Sound.{IsSoundMachine}
 use Rattle.fx_fiber.specs.declared.machine.Machine.{Machine}
-use Rattle.fx_fiber.specs.declared.fiber.state.State.{State}
+use Rattle.fx_fiber.specs.declared.fiber.bare.Bare.{Bare}
 
 -- the machine of a fiber that begins so, before its first step
 pub record IsFirstMachine (nodes : List Node) (begin : Begin) (s : Machine) : Type 0 where
@@ -17,7 +17,7 @@ pub record IsFirstMachine (nodes : List Node) (begin : Begin) (s : Machine) : Ty
   pub progress : progress_of nodes s ≡ Runs (origin_of nodes begin).term
 
 -- that of a fiber with this number: it has shown nothing
-pub record IsFirstState (nodes : List Node) (id : ℕ) (begin : Begin) (s : State) : Type 0 where
-  pub number : s.id ≡ id
-  pub trace : s.trace.items ≡ []
-  pub machine : IsFirstMachine nodes begin s.machine
+pub record IsFirstBare (nodes : List Node) (id : ℕ) (begin : Begin) (b : Bare) : Type 0 where
+  pub number : b.id ≡ id
+  pub trace : b.trace.items ≡ []
+  pub machine : IsFirstMachine nodes begin b.machine
