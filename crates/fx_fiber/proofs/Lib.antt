@@ -60,3 +60,4 @@ pub mod ScopedRuns
 pub mod Starts
 pub mod AllWork
 pub mod LeavesBelow
+pub mod WaitsBelow

@@ -6,6 +6,7 @@ use crate::closed::Closed;
 use crate::machine::focus::Focus;
 use crate::machine::made::Made;
 use crate::port::Port;
+use crate::source::Source;
 use crate::stepped::Stepped;
 use fx_term::{Code, Event, Memory};
 use std::alloc::Global;
@@ -56,13 +57,15 @@ impl<P: Port> Fiber<P> {
     ghost use Rattle.fx_fiber.specs.Origin.{origin_of, main_origin, main_begin_of};
     ghost use Rattle.fx_fiber.specs.Run.{first_counts};
     ghost use Rattle.fx_fiber.specs.Calls.{first_range};
-    ghost use Rattle.fx_fiber.specs.Step.{Runs};
     ghost use Rattle.fx_fiber.specs.Work.{work_left};
     ghost use Rattle.fx_fiber.specs.Bare.{IsFirstBare};
     ghost use Rattle.fx_fiber.specs.Scopes.{IsScopedOver};
     ghost use Rattle.fx_fiber.specs.NeedLeft.{HasRoom};
     ghost use Rattle.fx_fiber.specs.Fiber.{is_fiber_number, IsAtFirst, IsLawful, IsUnchanged, progress, has_ended};
     ghost use Rattle.fx_fiber.specs.MakesStep.{DoesStep};
+    ghost use Rattle.std.specs.Prelude.{option_and_then};
+    ghost use Rattle.fx_fiber.specs.Step.{Runs, leaf_at};
+    ghost use Rattle.fx_fiber.specs.Waiting.{wait_at};
     ghost use Rattle.fx_fiber.specs.Outside.{can_step};
     ghost use Rattle.fx_fiber.specs.Closed.{outside_of};
 
@@ -110,6 +113,15 @@ impl<P: Port> Fiber<P> {
         self.bare.id
     }
 
+    /// The events so far, the first one first, where the fiber is not needed any more.
+    pub fn into_trace(self) -> Vec<Event>
+    where
+        P: Drop,
+        ensures { result.items ≡ self.trace }
+    {
+        Box::into_inner(self.bare).trace
+    }
+
     /// The events so far, the first one first.
     pub fn trace(&self) -> &[Event]
         ensures events { result.now ≡ self.now.trace }
@@ -135,6 +147,15 @@ impl<P: Port> Fiber<P> {
             self.now.counts (progress P.code self.now) }
     {
         self.bare.machine.can_step(code, self.id(), closed)
+    }
+
+    /// What the fiber waits for where it stands, if that is a place where a fiber can wait. After a step
+    /// that answered that it waits, it is that for which it does.
+    pub fn waits_for(&self, code: &Code) -> Option<Source>
+        requires code { code.now.nodes ≡ P.code }
+        ensures { result ≡ option_and_then wait_at (leaf_at (progress P.code self.now)) }
+    {
+        self.bare.machine.waits_for(code)
     }
 
     /// Makes exactly one rule; or answers that the fiber waits, and has changed nothing. Room for what
