@@ -1,6 +1,7 @@
 //! What the main fiber begins with.
-ghost use Rattle.std.specs.Prelude.{◌≡◌, ◌<◌, ◌^◌};
+ghost use Rattle.std.specs.Prelude.{◌≡◌, ◌+◌, ◌<◌, ◌≤◌, ◌^◌};
 ghost use Rattle.fx_term.specs.Code.{IsCode};
+ghost use Rattle.fx_term.specs.Need.{most_need};
 ghost use Rattle.fx_fiber.specs.Origin.{main_begin_of};
 
 use fx_term::{Begin, Code, Registers};
@@ -11,6 +12,7 @@ use std::alloc::Global;
 pub fn main_begin(alloc: Global, code: &Code) -> Begin
     ensures begin { result ≡ main_begin_of code.now.nodes }
     ensures code { IsCode code.now.queues code.now.nodes }
+    ensures few { result.end ≤ 1 + most_need }
     ensures word { result.end < 2 ^ 32 }
 {
     let root = code.root();

@@ -34,3 +34,4 @@ pub mod Written
 pub mod QueueNames
 pub mod WorldClasses
 pub mod WaitSteps
+pub mod NumbersUpTo

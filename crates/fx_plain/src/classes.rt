@@ -50,6 +50,20 @@ impl Classes {
         })
     }
 
+    /// How many fibers there are, started or not.
+    pub fn total(&self) -> u32
+        ensures { result ≡ length self.now }
+    {
+        self.of.len() as u32
+    }
+
+    /// Whether the fiber is able.
+    pub fn is_able(&self, fiber: u32) -> bool
+        ensures { result ≡ is_able (class_at self.now fiber) }
+    {
+        matches!(self.of.get(fiber as usize), Some(Class::Able))
+    }
+
     /// The least number of a fiber that is able.
     pub fn least(&self) -> Option<u32>
         ensures { IsLeastOf (λ f. is_able (class_at self.now f)) result }

@@ -66,4 +66,6 @@ pub use chosen_run::replay;
 pub use lines::push_fiber_line;
 pub use out_fault::OutFault;
 pub use output::write_text;
+pub use plain_port::PlainPort;
+pub use plain_world::PlainWorld;
 pub use write::{write_report, write_trace};

@@ -1,15 +1,22 @@
 //! What the fibers of one thread share.
-ghost use Rattle.std.specs.Prelude.{◌≡◌, ◌<◌, ◌≤◌, IfOk, length, slice_set};
+ghost use Rattle.std.specs.Prelude.{◌≡◌, ◌<◌, ◌≤◌, false, IfOk, length, slice_index_or, slice_set};
+ghost use Rattle.std.specs.List.{filter, range_with_len};
 ghost use Rattle.fx_plain.specs.declared.class.Class.TheVariants.{Waits};
 ghost use Rattle.fx_plain.specs.NumberSet.{IsLeastOf};
 ghost use Rattle.fx_plain.specs.ClassSets.{class_at, is_able};
 ghost use Rattle.fx_term.specs.Script.{ScriptView, total};
+ghost use Rattle.fx_fiber.specs.Origin.{main_begin_of};
+ghost use Rattle.fx_text.specs.View.{meaning};
+ghost use Rattle.fx_plain.specs.PlainCalls.{new_port};
+ghost use Rattle.fx_plain.specs.Replay.{script_of};
 ghost use Rattle.fx_plain.specs.World.{is_requested_in, outcome_in, after_request, after_request_from_outside, after_start, after_end, opening_world};
 
 use crate::classes::Classes;
 use crate::number_set::NUMBERS;
-use fx_fiber::Source;
-use fx_term::{Memory, Outcome};
+use crate::plain_port::PlainPort;
+use fx_fiber::{Source, main_begin};
+use fx_term::{CodeBrand, Memory, Outcome};
+use fx_text::Script;
 use std::alloc::Global;
 use std::marker::Model;
 
@@ -59,6 +66,58 @@ impl PlainWorld {
             outcomes: vec![in alloc; None; long]?,
             classes,
         })
+    }
+
+    /// The world of a script before any step, and the port of its main fiber, which alone has started.
+    pub fn new<J: CodeBrand>(
+        alloc: Global,
+        script: &Script,
+    ) -> Result<(PlainWorld, PlainPort<J>), Memory>
+        requires code { script.now.code.nodes ≡ J.nodes }
+        ensures world { IfOk result
+            (λ opened. opened.0 ≡ opening_world (script_of (meaning script.now))) }
+        ensures port { IfOk result
+            (λ opened. opened.1 ≡ new_port 0 (main_begin_of script.now.code.nodes)) }
+    {
+        let begin = main_begin(alloc, &script.code);
+        let world = PlainWorld::opening(alloc, begin.end)?;
+        Ok((world, PlainPort::new(0, &begin)))
+    }
+
+    /// How many numbers the script has for its fibers.
+    pub(crate) fn total(&self) -> u32
+        ensures { result ≡ length self.now.classes }
+    {
+        self.classes.total()
+    }
+
+    /// Whether the fiber is able: it has started, has not ended, and is not known to wait.
+    pub(crate) fn is_able(&self, fiber: u32) -> bool
+        ensures { result ≡ is_able (class_at self.now.classes fiber) }
+    {
+        self.classes.is_able(fiber)
+    }
+
+    /// Whether the fiber was requested from outside.
+    fn is_from_outside(&self, fiber: u32) -> bool
+        ensures { result ≡ slice_index_or self.now.from_outside fiber false }
+    {
+        self.from_outside.get(fiber as usize).copied().unwrap_or(false)
+    }
+
+    /// The numbers that were requested from outside, ascending.
+    pub(crate) fn outside(&self, alloc: Global) -> Result<Vec<u32>, Memory>
+        ensures { IfOk result (λ numbers. numbers.items
+            ≡ filter (λ f. slice_index_or self.now.from_outside f false)
+                (range_with_len 0 (length self.now.classes))) }
+    {
+        let mut numbers = Vec::new(alloc);
+        for fiber in 0..self.total() {
+            if self.is_from_outside(fiber) {
+                numbers.push(fiber)?;
+            }
+        }
+        Ok(numbers)
     }
 
     /// Whether the fiber is requested.
