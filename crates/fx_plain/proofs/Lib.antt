@@ -35,3 +35,5 @@ pub mod QueueNames
 pub mod WorldClasses
 pub mod WaitSteps
 pub mod NumbersUpTo
+pub mod PlainMachineSteps
+pub mod PlainMachineTries

@@ -19,7 +19,7 @@ use Rattle.fx_plain.proofs.StepsCan.{steps_can}
 use Rattle.fx_plain.proofs.WorldLaws.{stands_after}
 
 -- a step that calls so is that of no queue
-of_no_queue : (nodes : List Node) (l : Label) (answer : Stepped PortView WorldView) (p p' : PortView) (w w' : WorldView)
+pub of_no_queue : (nodes : List Node) (l : Label) (answer : Stepped PortView WorldView) (p p' : PortView) (w w' : WorldView)
     → Tells plain_calls nodes l answer p w p' w' → IsOfNoQueue l
 of_no_queue nodes (Shows (event.Put q n)) answer p p' w w' h = h
 of_no_queue nodes (Shows (event.Got q n)) answer p p' w w' h = h
@@ -28,7 +28,7 @@ of_no_queue nodes (Shows (event.Empty q)) answer p p' w w' h = h
 of_no_queue nodes _ answer p p' w w' h = tt
 
 -- the calls of a step leave the world as its label says
-world_is : (nodes : List Node) (f : ℕ) (l : Label) (answer : Stepped PortView WorldView) (p p' : PortView) (w w' : WorldView) → p.number ≡ f
+pub world_is : (nodes : List Node) (f : ℕ) (l : Label) (answer : Stepped PortView WorldView) (p p' : PortView) (w w' : WorldView) → p.number ≡ f
     → Tells plain_calls nodes l answer p w p' w' → w' ≡ world_after f l w
 world_is nodes f (Learns g o e) answer p p' w w' own h = h.2
 world_is nodes f (Shows (event.Request g)) answer p p' w w' own h = h.1

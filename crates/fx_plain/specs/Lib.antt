@@ -10,3 +10,4 @@ pub mod PlainCalls
 pub mod World
 pub mod WorldClasses
 pub mod Replay
+pub mod PlainMachine

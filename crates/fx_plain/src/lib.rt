@@ -58,6 +58,7 @@ mod lines;
 mod number_set;
 mod out_fault;
 mod output;
+mod plain_machine;
 mod plain_port;
 mod plain_world;
 mod write;

@@ -1,0 +1,310 @@
+-- What a machine comes to that lets a fiber make a step: the fiber is taken out of its place, makes a step or waits, and is laid down there.
+use Rattle.std.proofs.Common.{◌≡◌, ◌⊎◌, ℕ, ◌<◌, Bool, true, false, Option, Some, None, option_map, List, length, refl, sym, ◌∙◌, ap, subst, inl, inr, arith}
+use Rattle.std.proofs.Common.{get_or-set_same, get_or-set_other, length-set}
+use Rattle.std.specs.Prelude.{option_and_then, slice_index_or, slice_set}
+use Rattle.std.proofs.lemmas.Bool.{cases_eq}
+use Rattle.std.proofs.lemmas.Option.{none-some, same_Some}
+use Rattle.std.proofs.lemmas.List.{length-map}
+use Rattle.std.proofs.lemmas.List.Elements.{All-nil}
+use Rattle.fx_term.specs.declared.node.Node.{Node}
+use Rattle.fx_term.specs.declared.event.Event.TheVariants as event
+use Rattle.fx_term.specs.Term.{Term}
+use Rattle.fx_term.specs.Script.{ScriptView, total}
+use Rattle.fx_fiber.specs.Row.{Label, Silent, Shows, Learns, Starts}
+use Rattle.fx_fiber.specs.Origin.{Origin, origin_of}
+use Rattle.fx_fiber.specs.Step.{leaf_at}
+use Rattle.fx_fiber.specs.Fiber.{FiberView, progress, IsAtFirst}
+use Rattle.fx_fiber.specs.declared.source.Source.{Source}
+use Rattle.fx_fiber.specs.declared.stepped.Stepped.{Stepped}
+use Rattle.fx_fiber.specs.declared.stepped.Stepped.TheVariants.{Went, Child, Waits, Gave, Ended}
+use Rattle.fx_fiber.specs.Waiting.{wait_at}
+use Rattle.fx_fiber.specs.MakesStep.{is_yielding, AnswersSilently, Answers, StartsChild, Tells, MakesStep, OnlyWaits, DoesStep}
+use Rattle.fx_plain.specs.declared.class.Class.TheVariants as class
+use Rattle.fx_plain.specs.declared.plain_machine.Started.{Started}
+use Rattle.fx_plain.specs.declared.plain_machine.PlainMachine.{PlainMachine}
+use Rattle.fx_plain.specs.WholeMachine.{StartedFiber, WholeMachine, with_at, begun, fibers_after, can_step_in}
+use Rattle.fx_plain.specs.ClassSets.{class_at, is_able}
+use Rattle.fx_plain.specs.World.{WorldView, HeldFiber, held_of, StandsFor}
+use Rattle.fx_plain.specs.WorldClasses.{TellsWhoSteps}
+use Rattle.fx_plain.specs.Text.{NamesQueueBelow}
+use Rattle.fx_plain.specs.PlainCalls.{PortView, plain_calls}
+use Rattle.fx_plain.specs.PlainMachine.{held, all_held, IsNumbered, StandsForRun, Tries, steps, waits}
+use Rattle.fx_plain.proofs.Maps.{at_itself, at_that, at_other}
+use Rattle.fx_plain.proofs.WorldClasses.{unable_cannot_step}
+use Rattle.fx_plain.proofs.ClassSets.{class_at_set}
+use Rattle.fx_plain.proofs.WaitSteps.{noted_wait_tells}
+use Rattle.fx_plain.proofs.PlainMachineSteps.{at_number, held_option, held_at, same_made, IsFiber, is_fiber, below_total, own_number, names_none, child_is_free, step_is_tried}
+
+-- what a step does, by another name of the world before it and of its answer
+pub does_as : (nodes : List Node) (old new : FiberView PortView) (w world w' : WorldView) (answer named : Stepped PortView WorldView) → w ≡ world
+    → answer ≡ named → DoesStep plain_calls nodes old w answer new w' → DoesStep plain_calls nodes old world named new w'
+does_as nodes old new w world w' answer named same is h =
+    subst (λ (v : WorldView). DoesStep plain_calls nodes old v named new w') same
+    (subst (λ (a : Stepped PortView WorldView). DoesStep plain_calls nodes old w a new w') is h)
+
+-- the step started a fiber
+abbrev is_child : Stepped PortView WorldView → Bool
+is_child (Child c) = true
+is_child _ = false
+
+-- a step that answers none of the others makes a rule, and starts none
+module _ (nodes : List Node) (old new : FiberView PortView) (w w' : WorldView) where
+  abbrev pub IsQuiet : Stepped PortView WorldView → Type 0
+  IsQuiet answer = (answer ≡ Went) ⊎ (answer ≡ Gave) ⊎ (answer ≡ Ended)
+
+  quiet_is : (answer : Stepped PortView WorldView) → IsQuiet answer → DoesStep plain_calls nodes old w answer new w'
+      → MakesStep plain_calls nodes old w answer new w' × (is_child answer ≡ false)
+  quiet_is Went e d = (d, refl)
+  quiet_is Gave e d = (d, refl)
+  quiet_is Ended e d = (d, refl)
+  quiet_is Waits e d = absurd (elim e [ inl h ↦ cc | inr r ↦ elim r [ inl h ↦ cc | inr h ↦ cc ] ])
+  quiet_is (Child c) e d = absurd (elim e [ inl h ↦ cc | inr r ↦ elim r [ inl h ↦ cc | inr h ↦ cc ] ])
+
+module _ (nodes : List Node) (leaf : Option Term) (f : ℕ) (fibers : ℕ → Option StartedFiber) where
+  -- a step that starts none leaves the others
+  none_started : (l : Label) (answer : Stepped PortView WorldView) → is_child answer ≡ false → Answers nodes leaf l answer
+      → fibers_after f l fibers ≡ fibers
+  none_started (Starts g b) (Child c) e h = absurd cc
+  none_started (Starts g b) Went e h = absurd h
+  none_started (Starts g b) Waits e h = absurd h
+  none_started (Starts g b) Gave e h = absurd h
+  none_started (Starts g b) Ended e h = absurd h
+  none_started Silent answer e h = refl
+  none_started (Shows v) answer e h = refl
+  none_started (Learns g o v) answer e h = refl
+
+  -- what a step starts is told by its label
+  record IsStart (l : Label) : Type 0 where
+    pub number : ℕ
+    pub origin : Origin
+    pub is : l ≡ Starts number origin
+
+  silent_is_none : (b : Bool) (c : FiberView PortView) → AnswersSilently {S = WorldView} b (Child c) → ⊥
+  silent_is_none true c e = cc
+  silent_is_none false c e = cc
+
+  start_told : (l : Label) (c : FiberView PortView) → Answers {S = WorldView} nodes leaf l (Child c) → IsStart l
+  start_told (Starts g b) c h = record { number = g; origin = b; is = refl }
+  start_told Silent c h = absurd (silent_is_none (is_yielding leaf) c h)
+  start_told (Shows (event.Ended o)) c h = absurd cc
+  start_told (Shows _) c h = absurd cc
+  start_told (Learns g o v) c h = absurd cc
+
+module _ {J : Type 0} (nodes : List Node) (s : ScriptView) (p : PlainMachine J) (m : WholeMachine) (so : StandsForRun nodes s p m) (f : ℕ) (x : Started J)
+    (here : at_number nodes p f ≡ Some x) where
+  is : IsFiber nodes m f x
+  is = is_fiber nodes s p m so f x here
+
+  below : f < total s
+  below = below_total nodes s p m so f x here is
+
+  long_is : length p.fibers.items ≡ total s
+  long_is = sym (length-map p.fibers.items (held_option nodes)) ∙ so.stands.held_long
+
+  others_held : (h : ℕ) → held_option nodes (at_number nodes p h) ≡ option_map held_of (m.fibers h)
+  others_held h = sym (held_at nodes p h) ∙ so.stands.fibers h
+
+  -- what a step tells of the child that it starts
+  pub record IsBeginning (l : Label) (c : FiberView PortView) : Type 0 where
+    pub number : ℕ
+    pub origin : Origin
+    pub is : l ≡ Starts number origin
+    pub number_is : c.port.number ≡ number
+    pub begins : origin_of nodes c.port.beginning ≡ origin
+    pub first : IsAtFirst nodes origin c
+    pub free : m.fibers number ≡ None
+    pub below : number < total s
+
+  module _ (w' : WorldView) (new c : FiberView PortView) (made : MakesStep plain_calls nodes x.fiber p.world (Child c) new w') where
+    pub beginning_of : IsBeginning made.label c
+    beginning_of =
+        let start = start_told nodes (leaf_at (progress nodes x.fiber)) f m.fibers made.label c made.answers in
+        let told : StartsChild plain_calls nodes start.number start.origin c.port x.fiber.port p.world new.port w' =
+        subst (λ (l : Label). Tells plain_calls nodes l (Child c) x.fiber.port p.world new.port w') start.is made.calls_are.told in
+        let free = child_is_free nodes s p m so f x here is w' (Child c) new made start.number start.origin start.is in
+        record {
+          number = start.number;
+          origin = start.origin;
+          is = start.is;
+          number_is = ap (λ (q : PortView). q.number) told.told.0;
+          begins = ap (λ (q : PortView). origin_of nodes q.beginning) told.told.0 ∙ told.begins;
+          first = subst (λ (l : Label). Answers {S = WorldView} nodes (leaf_at (progress nodes x.fiber)) l (Child c)) start.is made.answers;
+          free = free.0;
+          below = free.1;
+        }
+
+    pub child_below : c.port.number < length p.fibers.items
+    child_below =
+        let start = beginning_of in
+        let e = start.number_is in let n = long_is in let lt = start.below in
+        omega arith
+
+  -- the machine after it, in which the fiber was laid down after these others
+  module _ (p' : PlainMachine J) (x' : Started J) (taken middle : List (Option (Started J))) (took : taken ≡ slice_set p.fibers.items f None)
+      (laid : p'.fibers.items ≡ slice_set middle f (Some x')) where
+    taken_long : length taken ≡ length p.fibers.items
+    taken_long = ap length took ∙ length-set p.fibers.items f None
+
+    taken_others : (h : ℕ) → (h ≡ f → ⊥) → slice_index_or taken h None ≡ at_number nodes p h
+    taken_others h apart = ap (λ (xs : List (Option (Started J))). slice_index_or xs h None) took ∙ get_or-set_other p.fibers.items f h None None apart
+
+    module _ (middle_long : length middle ≡ length p.fibers.items) where
+      laid_long : length p'.fibers.items ≡ length p.fibers.items
+      laid_long = ap length laid ∙ length-set middle f (Some x') ∙ middle_long
+
+      laid_there : at_number nodes p' f ≡ Some x'
+      laid_there =
+          ap (λ (xs : List (Option (Started J))). slice_index_or xs f None) laid
+          ∙ get_or-set_same middle f (Some x') None (let e = long_is in let lt = below in omega arith)
+
+      laid_others : (h : ℕ) → (h ≡ f → ⊥) → at_number nodes p' h ≡ slice_index_or middle h None
+      laid_others h apart = ap (λ (xs : List (Option (Started J))). slice_index_or xs h None) laid ∙ get_or-set_other middle f h (Some x') None apart
+
+    module _ (w' : WorldView) (new : FiberView PortView) (parent : x'.parent ≡ x.parent) (fiber : x'.fiber ≡ new)
+        (number : new.port.number ≡ x.fiber.port.number) (beginning : new.port.beginning ≡ x.fiber.port.beginning) where
+      -- after a step that starts none
+      pub tries_step : (answer : Stepped PortView WorldView) → IsQuiet nodes x.fiber new p.world w' answer
+          → DoesStep plain_calls nodes x.fiber p.world answer new w' → middle ≡ taken → p'.world ≡ w' → is_able (class_at p.world.classes f) ≡ true
+          → Tries nodes s m f p'
+      tries_step answer quiet does same world able =
+          let made = (quiet_is nodes x.fiber new p.world w' answer quiet does).0 in
+          let none = (quiet_is nodes x.fiber new p.world w' answer quiet does).1 in
+          let long = ap length same ∙ taken_long in
+          let unstarted = none_started nodes (leaf_at (progress nodes x.fiber)) f m.fibers made.label answer none made.answers in
+          let middle_is = λ (h : ℕ) (apart : h ≡ f → ⊥). laid_others long h apart
+              ∙ ap (λ (xs : List (Option (Started J))). slice_index_or xs h None) same ∙ taken_others h apart in
+          step_is_tried nodes s p m so f x here is w' answer new made p' x' world parent fiber number beginning (laid_long long) (laid_there long)
+          (λ h apart. ap (held_option nodes) (middle_is h apart) ∙ others_held h
+              ∙ sym (ap (λ (fibers : ℕ → Option StartedFiber). option_map held_of (fibers h)) unstarted))
+          (λ h apart. subst (IsNumbered nodes h) (sym (middle_is h apart)) (so.numbered h)) able
+
+      -- after a step that starts a child, which was laid down at its number
+      module _ (c : FiberView PortView) (made : MakesStep plain_calls nodes x.fiber p.world (Child c) new w') where
+        abbrev start : IsBeginning made.label c
+        start = beginning_of w' new c made
+
+        abbrev g : ℕ
+        g = start.number
+
+        abbrev b : Origin
+        b = start.origin
+
+        module _ (child : Started J) (its_parent : child.parent ≡ Some f) (its_fiber : child.fiber ≡ c)
+            (in_place : middle ≡ slice_set taken c.port.number (Some child)) where
+          child_is : held nodes child ≡ held_of (begun (Some f) b)
+          child_is =
+              same_made its_parent (ap (λ (v : FiberView PortView). origin_of nodes v.port.beginning) its_fiber ∙ start.begins)
+              (ap (λ (v : FiberView PortView). v.trace) its_fiber ∙ start.first.trace) (ap (λ (v : FiberView PortView). v.counts) its_fiber ∙ start.first.counts)
+              (ap (progress nodes) its_fiber ∙ start.first.progress_is)
+
+          child_numbered : IsNumbered nodes g (Some child)
+          child_numbered = (
+            ap (λ (v : FiberView PortView). v.port.number) its_fiber ∙ start.number_is,
+            rw (ap (λ (v : FiberView PortView). v.trace) its_fiber ∙ start.first.trace) (All-nil (NamesQueueBelow 0)),
+          )
+
+          in_place_long : length middle ≡ length p.fibers.items
+          in_place_long = ap length in_place ∙ length-set taken c.port.number (Some child) ∙ taken_long
+
+          child_there : (h : ℕ) → (h ≡ f → ⊥) → h ≡ g → at_number nodes p' h ≡ Some child
+          child_there h apart same =
+              laid_others in_place_long h apart ∙ ap (λ (xs : List (Option (Started J))). slice_index_or xs h None) in_place
+              ∙ ap (λ (k : ℕ). slice_index_or (slice_set taken c.port.number (Some child)) k None) (same ∙ sym start.number_is)
+              ∙ get_or-set_same taken c.port.number (Some child) None (let lt = child_below w' new c made in let n = taken_long in omega arith)
+
+          rest_there : (h : ℕ) → (h ≡ f → ⊥) → (h ≡ g → ⊥) → at_number nodes p' h ≡ at_number nodes p h
+          rest_there h apart ne =
+              laid_others in_place_long h apart ∙ ap (λ (xs : List (Option (Started J))). slice_index_or xs h None) in_place
+              ∙ get_or-set_other taken c.port.number h (Some child) None (λ e. ne (e ∙ start.number_is)) ∙ taken_others h apart
+
+          fibers_are : (h : ℕ) → option_map held_of (fibers_after f made.label m.fibers h) ≡ option_map held_of (with_at g (Some (begun (Some f) b)) m.fibers h)
+          fibers_are h = ap (λ (l : Label). option_map held_of (fibers_after f l m.fibers h)) start.is
+
+          others : (h : ℕ) → (h ≡ f → ⊥) → held_option nodes (at_number nodes p' h) ≡ option_map held_of (fibers_after f made.label m.fibers h)
+          others h apart = elim (cases_eq h g) [
+            | inl same ↦
+                ap (held_option nodes) (child_there h apart same) ∙ ap Some child_is
+                ∙ sym (fibers_are h ∙ ap (option_map held_of) (at_that g (Some (begun (Some f) b)) m.fibers h same))
+            | inr ne ↦
+                ap (held_option nodes) (rest_there h apart ne) ∙ others_held h
+                ∙ sym (fibers_are h ∙ ap (option_map held_of) (at_other g (Some (begun (Some f) b)) m.fibers h ne))
+          ]
+
+          others_numbered : (h : ℕ) → (h ≡ f → ⊥) → IsNumbered nodes h (at_number nodes p' h)
+          others_numbered h apart = elim (cases_eq h g) [
+            | inl same ↦ subst (IsNumbered nodes h) (sym (child_there h apart same)) (subst (λ (k : ℕ). IsNumbered nodes k (Some child)) (sym same) child_numbered)
+            | inr ne ↦ subst (IsNumbered nodes h) (sym (rest_there h apart ne)) (so.numbered h)
+          ]
+
+          pub tries_start : p'.world ≡ w' → is_able (class_at p.world.classes f) ≡ true → Tries nodes s m f p'
+          tries_start world able =
+              step_is_tried nodes s p m so f x here is w' (Child c) new made p' x' world parent fiber number beginning (laid_long in_place_long)
+              (laid_there in_place_long) others others_numbered able
+
+      -- after it was noted that it waits
+      module _ (wait : OnlyWaits plain_calls nodes x.fiber p.world new w') (source : Source)
+          (waits_for : Some source ≡ option_and_then wait_at (leaf_at (progress nodes new))) (same : middle ≡ taken)
+          (world : p'.world ≡ record w' { classes = slice_set w'.classes f (class.Waits source) }) where
+        long : length middle ≡ length p.fibers.items
+        long = ap length same ∙ taken_long
+
+        source_is : source ≡ wait.wait
+        source_is = same_Some source wait.wait (waits_for ∙ ap (λ q. option_and_then wait_at (leaf_at q)) wait.unchanged.progress_is ∙ wait.waits)
+
+        world_is : p'.world ≡ record p.world { classes = slice_set p.world.classes f (class.Waits wait.wait) }
+        world_is = world ∙ ap (λ (w : WorldView). record w { classes = slice_set w.classes f (class.Waits source) }) wait.shared_is
+            ∙ ap (λ (k : Source). record p.world { classes = slice_set p.world.classes f (class.Waits k) }) source_is
+
+        still : held nodes x' ≡ held nodes x
+        still =
+            same_made parent (ap (λ (v : FiberView PortView). origin_of nodes v.port.beginning) fiber ∙ ap (origin_of nodes) beginning)
+            (ap (λ (v : FiberView PortView). v.trace) fiber ∙ wait.unchanged.trace) (ap (λ (v : FiberView PortView). v.counts) fiber ∙ wait.unchanged.counts)
+            (ap (progress nodes) fiber ∙ wait.unchanged.progress_is)
+
+        still_numbered : IsNumbered nodes f (Some x')
+        still_numbered = (
+          ap (λ (v : FiberView PortView). v.port.number) fiber ∙ number ∙ own_number nodes s p m so f x here is,
+          rw (ap (λ (v : FiberView PortView). v.trace) fiber ∙ wait.unchanged.trace) (names_none nodes s p m so f x here is),
+        )
+
+        others_there : (h : ℕ) → (h ≡ f → ⊥) → at_number nodes p' h ≡ at_number nodes p h
+        others_there h apart = laid_others long h apart ∙ ap (λ (xs : List (Option (Started J))). slice_index_or xs h None) same ∙ taken_others h apart
+
+        all_still : (h : ℕ) → slice_index_or (all_held nodes p') h None ≡ option_map held_of (m.fibers h)
+        all_still h = held_at nodes p' h ∙ elim (cases_eq h f) [
+          | inl e ↦
+              ap (λ (k : ℕ). held_option nodes (at_number nodes p' k)) e ∙ ap (held_option nodes) (laid_there long) ∙ ap Some still
+              ∙ sym (ap (held_option nodes) here) ∙ ap (λ (k : ℕ). held_option nodes (at_number nodes p k)) (sym e) ∙ others_held h
+          | inr apart ↦ ap (held_option nodes) (others_there h apart) ∙ others_held h
+        ]
+
+        all_numbered : (h : ℕ) → IsNumbered nodes h (at_number nodes p' h)
+        all_numbered h = elim (cases_eq h f) [
+          | inl e ↦ subst (λ (k : ℕ). IsNumbered nodes k (at_number nodes p' k)) (sym e) (rw (laid_there long) still_numbered)
+          | inr apart ↦ subst (IsNumbered nodes h) (sym (others_there h apart)) (so.numbered h)
+        ]
+
+        stands : StandsFor s p'.world (all_held nodes p') m
+        stands = rw world_is (record {
+          held_long = length-map p'.fibers.items (held_option nodes) ∙ laid_long long ∙ long_is;
+          requested_long = so.stands.requested_long;
+          outside_long = so.stands.outside_long;
+          outcomes_long = so.stands.outcomes_long;
+          fibers = all_still;
+          requested = so.stands.requested;
+          from_outside = so.stands.from_outside;
+          outcomes = so.stands.outcomes;
+          queues = so.stands.queues;
+        })
+
+        tells : TellsWhoSteps s p'.world m
+        tells = rw world_is (noted_wait_tells s p.world (all_held nodes p) m so.stands nodes f below x.fiber new w' (own_number nodes s p m so f x here is)
+            wait so.tells is.fiber is.at (sym (ap (λ (h : HeldFiber). h.counts) is.is)) (sym (ap (λ (h : HeldFiber). h.progress) is.is)))
+
+        unable : is_able (class_at p'.world.classes f) ≡ false
+        unable = rw world_is (ap is_able (class_at_set p.world.classes f (class.Waits wait.wait)
+            (let lt = below in let n = so.tells.long in omega arith) f ∙ at_itself f (class.Waits wait.wait) (class_at p.world.classes)))
+
+        pub tries_waiting : Tries nodes s m f p'
+        tries_waiting = waits (unable_cannot_step s p'.world (all_held nodes p') m stands tells f unable)
+            (record { moves = so.moves; run = so.run; stands = stands; tells = tells; numbered = all_numbered })

@@ -1,0 +1,65 @@
+-- All fibers of a script as code holds them, and the whole machine that they and their world stand for.
+use Rattle.std.specs.Prelude.{◌≡◌, ℕ, ◌+◌, ◌*◌, ◌<◌, true, false, Option, Some, None, option_map, List, [], ◌∷◌, All, length, map, slice_index_or}
+use Rattle.std.specs.List.{count_by, sum_by}
+use Rattle.fx_term.specs.declared.node.Node.{Node}
+use Rattle.fx_term.specs.Script.{ScriptView}
+use Rattle.fx_fiber.specs.Row.{Label}
+use Rattle.fx_fiber.specs.Origin.{origin_of}
+use Rattle.fx_fiber.specs.Fiber.{progress}
+use Rattle.fx_text.specs.declared.pick.Pick.{Pick}
+use Rattle.fx_plain.specs.declared.plain_machine.Started.{Started}
+use Rattle.fx_plain.specs.declared.plain_machine.PlainMachine.{PlainMachine}
+use Rattle.fx_plain.specs.WholeMachine.{WholeMachine, Move, can_step_in, IsWholeMachineRun}
+use Rattle.fx_plain.specs.Chosen.{ChosenStep}
+use Rattle.fx_plain.specs.ClassSets.{class_at, is_able}
+use Rattle.fx_plain.specs.World.{HeldFiber, StandsFor}
+use Rattle.fx_plain.specs.WorldClasses.{TellsWhoSteps}
+use Rattle.fx_plain.specs.OnTheWay.{IsOnTheWay}
+use Rattle.fx_plain.specs.Text.{NamesQueueBelow}
+
+module _ {J : Type 0} (nodes : List Node) where
+  -- a fiber that has started
+  abbrev pub held : Started J → HeldFiber
+  held x = record {
+    parent = x.parent;
+    origin = origin_of nodes x.fiber.port.beginning;
+    trace = x.fiber.trace;
+    counts = x.fiber.counts;
+    progress = progress nodes x.fiber;
+  }
+
+  -- the fibers by number
+  abbrev pub all_held : PlainMachine J → List (Option HeldFiber)
+  all_held p = map (option_map held) p.fibers.items
+
+  -- the fiber with this number, if it has started, has a port of that number, and its trace names no queue
+  abbrev pub IsNumbered : ℕ → Option (Started J) → Type 0
+  IsNumbered f None = Unit {0}
+  IsNumbered f (Some x) = (x.fiber.port.number ≡ f) × All (NamesQueueBelow 0) x.fiber.trace
+
+  -- it stands for that whole machine, to which some run leads
+  pub record StandsForRun (s : ScriptView) (p : PlainMachine J) (m : WholeMachine) : Type 0 where
+    pub moves : List Move
+    pub run : IsWholeMachineRun s moves m
+    pub stands : StandsFor s p.world (all_held p) m
+    pub tells : TellsWhoSteps s p.world m
+    pub numbered : (f : ℕ) → IsNumbered f (slice_index_or p.fibers.items f None)
+
+  -- it stands for some
+  abbrev pub StandsForSome : PlainMachine J → Type 0
+  StandsForSome p = (s : ScriptView) × (m : WholeMachine) × StandsForRun s p m
+
+  -- it stands for a whole machine on the way of the run that picks choose
+  pub record IsUnderWay (s : ScriptView) (all left : List Pick) (p : PlainMachine J) : Type 0 where
+    pub machine : WholeMachine
+    pub stands : StandsForRun s p machine
+    pub way : IsOnTheWay s all left machine
+
+  -- a step of fiber f that a schedule makes; or that fiber cannot step, and it is noted that it waits
+  pub data Tries (s : ScriptView) (m : WholeMachine) (f : ℕ) (p' : PlainMachine J) : Type 0 where
+    steps : {l : Label} {m' : WholeMachine} → ChosenStep s m f l m' → StandsForRun s p' m' → Tries s m f p'
+    waits : can_step_in s m f ≡ false → StandsForRun s p' m → Tries s m f p'
+
+  -- no fiber is able
+  abbrev pub Rests : PlainMachine J → Type 0
+  Rests p = (f : ℕ) → is_able (class_at p.world.classes f) ≡ false

@@ -1,0 +1,98 @@
+//! All fibers of a script on one thread.
+ghost use Rattle.std.specs.Prelude.{◌≡◌, ◌<◌, ◌∷◌, [], true, Some, None, IfOk, OnOk, length, slice_index_or, slice_set};
+ghost use Rattle.fx_term.specs.Script.{ScriptView};
+ghost use Rattle.fx_text.specs.View.{meaning};
+ghost use Rattle.fx_text.specs.declared.pick.Pick.{Pick};
+ghost use Rattle.fx_plain.specs.WholeMachine.{WholeMachine, opening};
+ghost use Rattle.fx_plain.specs.ClassSets.{class_at, is_able};
+ghost use Rattle.fx_plain.specs.PlainMachine.{StandsForRun, StandsForSome, Tries, IsUnderWay, Rests};
+ghost use Rattle.fx_plain.specs.Replay.{script_of};
+
+use crate::plain_port::PlainPort;
+use crate::plain_world::PlainWorld;
+use fx_fiber::{Fiber, FiberReport, Report, State, Stepped};
+use fx_term::{Code, CodeBrand, Item, Memory};
+use fx_text::{Pick, Script};
+use std::alloc::Global;
+
+/// A fiber that has started, and who started it.
+#[derive(Drop)]
+struct Started<J: CodeBrand> {
+    parent: Option<u32>,
+    fiber: Fiber<PlainPort<J>>,
+}
+
+/// All fibers of a script on one thread: the world that they share, and by number each one that has
+/// started.
+#[derive(Drop)]
+pub(crate) struct PlainMachine<J: CodeBrand> {
+    world: PlainWorld,
+    fibers: Vec<Option<Started<J>>>,
+}
+
+impl<J: CodeBrand> PlainMachine<J> {
+    /// Before any step: the main fiber alone has started.
+    pub fn opening(alloc: Global, script: &Script) -> Result<PlainMachine<J>, Memory>
+        requires code { script.now.code.nodes ≡ J.nodes }
+        ensures { IfOk result (λ machine. let s = script_of (meaning script.now) in
+            StandsForRun J.nodes s machine (opening s)) }
+    {
+        let (world, port) = PlainWorld::new(alloc, script)?;
+        let total = world.total();
+        let fiber = Fiber::new(alloc, &script.code, port)?;
+        let mut fibers = Vec::with_capacity(alloc, total as usize)?;
+        fibers.push(Some(Started {
+            parent: None,
+            fiber,
+        }))?;
+        fibers.resize_with(total as usize, || None)?;
+        Ok(PlainMachine { world, fibers })
+    }
+
+    /// The fiber of this number, taken out of its place, if it has started.
+    fn take(&mut self, id: u32) -> Option<Started<J>>
+        ensures fiber { result ≡ slice_index_or self.old.fibers.items id None }
+        ensures fibers { self.new.fibers.items ≡ slice_set self.old.fibers.items id None }
+        ensures world { self.new.world ≡ self.old.world }
+    {
+        self.fibers.get_mut(id as usize)?.take()
+    }
+
+    /// Lays a fiber down at its place.
+    fn put(&mut self, id: u32, started: Started<J>)
+        requires { id < length self.old.fibers.items }
+        ensures fibers { self.new.fibers.items
+            ≡ slice_set self.old.fibers.items id (Some started) }
+        ensures world { self.new.world ≡ self.old.world }
+    {
+        self.fibers[id as usize] = Some(started);
+    }
+
+    /// Lets a fiber that is able make one step; or notes that it waits.
+    fn try_step(&mut self, code: &Code, id: u32) -> Result<(), Memory>
+        requires code { code.now.nodes ≡ J.nodes }
+        requires able { is_able (class_at self.old.world.classes id) ≡ true }
+        requires stands { StandsForSome J.nodes self.old }
+        ensures tries { OnOk result ((s : ScriptView) (m : WholeMachine)
+            → StandsForRun J.nodes s self.old m → Tries J.nodes s m id self.new) }
+    {
+        let Some(mut started) = self.take(id) else {
+            unreachable!();
+        };
+        match started.fiber.step(code, &mut self.world)? {
+            Stepped::Went | Stepped::Gave | Stepped::Ended => {}
+            Stepped::Child(fiber) => {
+                let parent = Some(id);
+                self.put(fiber.id(), Started { parent, fiber });
+            }
+            Stepped::Waits => {
+                let Some(source) = started.fiber.waits_for(code) else {
+                    unreachable!();
+                };
+                self.world.wait(id, source);
+            }
+        }
+        self.put(id, started);
+        Ok(())
+    }
+}
