@@ -37,3 +37,4 @@ pub mod WaitSteps
 pub mod NumbersUpTo
 pub mod PlainMachineSteps
 pub mod PlainMachineTries
+pub mod PlainMachineOpening

@@ -1,5 +1,5 @@
 //! All fibers of a script on one thread.
-ghost use Rattle.std.specs.Prelude.{◌≡◌, ◌<◌, ◌∷◌, [], true, Some, None, IfOk, OnOk, length, slice_index_or, slice_set};
+ghost use Rattle.std.specs.Prelude.{◌≡◌, ◌<◌, ◌-◌, ◌∷◌, [], true, Some, None, IfOk, OnOk, length, replicate, slice_index_or, slice_set};
 ghost use Rattle.fx_term.specs.Script.{ScriptView};
 ghost use Rattle.fx_text.specs.View.{meaning};
 ghost use Rattle.fx_text.specs.declared.pick.Pick.{Pick};
@@ -22,6 +22,24 @@ struct Started<J: CodeBrand> {
     fiber: Fiber<PlainPort<J>>,
 }
 
+/// The main fiber at its place, and the places of all others, of which none has started.
+fn alone<J: CodeBrand>(
+    alloc: Global,
+    total: u32,
+    main: Started<J>,
+) -> Result<Vec<Option<Started<J>>>, Memory>
+    requires { 0 < total }
+    ensures { IfOk result
+        (λ fibers. fibers.items ≡ Some main ∷ replicate (total - 1) None) }
+{
+    let mut fibers = Vec::with_capacity(alloc, total as usize)?;
+    fibers.push(Some(main))?;
+    for _other in 0..total - 1 {
+        fibers.push(None)?;
+    }
+    Ok(fibers)
+}
+
 /// All fibers of a script on one thread: the world that they share, and by number each one that has
 /// started.
 #[derive(Drop)]
@@ -38,14 +56,9 @@ impl<J: CodeBrand> PlainMachine<J> {
             StandsForRun J.nodes s machine (opening s)) }
     {
         let (world, port) = PlainWorld::new(alloc, script)?;
-        let total = world.total();
         let fiber = Fiber::new(alloc, &script.code, port)?;
-        let mut fibers = Vec::with_capacity(alloc, total as usize)?;
-        fibers.push(Some(Started {
-            parent: None,
-            fiber,
-        }))?;
-        fibers.resize_with(total as usize, || None)?;
+        let parent = None;
+        let fibers = alone(alloc, world.total(), Started { parent, fiber })?;
         Ok(PlainMachine { world, fibers })
     }
 

@@ -1,0 +1,55 @@
+-- The machine before any step stands for the whole machine before any step.
+use Rattle.std.proofs.Common.{◌≡◌, ℕ, zero, suc, ◌+◌, ◌-◌, ◌≤◌, Option, Some, None, option_map, List, [], ◌∷◌, ◌++◌, length, map, replicate, refl, sym, ◌∙◌, ap, subst, arith, inl, inr}
+use Rattle.std.specs.Prelude.{slice_index_or}
+use Rattle.std.proofs.lemmas.Bool.{cases_lt}
+use Rattle.std.proofs.lemmas.List.{get_or_past, get_or-replicate, length-replicate, replicate_more}
+use Rattle.std.proofs.lemmas.List.Elements.{All-nil}
+use Rattle.fx_term.specs.declared.node.Node.{Node}
+use Rattle.fx_term.specs.Need.{need}
+use Rattle.fx_term.specs.Script.{ScriptView}
+use Rattle.fx_fiber.specs.Origin.{main_origin}
+use Rattle.fx_plain.specs.declared.plain_machine.Started.{Started}
+use Rattle.fx_plain.specs.declared.plain_machine.PlainMachine.{PlainMachine}
+use Rattle.fx_plain.specs.WholeMachine.{begun, opening}
+use Rattle.fx_plain.specs.Text.{NamesQueueBelow}
+use Rattle.fx_plain.specs.World.{HeldFiber, held_of, StandsFor, opening_world, opening_held}
+use Rattle.fx_plain.specs.PlainMachine.{held, all_held, IsNumbered, StandsForRun}
+use Rattle.fx_plain.proofs.WorldLaws.{opening_stands}
+use Rattle.fx_plain.proofs.WorldClasses.{opening_tells}
+
+-- one more place
+pub one_more_of : {A : Type 0} (x a : A) (xs ys : List A) (n : ℕ) → xs ≡ x ∷ replicate n a → ys ≡ xs ++ a ∷ [] → ys ≡ x ∷ replicate (n + 1) a
+one_more_of {A} x a xs ys n is pushed = pushed ∙ ap (λ (zs : List A). zs ++ a ∷ []) is ∙ ap (λ (zs : List A). x ∷ zs) (replicate_more n a)
+
+module _ {J : Type 0} (nodes : List Node) (s : ScriptView) (p : PlainMachine J) (x : Started J) where
+  abbrev nobody : Option (Started J)
+  nobody = None
+
+  no_places : (n : ℕ) → map (option_map (held nodes)) (replicate n nobody) ≡ replicate n None
+  no_places zero = refl
+  no_places (suc n) = ap (λ (xs : List (Option HeldFiber)). None ∷ xs) (no_places n)
+
+  module _ (world : p.world ≡ opening_world s) (fibers : p.fibers.items ≡ Some x ∷ replicate (need s.term) None)
+      (is : held nodes x ≡ held_of (begun None (main_origin s.term))) (number : x.fiber.port.number ≡ 0) (trace : x.fiber.trace ≡ []) where
+    all_are : all_held nodes p ≡ opening_held s
+    all_are = ap (map (option_map (held nodes))) fibers ∙ ap (λ (xs : List (Option HeldFiber)). Some (held nodes x) ∷ xs) (no_places (need s.term))
+        ∙ ap (λ (h : HeldFiber). Some h ∷ replicate (need s.term) None) is
+
+    numbered : (f : ℕ) → IsNumbered nodes f (slice_index_or (Some x ∷ replicate (need s.term) None) f None)
+    numbered zero = (number, rw trace (All-nil (NamesQueueBelow 0)))
+    numbered (suc f) = subst (IsNumbered nodes (suc f)) (sym (none_there f)) tt
+      where
+        none_there : (i : ℕ) → slice_index_or (replicate (need s.term) nobody) i None ≡ None
+        none_there i = elim (cases_lt i (need s.term)) [
+          | inl lt ↦ get_or-replicate (need s.term) i None None lt
+          | inr le ↦ get_or_past (replicate (need s.term) None) i None (let e = length-replicate {A = Option (Started J)} (need s.term) None in omega arith)
+        ]
+
+    pub opening_stands_for : StandsForRun nodes s p (opening s)
+    opening_stands_for = record {
+      moves = [];
+      run = refl;
+      stands = rw (world, all_are) (opening_stands s);
+      tells = rw world (opening_tells s);
+      numbered = rw fibers numbered;
+    }
