@@ -31,6 +31,7 @@ use Rattle.fx_fiber.proofs.Rules.{IsLeafTerm, result_term}
 use Rattle.fx_fiber.proofs.Fibers.{join_within, join_fits, left_within, right_within, left_fits, right_fits}
 use Rattle.fx_fiber.proofs.Nodes.{leaf_of_node, loop_term, progress_is, entered_sound, entered_same, inside_entries}
 
+-- what is open inside a context is read off what its masks close
 open_by_frame : (f : Frame) (m : MasksView) → is_none_closed (masks_inside f m).regions ≡ is_open_inside f (is_none_closed m.regions)
 open_by_frame (frame.Acquire id) m = refl
 open_by_frame f m = refl
@@ -57,13 +58,14 @@ canceled_goes : (o : Outside) (t : Term) → is_canceled_form t ≡ true → lea
 canceled_goes o Canceled e = refl
 canceled_goes o t e = absurd cc
 
-joined : (opened known canceled requested goes : Bool) → (canceled ≡ true → goes ≡ true)
+-- a leaf at `canceled` asks for no case of its own
+same_with_canceled : (opened known canceled requested goes : Bool) → (canceled ≡ true → goes ≡ true)
     → (((opened && (known || canceled)) || (opened && requested)) || goes) ≡ ((opened && (known || requested)) || goes)
-joined false known canceled requested goes h = refl
-joined true true canceled requested goes h = refl
-joined true false true true goes h = refl
-joined true false true false goes h = sym (h refl)
-joined true false false requested goes h = refl
+same_with_canceled false known canceled requested goes h = refl
+same_with_canceled true true canceled requested goes h = refl
+same_with_canceled true false true true goes h = refl
+same_with_canceled true false true false goes h = sym (h refl)
+same_with_canceled true false false requested goes h = refl
 
 module _ (nodes : List Node) (ns : List ℕ) (fs : List Frame) (cs : List Closing) (o : Outside) (f : ℕ) (c : Counts) (t : Term)
     (leaf : IsLeafTerm cs t) where
@@ -77,7 +79,7 @@ module _ (nodes : List Node) (ns : List ℕ) (fs : List Frame) (cs : List Closin
         leaf_within nodes ns fs cs t,
         leaf.is_leaf,
       )
-      (joined (is_none_closed cs) c.known (is_canceled_form t) (o.is_requested f) (leaf_can_step o t) (canceled_goes o t))
+      (same_with_canceled (is_none_closed cs) c.known (is_canceled_form t) (o.is_requested f) (leaf_can_step o t) (canceled_goes o t))
   running_can_step (Some left) closed = rw (leaf_within nodes ns fs cs t, leaf.is_leaf, clean_up_is_closed fs cs left closed) refl
 
 -- by the leaf below it

@@ -25,7 +25,7 @@ abbrev pub is_open_inside : Frame → Bool → Bool
 is_open_inside (frame.Acquire id) opened = false
 is_open_inside f opened = opened
 
--- that of the machine
+-- the leaf that a machine comes to by entering contexts alone, and whether the place there is open
 pub record IsLeafBelow (nodes : List Node) (s : Machine) (leaf : LeafBelow) : Type 0 where
   pub id : NodeId
   pub down : IsDownTo nodes s id leaf.is_open

@@ -43,6 +43,8 @@
 //! open place looks in each step, so a request is seen there; where something closes the place only
 //! what it waits for lets it go on.
 //!
+//! Whether a fiber could step is told without a step too, by the lists that a run left ([`Closed`]).
+//!
 //! What follows from the rules alone, for every run, are the [`laws`].
 //!
 //! What never happens: a row of the table at an open place before a look in that step; an event that
