@@ -38,3 +38,5 @@ pub mod NumbersUpTo
 pub mod PlainMachineSteps
 pub mod PlainMachineTries
 pub mod PlainMachineOpening
+pub mod PlainMachineWay
+pub mod PlainMachineWork

@@ -215,5 +215,5 @@ module _ {J : Type 0} (nodes : List Node) where
           numbered = all_numbered;
         }
 
-        pub step_is_tried : is_able (class_at p.world.classes f) ≡ true → Tries nodes s m f p'
+        pub step_is_tried : is_able (class_at p.world.classes f) ≡ true → Tries nodes s m f p p'
         step_is_tried able = steps chosen (stands_after able)

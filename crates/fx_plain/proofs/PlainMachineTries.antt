@@ -1,10 +1,11 @@
 -- What a machine comes to that lets a fiber make a step: the fiber is taken out of its place, makes a step or waits, and is laid down there.
-use Rattle.std.proofs.Common.{◌≡◌, ◌⊎◌, ℕ, ◌<◌, Bool, true, false, Option, Some, None, option_map, List, length, refl, sym, ◌∙◌, ap, subst, inl, inr, arith}
+use Rattle.std.proofs.Common.{◌≡◌, ◌⊎◌, ℕ, ◌+◌, ◌<◌, Bool, true, false, Option, Some, None, option_map, List, length, refl, sym, ◌∙◌, ap, subst, inl, inr, arith}
 use Rattle.std.proofs.Common.{get_or-set_same, get_or-set_other, length-set}
-use Rattle.std.specs.Prelude.{option_and_then, slice_index_or, slice_set}
+use Rattle.std.specs.Prelude.{if◌then◌else◌, option_and_then, slice_index_or, slice_set}
 use Rattle.std.proofs.lemmas.Bool.{cases_eq}
 use Rattle.std.proofs.lemmas.Option.{none-some, same_Some}
 use Rattle.std.proofs.lemmas.List.{length-map}
+use Rattle.std.proofs.lemmas.List.Sums.{sum_by-set}
 use Rattle.std.proofs.lemmas.List.Elements.{All-nil}
 use Rattle.fx_term.specs.declared.node.Node.{Node}
 use Rattle.fx_term.specs.declared.event.Event.TheVariants as event
@@ -28,7 +29,7 @@ use Rattle.fx_plain.specs.World.{WorldView, HeldFiber, held_of, StandsFor}
 use Rattle.fx_plain.specs.WorldClasses.{TellsWhoSteps}
 use Rattle.fx_plain.specs.Text.{NamesQueueBelow}
 use Rattle.fx_plain.specs.PlainCalls.{PortView, plain_calls}
-use Rattle.fx_plain.specs.PlainMachine.{held, all_held, IsNumbered, StandsForRun, Tries, steps, waits}
+use Rattle.fx_plain.specs.PlainMachine.{held, all_held, IsNumbered, able_count, StandsForRun, Tries, steps, waits}
 use Rattle.fx_plain.proofs.Maps.{at_itself, at_that, at_other}
 use Rattle.fx_plain.proofs.WorldClasses.{unable_cannot_step}
 use Rattle.fx_plain.proofs.ClassSets.{class_at_set}
@@ -41,6 +42,12 @@ pub does_as : (nodes : List Node) (old new : FiberView PortView) (w world w' : W
 does_as nodes old new w world w' answer named same is h =
     subst (λ (v : WorldView). DoesStep plain_calls nodes old v named new w') same
     (subst (λ (a : Stepped PortView WorldView). DoesStep plain_calls nodes old w a new w') is h)
+
+plus_nothing : (n : ℕ) → n + 0 ≡ n
+plus_nothing n = omega arith
+
+one_less : (n k : ℕ) → n + 1 ≡ k → n < k
+one_less n k e = omega arith
 
 -- the step started a fiber
 abbrev is_child : Stepped PortView WorldView → Bool
@@ -165,7 +172,7 @@ module _ {J : Type 0} (nodes : List Node) (s : ScriptView) (p : PlainMachine J) 
       -- after a step that starts none
       pub tries_step : (answer : Stepped PortView WorldView) → IsQuiet nodes x.fiber new p.world w' answer
           → DoesStep plain_calls nodes x.fiber p.world answer new w' → middle ≡ taken → p'.world ≡ w' → is_able (class_at p.world.classes f) ≡ true
-          → Tries nodes s m f p'
+          → Tries nodes s m f p p'
       tries_step answer quiet does same world able =
           let made = (quiet_is nodes x.fiber new p.world w' answer quiet does).0 in
           let none = (quiet_is nodes x.fiber new p.world w' answer quiet does).1 in
@@ -236,7 +243,7 @@ module _ {J : Type 0} (nodes : List Node) (s : ScriptView) (p : PlainMachine J) 
             | inr ne ↦ subst (IsNumbered nodes h) (sym (rest_there h apart ne)) (so.numbered h)
           ]
 
-          pub tries_start : p'.world ≡ w' → is_able (class_at p.world.classes f) ≡ true → Tries nodes s m f p'
+          pub tries_start : p'.world ≡ w' → is_able (class_at p.world.classes f) ≡ true → Tries nodes s m f p p'
           tries_start world able =
               step_is_tried nodes s p m so f x here is w' (Child c) new made p' x' world parent fiber number beginning (laid_long in_place_long)
               (laid_there in_place_long) others others_numbered able
@@ -305,6 +312,18 @@ module _ {J : Type 0} (nodes : List Node) (s : ScriptView) (p : PlainMachine J) 
         unable = rw world_is (ap is_able (class_at_set p.world.classes f (class.Waits wait.wait)
             (let lt = below in let n = so.tells.long in omega arith) f ∙ at_itself f (class.Waits wait.wait) (class_at p.world.classes)))
 
-        pub tries_waiting : Tries nodes s m f p'
-        tries_waiting = waits (unable_cannot_step s p'.world (all_held nodes p') m stands tells f unable)
-            (record { moves = so.moves; run = so.run; stands = stands; tells = tells; numbered = all_numbered })
+        fewer : is_able (class_at p.world.classes f) ≡ true → able_count p'.world.classes < able_count p.world.classes
+        fewer able =
+            let before = p.world.classes in
+            let after = slice_set before f (class.Waits wait.wait) in
+            let one : (if is_able (class_at before f) then 1 else 0) ≡ 1 = ap (λ (b : Bool). if b then 1 else 0) able in
+            let change : able_count after + (if is_able (class_at before f) then 1 else 0) ≡ able_count before + 0 =
+            sum_by-set (λ k. if is_able k then 1 else 0) before f (class.Waits wait.wait) class.Unstarted
+            (let lt = below in let n = so.tells.long in omega arith) in
+            let less : able_count after + 1 ≡ able_count before = sym (ap (λ (n : ℕ). able_count after + n) one) ∙ change ∙ plus_nothing (able_count before) in
+            let e : able_count p'.world.classes ≡ able_count after = ap (λ (w : WorldView). able_count w.classes) world_is in
+            rw e (one_less (able_count after) (able_count before) less)
+
+        pub tries_waiting : is_able (class_at p.world.classes f) ≡ true → Tries nodes s m f p p'
+        tries_waiting able = waits (unable_cannot_step s p'.world (all_held nodes p') m stands tells f unable)
+            (record { moves = so.moves; run = so.run; stands = stands; tells = tells; numbered = all_numbered }) (fewer able)

@@ -15,16 +15,16 @@ use Rattle.fx_plain.proofs.Maps.{at_itself, at_other}
 use Rattle.fx_plain.proofs.RangesKept.{fresh, child_is_another}
 use Rattle.fx_plain.proofs.LawfulRuns.{IsKept, opening_is_kept, step_keeps, request_keeps}
 
-abbrev work_of_fiber : Option StartedFiber → ℕ
+abbrev pub work_of_fiber : Option StartedFiber → ℕ
 work_of_fiber None = 0
 work_of_fiber (Some x) = work_of x.counts x.progress
 
 -- a sum over numbers, from a on, of so many
-abbrev sum_from : (ℕ → ℕ) → ℕ → ℕ → ℕ
+abbrev pub sum_from : (ℕ → ℕ) → ℕ → ℕ → ℕ
 sum_from g a zero = 0
 sum_from g a (suc n) = g a + sum_from g (a + 1) n
 
-same_sum : (g h : ℕ → ℕ) (a n : ℕ) → ((k : ℕ) → a ≤ k → k < a + n → g k ≡ h k) → sum_from g a n ≡ sum_from h a n
+pub same_sum : (g h : ℕ → ℕ) (a n : ℕ) → ((k : ℕ) → a ≤ k → k < a + n → g k ≡ h k) → sum_from g a n ≡ sum_from h a n
 same_sum g h a zero e = omega arith
 same_sum g h a (suc n) e =
     let here = e a (omega arith) (omega arith) in

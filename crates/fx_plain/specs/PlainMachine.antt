@@ -1,6 +1,6 @@
 -- All fibers of a script as code holds them, and the whole machine that they and their world stand for.
-use Rattle.std.specs.Prelude.{◌≡◌, ℕ, ◌+◌, ◌*◌, ◌<◌, true, false, Option, Some, None, option_map, List, [], ◌∷◌, All, length, map, slice_index_or}
-use Rattle.std.specs.List.{count_by, sum_by}
+use Rattle.std.specs.Prelude.{◌≡◌, ℕ, ◌+◌, ◌*◌, ◌<◌, true, false, if◌then◌else◌, Option, Some, None, option_map, List, [], ◌∷◌, All, length, map, slice_index_or}
+use Rattle.std.specs.List.{sum_by}
 use Rattle.fx_term.specs.declared.node.Node.{Node}
 use Rattle.fx_term.specs.Script.{ScriptView}
 use Rattle.fx_fiber.specs.Row.{Label}
@@ -11,11 +11,20 @@ use Rattle.fx_plain.specs.declared.plain_machine.Started.{Started}
 use Rattle.fx_plain.specs.declared.plain_machine.PlainMachine.{PlainMachine}
 use Rattle.fx_plain.specs.WholeMachine.{WholeMachine, Move, can_step_in, IsWholeMachineRun}
 use Rattle.fx_plain.specs.Chosen.{ChosenStep}
+use Rattle.fx_plain.specs.declared.class.Class.{Class}
 use Rattle.fx_plain.specs.ClassSets.{class_at, is_able}
 use Rattle.fx_plain.specs.World.{HeldFiber, StandsFor}
 use Rattle.fx_plain.specs.WorldClasses.{TellsWhoSteps}
 use Rattle.fx_plain.specs.OnTheWay.{IsOnTheWay}
 use Rattle.fx_plain.specs.Text.{NamesQueueBelow}
+
+-- how many are able
+abbrev pub able_count : List Class → ℕ
+able_count classes = sum_by (λ k. if is_able k then 1 else 0) classes
+
+-- no fiber is able
+abbrev pub Rests : {J : Type 0} → PlainMachine J → Type 0
+Rests p = (f : ℕ) → is_able (class_at p.world.classes f) ≡ false
 
 module _ {J : Type 0} (nodes : List Node) where
   -- a fiber that has started
@@ -55,11 +64,7 @@ module _ {J : Type 0} (nodes : List Node) where
     pub stands : StandsForRun s p machine
     pub way : IsOnTheWay s all left machine
 
-  -- a step of fiber f that a schedule makes; or that fiber cannot step, and it is noted that it waits
-  pub data Tries (s : ScriptView) (m : WholeMachine) (f : ℕ) (p' : PlainMachine J) : Type 0 where
-    steps : {l : Label} {m' : WholeMachine} → ChosenStep s m f l m' → StandsForRun s p' m' → Tries s m f p'
-    waits : can_step_in s m f ≡ false → StandsForRun s p' m → Tries s m f p'
-
-  -- no fiber is able
-  abbrev pub Rests : PlainMachine J → Type 0
-  Rests p = (f : ℕ) → is_able (class_at p.world.classes f) ≡ false
+  -- a step of fiber f that a schedule makes; or that fiber cannot step, and it is noted that it waits, so that one fiber less is able
+  pub data Tries (s : ScriptView) (m : WholeMachine) (f : ℕ) (p p' : PlainMachine J) : Type 0 where
+    steps : {l : Label} {m' : WholeMachine} → ChosenStep s m f l m' → StandsForRun s p' m' → Tries s m f p p'
+    waits : can_step_in s m f ≡ false → StandsForRun s p' m → able_count p'.world.classes < able_count p.world.classes → Tries s m f p p'

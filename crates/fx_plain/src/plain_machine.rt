@@ -1,5 +1,5 @@
 //! All fibers of a script on one thread.
-ghost use Rattle.std.specs.Prelude.{◌≡◌, ◌<◌, ◌-◌, ◌∷◌, [], true, Some, None, IfOk, OnOk, length, replicate, slice_index_or, slice_set};
+ghost use Rattle.std.specs.Prelude.{◌≡◌, ◌<◌, ◌-◌, ◌∷◌, [], true, Some, None, List, IfOk, OnOk, length, replicate, slice_index_or, slice_set};
 ghost use Rattle.fx_term.specs.Script.{ScriptView};
 ghost use Rattle.fx_text.specs.View.{meaning};
 ghost use Rattle.fx_text.specs.declared.pick.Pick.{Pick};
@@ -87,7 +87,7 @@ impl<J: CodeBrand> PlainMachine<J> {
         requires able { is_able (class_at self.old.world.classes id) ≡ true }
         requires stands { StandsForSome J.nodes self.old }
         ensures tries { OnOk result ((s : ScriptView) (m : WholeMachine)
-            → StandsForRun J.nodes s self.old m → Tries J.nodes s m id self.new) }
+            → StandsForRun J.nodes s self.old m → Tries J.nodes s m id self.old self.new) }
     {
         let Some(mut started) = self.take(id) else {
             unreachable!();
@@ -106,6 +106,40 @@ impl<J: CodeBrand> PlainMachine<J> {
             }
         }
         self.put(id, started);
+        Ok(())
+    }
+
+    /// Takes a pick: the step of a fiber, or a request from outside. What cannot be done is skipped.
+    pub fn take_pick(&mut self, code: &Code, pick: Pick) -> Result<(), Memory>
+        requires code { code.now.nodes ≡ J.nodes }
+        requires stands { StandsForSome J.nodes self.old }
+        ensures stands { OnOk result (StandsForSome J.nodes self.new) }
+        ensures way { OnOk result ((s : ScriptView) (all left : List Pick)
+            → IsUnderWay J.nodes s all (pick ∷ left) self.old
+            → IsUnderWay J.nodes s all left self.new) }
+    {
+        match pick {
+            Pick::Step(fiber) => {
+                if self.world.is_able(fiber) {
+                    self.try_step(code, fiber)?;
+                }
+            }
+            Pick::Cancel(fiber) => self.world.request_from_outside(fiber),
+        }
+        Ok(())
+    }
+
+    /// Lets the able fiber with the least number make one step, again and again, until none is able.
+    pub fn run_to_rest(&mut self, code: &Code) -> Result<(), Memory>
+        requires code { code.now.nodes ≡ J.nodes }
+        requires stands { StandsForSome J.nodes self.old }
+        ensures rests { OnOk result (Rests self.new) }
+        ensures way { OnOk result ((s : ScriptView) (all : List Pick)
+            → IsUnderWay J.nodes s all [] self.old → IsUnderWay J.nodes s all [] self.new) }
+    {
+        while let Some(fiber) = self.world.least() {
+            self.try_step(code, fiber)?;
+        }
         Ok(())
     }
 }

@@ -43,5 +43,5 @@ returns g c = record { tries = λ s m so.
         c.in_ok-step.ensures.number c.in_ok-step.ensures.beginning
         (does_as nodes _ _ _ _ _ _ Waits c.take.ensures.world w.in-Waits.is c.in_ok-step.ensures.ok)
         w.in-Some-waits_for.source (sym w.in-Some-waits_for.is ∙ w.waits_for.ensures) (ap (λ q. q.fibers.items) w.self-is)
-        (c.put-2.ensures.world ∙ ap (λ q. q.world) w.self-is ∙ w.wait.ensures)
+        (c.put-2.ensures.world ∙ ap (λ q. q.world) w.self-is ∙ w.wait.ensures) c.requires.able
   ] }
