@@ -40,3 +40,5 @@ pub mod PlainMachineTries
 pub mod PlainMachineOpening
 pub mod PlainMachineWay
 pub mod PlainMachineWork
+pub mod Endings
+pub mod PlainMachineReports

@@ -1,11 +1,12 @@
 -- All fibers of a script as code holds them, and the whole machine that they and their world stand for.
 use Rattle.std.specs.Prelude.{◌≡◌, ℕ, ◌+◌, ◌*◌, ◌<◌, true, false, if◌then◌else◌, Option, Some, None, option_map, List, [], ◌∷◌, All, length, map, slice_index_or}
-use Rattle.std.specs.List.{sum_by}
+use Rattle.std.specs.List.{filter_map, sum_by}
 use Rattle.fx_term.specs.declared.node.Node.{Node}
 use Rattle.fx_term.specs.Script.{ScriptView}
 use Rattle.fx_fiber.specs.Row.{Label}
 use Rattle.fx_fiber.specs.Origin.{origin_of}
-use Rattle.fx_fiber.specs.Fiber.{progress}
+use Rattle.fx_fiber.specs.Fiber.{progress, has_ended}
+use Rattle.fx_fiber.specs.Report.{FiberReportView}
 use Rattle.fx_text.specs.declared.pick.Pick.{Pick}
 use Rattle.fx_plain.specs.declared.plain_machine.Started.{Started}
 use Rattle.fx_plain.specs.declared.plain_machine.PlainMachine.{PlainMachine}
@@ -36,6 +37,18 @@ module _ {J : Type 0} (nodes : List Node) where
     counts = x.fiber.counts;
     progress = progress nodes x.fiber;
   }
+
+  -- what is reported of it
+  abbrev pub reported : Started J → FiberReportView
+  reported x = record {
+    id = x.fiber.port.number;
+    parent = x.parent;
+    has_ended = has_ended (progress nodes x.fiber);
+    trace = x.fiber.trace;
+  }
+
+  abbrev pub all_reported : List (Option (Started J)) → List FiberReportView
+  all_reported fibers = filter_map (option_map reported) fibers
 
   -- the fibers by number
   abbrev pub all_held : PlainMachine J → List (Option HeldFiber)

@@ -1,11 +1,13 @@
 //! All fibers of a script on one thread.
-ghost use Rattle.std.specs.Prelude.{◌≡◌, ◌<◌, ◌-◌, ◌∷◌, [], true, Some, None, List, IfOk, OnOk, length, replicate, slice_index_or, slice_set};
+ghost use Rattle.std.specs.Prelude.{◌≡◌, ℕ, ◌<◌, ◌-◌, ◌∷◌, [], true, Some, None, List, IfOk, OnOk, length, map, replicate, slice_index_or, slice_set};
 ghost use Rattle.fx_term.specs.Script.{ScriptView};
 ghost use Rattle.fx_text.specs.View.{meaning};
 ghost use Rattle.fx_text.specs.declared.pick.Pick.{Pick};
 ghost use Rattle.fx_plain.specs.WholeMachine.{WholeMachine, opening};
+ghost use Rattle.fx_plain.specs.Chosen.{IsReplay};
+ghost use Rattle.fx_plain.specs.Text.{IsWritable};
 ghost use Rattle.fx_plain.specs.ClassSets.{class_at, is_able};
-ghost use Rattle.fx_plain.specs.PlainMachine.{StandsForRun, StandsForSome, Tries, IsUnderWay, Rests};
+ghost use Rattle.fx_plain.specs.PlainMachine.{reported, all_reported, StandsForRun, StandsForSome, Tries, IsUnderWay, Rests};
 ghost use Rattle.fx_plain.specs.Replay.{script_of};
 
 use crate::plain_port::PlainPort;
@@ -20,6 +22,53 @@ use std::alloc::Global;
 struct Started<J: CodeBrand> {
     parent: Option<u32>,
     fiber: Fiber<PlainPort<J>>,
+}
+
+impl<J: CodeBrand> Started<J> {
+    /// What is reported of it.
+    fn into_report(self) -> FiberReport
+        ensures { result ≡ reported J.nodes self }
+    {
+        let state = if self.fiber.has_ended() {
+            State::Ended
+        } else {
+            State::Blocked
+        };
+        FiberReport {
+            id: self.fiber.id(),
+            parent: self.parent,
+            state,
+            trace: self.fiber.into_trace(),
+        }
+    }
+}
+
+/// What is reported of those that have started.
+fn reports_of<J: CodeBrand>(
+    alloc: Global,
+    fibers: Vec<Option<Started<J>>>,
+) -> Result<Vec<FiberReport>, Memory>
+    ensures { IfOk result (λ reports. reports.items ≡ all_reported J.nodes fibers.items) }
+{
+    let mut reports = Vec::new(alloc);
+    for fiber in fibers {
+        if let Some(started) = fiber {
+            reports.push(started.into_report())?;
+        }
+    }
+    Ok(reports)
+}
+
+/// Nothing is left in any of so many queues: no form puts into one yet.
+fn nothing_left(alloc: Global, queues: usize) -> Result<Vec<Vec<Item>>, Memory>
+    ensures { IfOk result
+        (λ left. map (λ items. items.items) left.items ≡ replicate queues []) }
+{
+    let mut left = Vec::new(alloc);
+    for _queue in 0..queues {
+        left.push(Vec::new(alloc))?;
+    }
+    Ok(left)
 }
 
 /// The main fiber at its place, and the places of all others, of which none has started.
@@ -141,5 +190,22 @@ impl<J: CodeBrand> PlainMachine<J> {
             self.try_step(code, fiber)?;
         }
         Ok(())
+    }
+
+    /// The report of a script with so many queues, once no fiber is able.
+    pub fn into_report(self, alloc: Global, queues: usize) -> Result<Report, Memory>
+        requires rests { Rests self }
+        ensures replay { IfOk result (λ report. (s : ScriptView) (all : List Pick)
+            → length s.capacities ≡ queues → IsUnderWay J.nodes s all [] self
+            → IsReplay s all report) }
+        ensures writable { IfOk result (λ report. (names : List (List ℕ))
+            → length names ≡ queues → StandsForSome J.nodes self → IsWritable names report) }
+    {
+        Ok(Report {
+            outside: self.world.outside(alloc)?,
+            fibers: reports_of(alloc, self.fibers)?,
+            left: nothing_left(alloc, queues)?,
+            late: 0,
+        })
     }
 }

@@ -1,0 +1,149 @@
+-- The report of a machine is that of the whole machine for which it stands.
+use Rattle.std.proofs.Common.{◌≡◌, ℕ, zero, suc, ◌+◌, ◌<◌, ◌≤◌, Bool, true, false, Option, Some, None, option_map, List, [], ◌∷◌, All, length, map, replicate, refl, sym, ◌∙◌, ap, subst, arith, inl, inr}
+use Rattle.std.specs.Prelude.{slice_index_or, if◌then◌else◌}
+use Rattle.std.specs.List.{range_with_len, filter, filter_map, cons_option}
+use Rattle.std.proofs.lemmas.Option.{none-some, same_Some}
+use Rattle.std.proofs.lemmas.List.{length-map, length-replicate}
+use Rattle.std.proofs.lemmas.List.Elements.{All-nil, All-cons, All-weaker}
+use Rattle.fx_term.specs.declared.node.Node.{Node}
+use Rattle.fx_term.specs.declared.event.Event.{Event}
+use Rattle.fx_term.specs.declared.event.Event.TheVariants as event
+use Rattle.fx_term.specs.declared.item.Item.{Item}
+use Rattle.fx_term.specs.Script.{ScriptView, total}
+use Rattle.fx_fiber.specs.Run.{events}
+use Rattle.fx_fiber.specs.Fiber.{progress, has_ended}
+use Rattle.fx_fiber.specs.Report.{FiberReportView, ReportView}
+use Rattle.fx_text.specs.declared.pick.Pick.{Pick}
+use Rattle.fx_plain.specs.declared.plain_machine.Started.{Started}
+use Rattle.fx_plain.specs.declared.plain_machine.PlainMachine.{PlainMachine}
+use Rattle.fx_plain.specs.WholeMachine.{StartedFiber, WholeMachine, can_step_in}
+use Rattle.fx_plain.specs.Chosen.{report_of_fiber, IsReportOf, IsReplay}
+use Rattle.fx_plain.specs.Text.{ends, NamesQueueBelow, IsWritableFiber, IsWritable}
+use Rattle.fx_plain.specs.World.{HeldFiber, held_of}
+use Rattle.fx_plain.specs.OnTheWay.{IsOnTheWay}
+use Rattle.fx_plain.specs.PlainMachine.{held, reported, all_reported, all_held, StandsForRun, StandsForSome, IsUnderWay, Rests}
+use Rattle.fx_plain.proofs.ComputedRuns.{report}
+use Rattle.fx_plain.proofs.ComputedReports.{report_is_report}
+use Rattle.fx_plain.proofs.Endings.{run_ends}
+use Rattle.fx_plain.proofs.LawfulRuns.{IsKept}
+use Rattle.fx_plain.proofs.RunLaws.{run_keeps}
+use Rattle.fx_plain.proofs.OnTheWay.{way_ends}
+use Rattle.fx_plain.proofs.WorldClasses.{unable_cannot_step}
+use Rattle.fx_plain.proofs.PlainMachineSteps.{at_number, held_at, IsFiber, is_fiber}
+
+-- a list by number, and what its elements give
+module _ {X Y : Type 0} (give : Option X → Option Y) where
+  by_number : (h : ℕ → Option Y) (xs : List (Option X)) (a : ℕ) → ((i : ℕ) → i < length xs → give (slice_index_or xs i None) ≡ h (a + i))
+      → filter_map give xs ≡ filter_map h (range_with_len a (length xs))
+  by_number h [] a e = refl
+  by_number h (x ∷ xs) a e =
+      let here : give x ≡ h a = e 0 (omega arith) ∙ ap h (let z : a + 0 ≡ a = omega arith in z) in
+      rw here (ap (cons_option (h a)) (by_number h xs (a + 1)
+      (λ i lt. e (suc i) (omega arith) ∙ ap h (let z : a + suc i ≡ a + 1 + i = omega arith in z))))
+
+  all_given : (P : Y → Type 0) (xs : List (Option X)) → ((i : ℕ) (y : Y) → give (slice_index_or xs i None) ≡ Some y → P y) → All P (filter_map give xs)
+  all_given P [] e = All-nil P
+  all_given P (x ∷ xs) e = by_first (give x) refl (all_given P xs (λ i. e (suc i)))
+    where
+      by_first : (z : Option Y) → give x ≡ z → All P (filter_map give xs) → All P (cons_option (give x) (filter_map give xs))
+      by_first None is rest = rw is rest
+      by_first (Some y) is rest = rw is (All-cons P y (filter_map give xs) (e 0 y is) rest)
+
+same_filter : (p q : ℕ → Bool) (a n : ℕ) → ((k : ℕ) → a ≤ k → k < a + n → p k ≡ q k) → filter p (range_with_len a n) ≡ filter q (range_with_len a n)
+same_filter p q a zero e = refl
+same_filter p q a (suc n) e =
+    rw (e a (omega arith) (omega arith)) (ap (λ (ks : List ℕ). if q a then a ∷ ks else ks) (same_filter p q (a + 1) n (λ k low high. e k (omega arith) (omega arith))))
+
+nothing_in : (queues : ℕ → List Item) (a n : ℕ) → ((q : ℕ) → queues q ≡ []) → replicate n [] ≡ map queues (range_with_len a n)
+nothing_in queues a zero e = refl
+nothing_in queues a (suc n) e = rw (e a) (ap (λ (left : List (List Item)). [] ∷ left) (nothing_in queues (a + 1) n e))
+
+names_none_below : (n : ℕ) (e : Event) → NamesQueueBelow 0 e → NamesQueueBelow n e
+names_none_below n (event.Put q v) lt = absurd (omega arith)
+names_none_below n (event.Got q v) lt = absurd (omega arith)
+names_none_below n (event.Refused q) lt = absurd (omega arith)
+names_none_below n (event.Empty q) lt = absurd (omega arith)
+names_none_below n _ h = tt
+
+-- what is reported of a fiber as the whole machine has it
+report_of_held : ℕ → HeldFiber → FiberReportView
+report_of_held f h = record { id = f; parent = h.parent; has_ended = has_ended h.progress; trace = h.trace }
+
+module _ {J : Type 0} (nodes : List Node) (s : ScriptView) (p : PlainMachine J) (m : WholeMachine) (so : StandsForRun nodes s p m) where
+  kept : IsKept s m
+  kept = run_keeps s so.moves m so.run
+
+  places : length p.fibers.items ≡ total s
+  places = sym (length-map p.fibers.items (option_map (held nodes))) ∙ so.stands.held_long
+
+  number_is : (f : ℕ) (x : Started J) → at_number nodes p f ≡ Some x → x.fiber.port.number ≡ f
+  number_is f x here = (rw here at (so.numbered f)).0
+
+  reported_is : (f : ℕ) (x : Started J) → at_number nodes p f ≡ Some x → Some (reported nodes x) ≡ report_of_fiber f (m.fibers f)
+  unfolding report_of_held
+  reported_is f x here =
+      let is = is_fiber nodes s p m so f x here in
+      let as_held : reported nodes x ≡ report_of_held f (held nodes x) = ap (λ (k : ℕ). report_of_held k (held nodes x)) (number_is f x here) in
+      let as_fiber : report_of_held f (held nodes x) ≡ report_of_held f (held_of is.fiber) = ap (report_of_held f) is.is in
+      ap Some (as_held ∙ as_fiber) ∙ sym (ap (report_of_fiber f) is.at)
+
+  none_is : (f : ℕ) → at_number nodes p f ≡ None → None ≡ report_of_fiber f (m.fibers f)
+  none_is f here = by_fiber (m.fibers f) (sym (ap (option_map (held nodes)) here) ∙ sym (held_at nodes p f) ∙ so.stands.fibers f)
+    where
+      by_fiber : (z : Option StartedFiber) → None ≡ option_map held_of z → None ≡ report_of_fiber f z
+      by_fiber None e = refl
+      by_fiber (Some y) e = absurd (none-some (held_of y) e)
+
+  each_is : (f : ℕ) → option_map (reported nodes) (at_number nodes p f) ≡ report_of_fiber f (m.fibers f)
+  each_is f = by_place (at_number nodes p f) refl
+    where
+      by_place : (z : Option (Started J)) → at_number nodes p f ≡ z → option_map (reported nodes) z ≡ report_of_fiber f (m.fibers f)
+      by_place None here = none_is f here
+      by_place (Some x) here = reported_is f x here
+
+  module _ (fibers : List FiberReportView) (left : List (List Item)) (outside : List ℕ) (queues : ℕ)
+      (fibers_are : fibers ≡ all_reported nodes p.fibers.items) (left_is : left ≡ replicate queues [])
+      (outside_is : outside ≡ filter (λ f. slice_index_or p.world.from_outside f false) (range_with_len 0 (length p.world.classes))) where
+    abbrev pub machine_report : ReportView
+    machine_report = record { fibers = fibers; left = left; outside = outside; late = 0 }
+
+    is_report : length s.capacities ≡ queues → machine_report ≡ report s m
+    is_report by_queue =
+        let fibers_so : fibers ≡ (report s m).fibers =
+        fibers_are ∙ by_number (option_map (reported nodes)) (λ f. report_of_fiber f (m.fibers f)) p.fibers.items 0
+        (λ i lt. each_is i ∙ ap (λ f. report_of_fiber f (m.fibers f)) (let e : i ≡ 0 + i = omega arith in e))
+        ∙ ap (λ (n : ℕ). filter_map (λ f. report_of_fiber f (m.fibers f)) (range_with_len 0 n)) places in
+        let left_so : left ≡ (report s m).left =
+        left_is ∙ ap (λ (n : ℕ). replicate n []) (sym by_queue) ∙ nothing_in m.queues 0 (length s.capacities) so.stands.queues in
+        let outside_so : outside ≡ (report s m).outside =
+        outside_is ∙ ap (λ (n : ℕ). filter (λ f. slice_index_or p.world.from_outside f false) (range_with_len 0 n)) so.tells.long
+        ∙ same_filter (λ f. slice_index_or p.world.from_outside f false) m.from_outside 0 (total s) (λ f low high. so.stands.from_outside f (omega arith)) in
+        rw (fibers_so, left_so, outside_so) refl
+
+    is_report_of : length s.capacities ≡ queues → IsReportOf s m machine_report
+    is_report_of by_queue = rw (is_report by_queue) (report_is_report s m kept)
+
+    pub is_replay : (all : List Pick) → length s.capacities ≡ queues → IsOnTheWay s all [] m → Rests p → IsReplay s all machine_report
+    is_replay all by_queue way rests =
+        way_ends s all m way machine_report (λ f. unable_cannot_step s p.world (all_held nodes p) m so.stands so.tells f (rests f)) (is_report_of by_queue)
+
+    writable_fiber : (n i : ℕ) (y : FiberReportView) → option_map (reported nodes) (at_number nodes p i) ≡ Some y → IsWritableFiber n y
+    writable_fiber n i y e = by_place (at_number nodes p i) refl e
+      where
+        by_place : (z : Option (Started J)) → at_number nodes p i ≡ z → option_map (reported nodes) z ≡ Some y → IsWritableFiber n y
+        by_place None here e = absurd (none-some y e)
+        by_place (Some x) here e =
+            let is = is_fiber nodes s p m so i x here in
+            let run = kept.family.runs i is.fiber is.at in
+            let trace : x.fiber.trace ≡ events is.fiber.labels = ap (λ (h : HeldFiber). h.trace) is.is in
+            let at : progress nodes x.fiber ≡ is.fiber.progress = ap (λ (h : HeldFiber). h.progress) is.is in
+            subst (IsWritableFiber n) (same_Some (reported nodes x) y e) (record {
+              named = All-weaker (NamesQueueBelow 0) (NamesQueueBelow n) (names_none_below n) x.fiber.trace (rw here at (so.numbered i)).1;
+              state = ap ends trace ∙ run_ends is.fiber.origin is.fiber.labels is.fiber.counts is.fiber.progress run ∙ sym (ap has_ended at);
+            })
+
+    pub is_writable : (names : List (List ℕ)) → length names ≡ queues → IsWritable names machine_report
+    is_writable names by_queue = record {
+      left_by_queue = ap length left_is ∙ length-replicate queues [] ∙ sym by_queue;
+      fibers = rw fibers_are (all_given (option_map (reported nodes)) (IsWritableFiber (length names)) p.fibers.items (writable_fiber (length names)));
+    }
