@@ -149,6 +149,29 @@ many_fibers_inside_row : reading (codes "(main (seq (cede) (for i 1024 (start h 
 unfolding next opening_at closing_at value_at count_at name_at binder_at form_at main_word_at groups_within group_at top_opening_at script_at
 many_fibers_inside_row = refl
 
+-- a race is what stands for it, whose names are new ones
+race_row : reading (codes "(main (let y (pure 7) (race (pure y) (let z (raise y) (pure z)))))")
+    ≡ reading (codes "(main (let y (pure 7) (mask p (start l (pure y) (start r (let z (raise y) (pure z)) (let w (oncancel (poll p ("
+    ++ codes "first l r)) (seq (cancel l) (cancel r))) (if w (join r (x (seq (cancel l) (pure x))) (e (seq (cancel l) (raise"
+    ++ codes " e))) (oncancel (poll p (join l (x (pure x)) (e (raise e)) (seq (canceled) (never)))) (seq (cancel l) (cancel "
+    ++ codes "r)))) (join l (x (seq (cancel r) (pure x))) (e (seq (cancel r) (raise e))) (oncancel (poll p (join r (x (pure "
+    ++ codes "x)) (e (raise e)) (seq (canceled) (never)))) (seq (cancel l) (cancel r)))))))))))")
+unfolding next opening_at closing_at value_at count_at name_at binder_at form_at main_word_at groups_within group_at top_opening_at script_at
+race_row = refl
+
+-- a poll from outside of a race is unknown in both parts, and its name stays taken there
+race_left_poll_row : reading (codes "(main (mask p (race (poll p (cede)) (cede))))") ≡ fault kind.Unknown 26
+unfolding next opening_at closing_at value_at count_at name_at binder_at form_at main_word_at groups_within group_at top_opening_at script_at
+race_left_poll_row = refl
+
+race_right_poll_row : reading (codes "(main (mask p (race (cede) (poll p (cede)))))") ≡ fault kind.Unknown 33
+unfolding next opening_at closing_at value_at count_at name_at binder_at form_at main_word_at groups_within group_at top_opening_at script_at
+race_right_poll_row = refl
+
+race_taken_row : reading (codes "(main (mask p (race (mask p (cede)) (cede))))") ≡ fault kind.Taken 26
+unfolding next opening_at closing_at value_at count_at name_at binder_at form_at main_word_at groups_within group_at top_opening_at script_at
+race_taken_row = refl
+
 if_row : reading (codes "(main (let x (pure 1) (if x (never) (cede))))") ≡ means (Let (Some 0) (Pure (Number 1)) (If (Slot 0) Never Cede))
 unfolding next opening_at closing_at value_at count_at name_at binder_at form_at main_word_at groups_within group_at top_opening_at script_at
 if_row = refl

@@ -54,6 +54,17 @@ pub scope_elsewhere : (names : List CodeBound) (at : Place) → scope names (rec
 scope_elsewhere names at = ap (λ (l : List Bound). record { names = l; turns = at.turns })
     (ap (λ (n : ℕ). seen_past n (view_names names)) (sym (length-map names view_bound)) ∙ seen_all at.foreign (view_names names))
 
+-- where so many names are outside that all are
+pub scope_outside : (names : List CodeBound) (at : Place) (n : ℕ) → n ≡ length names → scope names (record at { foreign = n }) ≡ elsewhere (scope names at)
+scope_outside names at n all = ap (λ (k : ℕ). scope names (record at { foreign = k })) all ∙ scope_elsewhere names at
+
+-- with one name more that has no letters
+pub scope_nameless : (names more : List CodeBound) (b : CodeBound) (k : NameKind) (at : Place) → at.foreign ≤ length names → more ≡ names ++ b ∷ []
+    → b.name.now ≡ [] → b.kind ≡ k → scope more at ≡ under k [] (scope names at)
+scope_nameless names more b k at le pushed nameless of_kind =
+    ap (λ (l : List CodeBound). scope l at) pushed ∙ scope_push names b at le
+    ∙ ap (λ (x : List ℕ). under b.kind x (scope names at)) nameless ∙ ap (λ (j : NameKind). under j [] (scope names at)) of_kind
+
 -- ---- the name of a token
 
 taken_seen : (x : List ℕ) (foreign : ℕ) (names : List Bound) → is_taken x (seen_past foreign names) ≡ is_taken x names

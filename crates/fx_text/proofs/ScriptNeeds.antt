@@ -9,7 +9,9 @@ use Rattle.fx_text.specs.declared.form.Form.{Form}
 use Rattle.fx_text.specs.declared.form.Form.TheVariants as form
 use Rattle.fx_text.specs.Token.{Token}
 use Rattle.fx_text.specs.Limits.{most_open}
-use Rattle.fx_text.specs.Scope.{Scope, top}
+use Rattle.fx_text.specs.declared.reader.races.RaceSlots.{RaceSlots}
+use Rattle.fx_text.specs.Scope.{Scope, top, slot}
+use Rattle.fx_text.specs.Race.{race_slots, cancel_both, outcome_of, decided, deciding, race}
 use Rattle.fx_text.specs.Group.{Group, OfTerm, OfResource, OfResources, OfOutcome, Resource, Content, needs_few}
 use Rattle.fx_text.specs.Shape.{Shape, ends, word, value, count, name, binder, group, groups, seq, using, shape, content, main_shape}
 use Rattle.fx_text.specs.Meaning.{Meaning}
@@ -41,6 +43,22 @@ using_few : (rs : List Resource) (t : Term) → FewIn OfResources rs → NeedsFe
 using_few [] t each used few = used
 using_few (r ∷ rs) t each used few = (few, each.0.0, using_few rs t each.1 used (omega arith), each.0.1)
 
+-- a race starts two fibers
+race_few : (s : RaceSlots) (a b : Term) → NeedsFew a → NeedsFew b → need (race s a b) ≤ most_need → NeedsFew (race s a b)
+race_few s a b first second few = (few, (omega arith, first, (omega arith, second, nothing)))
+  where
+    outcome : (f : ℕ) → NeedsFew (outcome_of s f)
+    outcome f = (omega arith, tt, tt, (omega arith, tt, tt))
+
+    both : NeedsFew (cancel_both s)
+    both = (omega arith, tt, tt)
+
+    one : (f g : ℕ) → NeedsFew (decided s f g)
+    one f g = (omega arith, (omega arith, tt, tt), (omega arith, tt, tt), (omega arith, (omega arith, outcome g), both))
+
+    nothing : NeedsFew (deciding s)
+    nothing = (omega arith, (omega arith, (omega arith, tt), both), (omega arith, one s.right s.left, one s.left s.right))
+
 form_few : (f : Form) (p : Scope) → KeepsFew OfTerm (shape f p)
 form_few form.Pure p = λ v few. tt
 form_few form.Raise p = λ v few. tt
@@ -63,6 +81,7 @@ form_few form.Start p = λ h a first b second few. (leb-true _ _ few, first, sec
 form_few form.Join p = λ f a first b second c third few. (leb-true _ _ few, first, second, third)
 form_few form.Cancel p = λ f few. tt
 form_few form.First p = λ f g few. tt
+form_few form.Race p = λ a first b second few. race_few (race_slots (slot p)) a b first second (leb-true _ _ few)
 
 content_few : (g : Group) (p : Scope) → KeepsFew g (content g p)
 content_few OfTerm p = λ f. form_few f p

@@ -20,7 +20,8 @@ use Rattle.fx_text.specs.declared.reader.head.Double.{Double}
 use Rattle.fx_text.specs.declared.reader.head.Double.TheVariants as double
 use Rattle.fx_text.specs.declared.reader.head.Head.{Head}
 use Rattle.fx_text.specs.declared.reader.head.Head.TheVariants as head
-use Rattle.fx_text.specs.Scope.{Scope, slot, under, elsewhere, repeated}
+use Rattle.fx_text.specs.Scope.{Scope, slot, under, elsewhere, left_of_race, right_of_race, repeated}
+use Rattle.fx_text.specs.Race.{race}
 use Rattle.fx_text.specs.Group.{OfTerm, OfOutcome}
 use Rattle.fx_text.specs.Shape.{Shape, ends, group, term, shape, pure_zero}
 use Rattle.fx_text.specs.Reading.{GroupReading, parts_at}
@@ -32,6 +33,8 @@ abbrev pub scope_in : Inner → Scope → Scope
 scope_in inner.Same p = p
 scope_in (inner.Name k x) p = under k x.now p
 scope_in inner.Elsewhere p = elsewhere p
+scope_in inner.RaceLeft p = left_of_race p
+scope_in inner.RaceRight p = right_of_race p
 scope_in (inner.Loop n x) p = repeated n (under kind.Value x.now p)
 
 -- no loop takes the turns above the most
@@ -43,7 +46,7 @@ TurnsFit turns _ = Unit {0}
 pub record Enters (i : Inner) (old new : Reader) : Type 0 where
   pub scope : scope_of new ≡ scope_in i (scope_of old)
   pub names : take (length old.names.items) new.names.items ≡ old.names.items
-  pub longer : length new.names.items ≤ length old.names.items + 1
+  pub longer : length new.names.items ≤ length old.names.items + 2
   pub nodes : new.nodes.items ≡ old.nodes.items
   pub needs : new.needs.items ≡ old.needs.items
   pub outside : new.place.foreign ≤ length new.names.items
@@ -65,6 +68,7 @@ abbrev pub double_term : Double → Term → Term → Term
 double_term (double.Let x) a b = Let (Some x) a b
 double_term (double.If v) a b = If v a b
 double_term (double.Start h) a b = Start h a b
+double_term (double.Race s) a b = race s a b
 double_term double.OnCancel a b = OnCancel a b
 double_term double.Guarantee a b = Bracket None pure_zero a b
 

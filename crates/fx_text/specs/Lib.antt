@@ -3,6 +3,7 @@ pub mod Fault
 pub mod Token
 pub mod Scope
 pub mod Group
+pub mod Race
 pub mod Shape
 pub mod Part
 pub mod Meaning

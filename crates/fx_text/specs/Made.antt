@@ -26,3 +26,14 @@ pub record Makes (old new : Reader) (parts : List NodeId) (t : Term) (root : ℕ
   pub paid : length new.nodes.items ≤ length old.nodes.items + most_made (length parts)
   pub term : term_of new.nodes.items root ≡ t
   pub grows : (start : List Node) → GrowsBy start old.nodes.items (ids parts) → GrowsBy start new.nodes.items (root ∷ [])
+
+-- of no parts this term was made, by so many nodes
+pub record MakesTree (old new : Reader) (count : ℕ) (t : Term) (root : ℕ) : Type 0 where
+  pub names : new.names.items ≡ old.names.items
+  pub place : new.place ≡ old.place
+  pub made : AreMade new.nodes.items new.needs.items
+  pub keeps : Keeps old.nodes.items new.nodes.items
+  pub last : root + 1 ≡ length new.nodes.items
+  pub more : length new.nodes.items ≡ length old.nodes.items + count
+  pub term : term_of new.nodes.items root ≡ t
+  pub grows : GrowsBy old.nodes.items new.nodes.items (root ∷ [])

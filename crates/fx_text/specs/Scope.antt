@@ -36,6 +36,13 @@ bound_elsewhere b = record b { kind = kind_elsewhere b.kind }
 abbrev pub elsewhere : Scope → Scope
 elsewhere p = record p { names = map bound_elsewhere p.names }
 
+-- Inside the left fiber of a race, and inside the right one. The race's poll and its left fiber have names of no letters, which no token is
+abbrev pub left_of_race : Scope → Scope
+left_of_race p = elsewhere (under kind.Poll [] p)
+
+abbrev pub right_of_race : Scope → Scope
+right_of_race p = elsewhere (under kind.Fiber [] (under kind.Poll [] p))
+
 -- inside a loop of that count
 abbrev pub repeated : ℕ → Scope → Scope
 repeated n p = record p { turns = turns_of_loop p.turns n }

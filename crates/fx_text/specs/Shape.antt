@@ -7,7 +7,8 @@ use Rattle.fx_term.specs.declared.name_kind.NameKind.{NameKind}
 use Rattle.fx_term.specs.declared.name_kind.NameKind.TheVariants as kind
 use Rattle.fx_text.specs.declared.form.Form.{Form}
 use Rattle.fx_text.specs.declared.form.Form.TheVariants as form
-use Rattle.fx_text.specs.Scope.{Scope, top, slot, under, elsewhere, repeated}
+use Rattle.fx_text.specs.Scope.{Scope, top, slot, under, elsewhere, left_of_race, right_of_race, repeated}
+use Rattle.fx_text.specs.Race.{race_slots, race}
 use Rattle.fx_text.specs.Group.{Group, OfTerm, OfResource, OfResources, OfOutcome, Resource, Content, under_all}
 
 -- What is still to come of a group, in the order of the text. What is read of a part is handed to the parts after it
@@ -33,7 +34,7 @@ terms p go = groups OfTerm p go
 -- all forms
 abbrev pub forms : List Form
 forms = form.Pure ∷ form.Raise ∷ form.Canceled ∷ form.Never ∷ form.Cede ∷ form.Seq ∷ form.Let ∷ form.Handle ∷ form.If ∷ form.For ∷ form.Mask ∷ form.Poll ∷
-    form.OnCancel ∷ form.Bracket ∷ form.Guarantee ∷ form.Forcer ∷ form.Using ∷ form.Start ∷ form.Join ∷ form.Cancel ∷ form.First ∷ []
+    form.OnCancel ∷ form.Bracket ∷ form.Guarantee ∷ form.Forcer ∷ form.Using ∷ form.Start ∷ form.Join ∷ form.Cancel ∷ form.First ∷ form.Race ∷ []
 
 abbrev pub word_of : Form → List ℕ
 word_of form.Pure = codes "pure"
@@ -57,6 +58,7 @@ word_of form.Start = codes "start"
 word_of form.Join = codes "join"
 word_of form.Cancel = codes "cancel"
 word_of form.First = codes "first"
+word_of form.Race = codes "race"
 
 -- one after another, for the last one's value
 abbrev pub seq : Term → List Term → Term
@@ -96,6 +98,7 @@ shape form.Join p = name kind.Fiber p λ f. group OfOutcome p λ a. group OfOutc
     ends (Join (arg.Slot f) (slot p) a (slot p) b c)
 shape form.Cancel p = name kind.Fiber p λ f. ends (Cancel (arg.Slot f))
 shape form.First p = name kind.Fiber p λ f. name kind.Fiber p λ g. ends (First (arg.Slot f) (arg.Slot g))
+shape form.Race p = term (left_of_race p) λ a. term (right_of_race p) λ b. ends (race (race_slots (slot p)) a b)
 
 -- what stands in the parentheses of a group
 abbrev pub content : (g : Group) → Scope → Shape g

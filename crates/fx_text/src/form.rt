@@ -24,13 +24,14 @@ pub(crate) enum Form {
     Join,
     Cancel,
     First,
+    Race,
 }
 
 impl Form {
     ghost use Rattle.std.specs.Prelude.{◌≡◌, bytes_eq, find};
     ghost use Rattle.fx_text.specs.Shape.{forms, word_of};
 
-    const ALL: [Form; 21] = [
+    const ALL: [Form; 22] = [
         Form::Pure,
         Form::Raise,
         Form::Canceled,
@@ -52,6 +53,7 @@ impl Form {
         Form::Join,
         Form::Cancel,
         Form::First,
+        Form::Race,
     ];
 
     fn word(self) -> &'static [u8]
@@ -79,6 +81,7 @@ impl Form {
             Form::Join => b"join",
             Form::Cancel => b"cancel",
             Form::First => b"first",
+            Form::Race => b"race",
         }
     }
 

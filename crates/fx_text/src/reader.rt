@@ -1,5 +1,5 @@
 //! Reads terms.
-ghost use Rattle.std.specs.Prelude.{◌<◌, ◌≤◌, ◌∷◌, length, map, IfOk};
+ghost use Rattle.std.specs.Prelude.{◌+◌, ◌<◌, ◌≤◌, ◌∷◌, length, map, IfOk};
 ghost use Rattle.fx_term.specs.Meaning.{term_of};
 ghost use Rattle.fx_term.specs.Tree.{children};
 ghost use Rattle.fx_term.specs.Turns.{most_turns};
@@ -19,6 +19,7 @@ mod head;
 mod leaves;
 mod loops;
 mod masking;
+mod races;
 mod resources;
 
 use crate::fault::ReadError;
@@ -87,7 +88,7 @@ impl<'a> Reader<'a> {
         room: usize,
         bytes: &'a [u8],
     ) -> Result<(NodeId, &'a [u8]), ReadError>
-        requires ready { IsReady 1 self.old bytes.now }
+        requires ready { IsReady 2 self.old bytes.now }
         requires turns { TurnsFit self.old.place.turns inner }
         ensures { ReadsTerm term_spares self.old self.new bytes.now
             (term_at room (scope_in inner.entry (scope_of self.old)) bytes.now) result }
@@ -103,7 +104,7 @@ impl<'a> Reader<'a> {
     /// Goes into the scope of a part.
     #[tactic(auto, using(crate::proofs::ScopeLaws::scope_push, crate::proofs::ScopeLaws::scope_elsewhere))]
     fn enter(&mut self, inner: Inner<'a>) -> Result<(), AllocError>
-        requires small { length self.old.names.items < most_bytes }
+        requires small { length self.old.names.items + 2 ≤ most_bytes }
         requires outside { self.old.place.foreign ≤ length self.old.names.items }
         requires some { 0 < self.old.place.turns }
         requires few { self.old.place.turns ≤ most_turns }
@@ -114,6 +115,17 @@ impl<'a> Reader<'a> {
             Inner::Same => Ok(()),
             Inner::Name(kind, name) => Ok(self.names.push(Bound { name, kind })?),
             Inner::Elsewhere => {
+                self.place.foreign = self.names.len();
+                Ok(())
+            }
+            Inner::RaceLeft => {
+                self.names.push(Bound::nameless(NameKind::Poll))?;
+                self.place.foreign = self.names.len();
+                Ok(())
+            }
+            Inner::RaceRight => {
+                self.names.push(Bound::nameless(NameKind::Poll))?;
+                self.names.push(Bound::nameless(NameKind::Fiber))?;
                 self.place.foreign = self.names.len();
                 Ok(())
             }

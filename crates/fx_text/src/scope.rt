@@ -14,6 +14,18 @@ pub(crate) struct Bound<'a> {
     pub(crate) kind: NameKind,
 }
 
+impl<'a> Bound<'a> {
+    ghost use Rattle.std.specs.Prelude.{[]};
+
+    /// A name of no letters, which no token is.
+    pub(crate) fn nameless(kind: NameKind) -> Bound<'a>
+        ensures name { result.name.now ≡ [] }
+        ensures kind { result.kind ≡ kind }
+    {
+        Bound { name: b"", kind }
+    }
+}
+
 fn is_among(names: &[Bound<'_>], name: &[u8]) -> bool
     ensures { result ≡ list_any (λ b. bytes_eq b.name.now name.now) names.now }
 {

@@ -12,6 +12,7 @@ use crate::fault::ReadError;
 use crate::form::Form;
 use crate::part::closing;
 use crate::reader::Reader;
+use crate::reader::races::RaceSlots;
 use fx_term::{Arg, NameKind, Node, NodeId};
 use std::alloc::AllocError;
 
@@ -24,6 +25,10 @@ pub(crate) enum Inner<'a> {
     Name(NameKind, &'a [u8]),
     /// That of another fiber.
     Elsewhere,
+    /// That of the left fiber of a race.
+    RaceLeft,
+    /// That of the right fiber of a race.
+    RaceRight,
     /// With the name of a loop's number, inside a loop of that count.
     Loop(u32, &'a [u8]),
 }
@@ -42,6 +47,7 @@ pub(crate) enum Double {
     Let(u32),
     If(Arg),
     Start(u32),
+    Race(RaceSlots),
     OnCancel,
     Guarantee,
 }
@@ -100,6 +106,7 @@ impl<'a> Reader<'a> {
             Form::Join => self.join_head(bytes),
             Form::Cancel => self.cancel_head(bytes),
             Form::First => self.first_head(bytes),
+            Form::Race => self.race_head(bytes),
         }
     }
 
@@ -148,6 +155,7 @@ impl<'a> Reader<'a> {
             Double::Let(slot) => self.add(Node::Let(Some(slot), first, second)),
             Double::If(v) => self.add(Node::If(v, first, second)),
             Double::Start(slot) => self.add(Node::Start(slot, first, second)),
+            Double::Race(slots) => self.race_node(slots, first, second),
             Double::OnCancel => self.add(Node::OnCancel(first, second)),
             Double::Guarantee => self.guarantee_node(first, second),
         }

@@ -195,3 +195,69 @@ fn makes_the_nodes_of_fibers(rt: HostRuntime) {
         assert!(rt; has_nodes(rt.alloc(), text, nodes));
     }
 }
+
+/// Parts and names of a race. A poll from outside is unknown in both parts, and its name stays taken.
+static REFUSED_RACES: [Refusal; 8] = [
+    (b"(main (mask p (race (poll p (cede)) (cede))))", 7, 26),
+    (b"(main (mask p (race (cede) (poll p (cede)))))", 7, 33),
+    (b"(main (mask p (race (mask p (cede)) (cede))))", 8, 26),
+    (b"(main (race (cede)))", 6, 18),
+    (b"(main (race (cede) (cede) (cede)))", 6, 26),
+    (b"(main (race (pure l) (cede)))", 7, 18),
+    (b"(main (race (cede) (cancel l)))", 7, 27),
+    (b"(main (for i 512 (race (cede) (cede))))", 12, 6),
+];
+
+/// Races, and how many fibers there can be.
+static RACE_TOTALS: [(&[u8], u32); 4] = [
+    (b"(main (race (cede) (cede)))", 3),
+    (
+        b"(main (race (start h (cede) (cede)) (race (cede) (cede))))",
+        6,
+    ),
+    (
+        b"(main (race (mask p (poll p (cede))) (let l (pure 2) (pure l))))",
+        3,
+    ),
+    (b"(main (for i 511 (race (cede) (cede))))", 1023),
+];
+
+#[test]
+fn reads_races(rt: HostRuntime) {
+    assert_refused(&rt, rt.alloc(), &REFUSED_RACES);
+    for &(text, fibers) in &RACE_TOTALS {
+        assert_eq!(rt; total(rt.alloc(), text), Some(fibers));
+    }
+}
+
+const RACE: &[u8] = b"(main (let y (pure 7) (race (pure y) (let z (raise y) (pure z)))))";
+
+/// The same, written out.
+const WRITTEN_OUT: &[u8] =
+    b"(main (let y (pure 7) (mask p (start l (pure y) (start r (let z (raise y) (pure z)) (let \
+    w (oncancel (poll p (first l r)) (seq (cancel l) (cancel r))) (if w (join r (x (seq \
+    (cancel l) (pure x))) (e (seq (cancel l) (raise e))) (oncancel (poll p (join l (x (pure \
+    x)) (e (raise e)) (seq (canceled) (never)))) (seq (cancel l) (cancel r)))) (join l (x \
+    (seq (cancel r) (pure x))) (e (seq (cancel r) (raise e))) (oncancel (poll p (join r (x \
+    (pure x)) (e (raise e)) (seq (canceled) (never)))) (seq (cancel l) (cancel r)))))))))))";
+
+/// Whether two texts have the same nodes.
+fn have_same_nodes(alloc: Global, one: &[u8], other: &[u8]) -> bool {
+    match (parse(alloc, one), parse(alloc, other)) {
+        (Ok(one), Ok(other)) => {
+            let len = one.code.len();
+            len == other.code.len()
+                && (0..len).all(|id| one.code.node(NodeId(id)) == other.code.node(NodeId(id)))
+        }
+        _ => false,
+    }
+}
+
+#[test]
+fn a_race_is_what_stands_for_it(rt: HostRuntime) {
+    assert_eq!(rt;
+        code_len(rt.alloc(), b"(main (race (cede) (cede)))"),
+        Some(49)
+    );
+    assert!(rt; have_same_nodes(rt.alloc(), RACE, WRITTEN_OUT));
+}
