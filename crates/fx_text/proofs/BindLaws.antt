@@ -294,7 +294,8 @@ module _ (old one two three new : Reader) (rs : List CodeResource) (used root ou
         shorter = omega (arith, w.shorter, b.shorter);
       }
 
-  pub using_means : (room : ℕ) → old.place.foreign ≤ length old.names.items → group_at room OfResources (scope_of old) bytes ≡ Ok (resources_of one.nodes.items rs, rest)
+  pub using_means : (room : ℕ) → old.place.foreign ≤ length old.names.items
+      → group_at room OfResources (scope_of old) bytes ≡ Ok (resources_of one.nodes.items rs, rest)
       → term_at room (scope_of one) rest ≡ Ok (term_of two.nodes.items used, after) → closing_at after ≡ Ok (tt, end)
       → parts_at (group_at room) (shape form.Using (scope_of old)) bytes ≡ Ok (term_of new.nodes.items root, end)
   using_means room outside read term close = using_read room old one rs bytes rest b read outside (term_of two.nodes.items used) after term end close

@@ -159,8 +159,8 @@ race_made old one two three new s a b d x y root can tree second first mask =
     let d_is : term_of two.nodes.items d.0 ≡ deciding s = second.keeps.same d.0 (omega (arith, tree.last)) ∙ tree.term in
     let x_is : term_of two.nodes.items x.0 ≡ Start s.right (term_of old.nodes.items b.0) (deciding s) = second.term
     ∙ ap (λ (t : Term). Start s.right t (term_of two.nodes.items d.0)) b_is ∙ ap (λ (t : Term). Start s.right (term_of old.nodes.items b.0) t) d_is in
-    let y_is : term_of three.nodes.items y.0 ≡ Start s.left (term_of old.nodes.items a.0) (Start s.right (term_of old.nodes.items b.0) (deciding s)) = first.term
-    ∙ ap (λ (t : Term). Start s.left t (term_of three.nodes.items x.0)) a_is
+    let y_is : term_of three.nodes.items y.0 ≡ Start s.left (term_of old.nodes.items a.0) (Start s.right (term_of old.nodes.items b.0) (deciding s)) =
+    first.term ∙ ap (λ (t : Term). Start s.left t (term_of three.nodes.items x.0)) a_is
     ∙ ap (λ (t : Term). Start s.left (term_of old.nodes.items a.0) t) (first.keeps.same x.0 (omega (arith, second.last)) ∙ x_is) in
     record {
       names = mask.names ∙ first.names ∙ second.names ∙ tree.names;

@@ -450,7 +450,9 @@ module _ (p : Scope) (s : RaceSlots) (h : HasRace p s) where
         (join_stands p f of_fiber.within of_fiber.there a first b second c third)
 
     outcome_stands : (f : ℕ) → Has p f kind.Fiber → StandsAt p (outcome_of s f)
-    outcome_stands f of_fiber = joined f of_fiber _ _ _ (value_stands (under kind.Value [] p) s.number given) (error_stands (under kind.Value [] p) s.number given)
+    outcome_stands f of_fiber =
+        let q = under kind.Value [] p in
+        joined f of_fiber _ _ _ (value_stands q s.number given) (error_stands q s.number given)
         (record { scope = record { levels = (tt, tt, tt); scoped = (tt, tt, tt) }; turns = (tt, tt) })
 
     decided_stands : (f g : ℕ) → Has p f kind.Fiber → Has p g kind.Fiber → StandsAt p (decided s f g)

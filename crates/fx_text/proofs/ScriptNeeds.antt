@@ -1,8 +1,8 @@
 -- No part of a script's term can use more fiber numbers than the most: each form was tested, and what a form stands for uses no more than the form.
-use Rattle.std.proofs.Common.{◌≡◌, ℕ, ◌+◌, ◌*◌, ◌≤◌, Option, Some, None, Bool, true, List, [], ◌∷◌, arith}
+use Rattle.std.proofs.Common.{◌≡◌, ℕ, ◌+◌, ◌≤◌, true, List, [], ◌∷◌, arith}
 use Rattle.std.specs.List.{AllByRecursion}
 use Rattle.std.proofs.lemmas.Bool.{leb-true}
-use Rattle.fx_term.specs.Term.{Term, Let, Bracket}
+use Rattle.fx_term.specs.Term.{Term}
 use Rattle.fx_term.specs.Need.{need, most_need, NeedsFew}
 use Rattle.fx_term.specs.declared.node.Arg.{Arg}
 use Rattle.fx_text.specs.declared.form.Form.{Form}

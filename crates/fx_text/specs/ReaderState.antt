@@ -22,8 +22,8 @@ use Rattle.fx_text.specs.Trees.{AllBelow, GrowsBy, Keeps}
 abbrev pub scope_of : Reader → Scope
 scope_of r = scope r.names.items r.place
 
--- before: a byte was paid for each name in scope and for each eight nodes, with so many bytes left over, no more names are bound outside of the fiber than are in
--- scope, and the loops round have one to the most turns
+-- before: a byte was paid for each name in scope and for each eight nodes, with so many bytes left over, no more names are bound outside of the fiber than are
+-- in scope, and the loops round have one to the most turns
 pub record IsReady (spared : ℕ) (r : Reader) (bytes : List ℕ) : Type 0 where
   pub made : AreMade r.nodes.items r.needs.items
   pub names_fit : length r.names.items + (length bytes + spared) ≤ most_bytes

@@ -1,5 +1,5 @@
 -- The scope of a part of a script: the names there, and how often the loops round it run it.
-use Rattle.std.specs.Prelude.{ℕ, Bool, true, false, ◌&&◌, Option, List, [], ◌∷◌, ◌++◌, length, map, bytes_eq}
+use Rattle.std.specs.Prelude.{ℕ, Bool, true, false, ◌&&◌, ◌||◌, Option, List, [], ◌∷◌, ◌++◌, length, map, bytes_eq}
 use Rattle.std.specs.List.{list_any, position}
 use Rattle.fx_term.specs.declared.name_kind.NameKind.{NameKind}
 use Rattle.fx_term.specs.declared.name_kind.NameKind.TheVariants as kind
@@ -11,14 +11,16 @@ pub record Bound : Type 0 where
   pub name : List ℕ
   pub kind : NameKind
 
--- the names in scope, the outermost first, and the product of the counts of the loops round it
+-- The names in scope that have slots, the outermost first; the names of the queues in the order of the script, by which they are numbered; and the product of
+-- the counts of the loops round it
 pub record Scope : Type 0 where
   pub names : List Bound
+  pub queues : List (List ℕ)
   pub turns : ℕ
 
 -- no name is in scope, inside no loop
 abbrev pub top : Scope
-top = record { names = []; turns = 1 }
+top = record { names = []; queues = []; turns = 1 }
 
 -- the number of the name that the next binder binds
 abbrev pub slot : Scope → ℕ
@@ -54,9 +56,9 @@ same_kind kind.Fiber kind.Fiber = true
 same_kind kind.OtherPoll kind.OtherPoll = true
 same_kind _ _ = false
 
--- the name is one of these
-abbrev pub is_taken : List ℕ → List Bound → Bool
-is_taken x names = list_any (λ b. bytes_eq b.name x) names
+-- the name is in scope, of whatever kind
+abbrev pub is_taken : List ℕ → Scope → Bool
+is_taken x p = list_any (λ b. bytes_eq b.name x) p.names || list_any (λ q. bytes_eq q x) p.queues
 
 -- the number of a name of that kind among these
 abbrev pub slot_of : NameKind → List ℕ → List Bound → Option ℕ

@@ -6,13 +6,12 @@ ghost use Rattle.fx_text.specs.Part.{is_closing};
 ghost use Rattle.fx_text.specs.Token.{next};
 ghost use Rattle.fx_text.specs.TokenView.{view_token};
 ghost use Rattle.fx_text.specs.ScopeView.{scope};
-ghost use Rattle.fx_text.specs.declared.place.Place.{Place as PlaceView};
 ghost use Rattle.fx_text.specs.Given.{Gives};
 
 use crate::fault::{Fault, ReadError, TextKind};
 use crate::form::Form;
 use crate::place::Place;
-use crate::scope::{Bound, is_bound, slot_of};
+use crate::scope::{Bound, is_taken, slot_of};
 use crate::token::{Lexeme, Token, next};
 use fx_term::{Arg, NameKind, turns_of_loop};
 
@@ -76,12 +75,13 @@ pub(crate) fn is_closing(bytes: &[u8]) -> bool
 #[tactic(auto, unfolding(crate::specs::Reading::value_at))]
 pub(crate) fn value<'a>(
     names: &[Bound<'a>],
-    place: Place,
+    place: Place<'a>,
     bytes: &'a [u8],
 ) -> Result<(Arg, &'a [u8]), ReadError>
     requires small { length names.now < 2 ^ 32 }
     requires outside { place.foreign ≤ length names.now }
-    ensures read { Gives (λ x. (x.0, x.1.now)) result (value_at (scope names.now place) bytes.now) }
+    ensures read { Gives (λ x. (x.0, x.1.now)) result
+        (value_at (scope names.now place.entry) bytes.now) }
     ensures shorter { IfOk result (λ x. length x.1.now < length bytes.now) }
 {
     let lexeme = next(bytes);
@@ -105,11 +105,11 @@ fn has_few_turns(turns: u32, count: u64) -> bool
 
 /// The count of a loop that is run so many times.
 #[tactic(auto, unfolding(crate::specs::Reading::count_at))]
-pub(crate) fn count(place: Place, bytes: &[u8]) -> Result<(u32, &[u8]), ReadError>
+pub(crate) fn count<'a>(place: Place<'_>, bytes: &'a [u8]) -> Result<(u32, &'a [u8]), ReadError>
     requires { 0 < place.turns }
     ensures read { (names : List Bound)
-        → Gives (λ x. (x.0, x.1.now)) result (count_at (scope names place) bytes.now) }
-    ensures few { IfOk result (λ x. turns_of_loop place.turns x.0 ≤ most_turns) }
+        → Gives (λ x. (x.0, x.1.now)) result (count_at (scope names place.entry) bytes.now) }
+    ensures few { IfOk result (λ x. turns_of_loop place.entry.turns x.0 ≤ most_turns) }
     ensures shorter { IfOk result (λ x. length x.1.now < length bytes.now) }
 {
     let lexeme = next(bytes);
@@ -128,14 +128,14 @@ pub(crate) fn count(place: Place, bytes: &[u8]) -> Result<(u32, &[u8]), ReadErro
 #[tactic(auto, unfolding(crate::specs::Reading::name_at))]
 pub(crate) fn name<'a>(
     names: &[Bound<'a>],
-    place: Place,
+    place: Place<'a>,
     kind: NameKind,
     bytes: &'a [u8],
 ) -> Result<(u32, &'a [u8]), ReadError>
     requires small { length names.now < 2 ^ 32 }
     requires outside { place.foreign ≤ length names.now }
     ensures read { Gives (λ x. (x.0, x.1.now)) result
-        (name_at kind (scope names.now place) bytes.now) }
+        (name_at kind (scope names.now place.entry) bytes.now) }
     ensures shorter { IfOk result (λ x. length x.1.now < length bytes.now) }
 {
     let lexeme = next(bytes);
@@ -152,16 +152,17 @@ pub(crate) fn name<'a>(
 #[tactic(auto, unfolding(crate::specs::Reading::binder_at))]
 pub(crate) fn binder<'a>(
     names: &[Bound<'a>],
+    place: Place<'a>,
     bytes: &'a [u8],
 ) -> Result<(&'a [u8], &'a [u8]), ReadError>
-    ensures read { (at : PlaceView)
-        → Gives (λ x. (x.0.now, x.1.now)) result (binder_at (scope names.now at) bytes.now) }
+    ensures read { Gives (λ x. (x.0.now, x.1.now)) result
+        (binder_at (scope names.now place.entry) bytes.now) }
     ensures shorter { IfOk result (λ x. length x.1.now < length bytes.now) }
 {
     let lexeme = next(bytes);
     match lexeme.token {
         Token::Name(name) => {
-            if is_bound(names, name) {
+            if is_taken(names, place, name) {
                 return Err(refused(TextKind::Taken, lexeme));
             }
             Ok((name, lexeme.rest))

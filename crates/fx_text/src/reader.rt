@@ -31,13 +31,13 @@ use fx_term::{MOST_NEED, NameKind, Node, NodeId, need_of_node};
 use head::{Double, Head, Inner, Single};
 use std::alloc::{AllocError, Global};
 
-/// The names in scope, what else is known of this place, the nodes so far, each with its need, and
+/// The names in scope that have slots, what else is known of this place, the nodes so far, each with its need, and
 /// where memory comes from.
 #[derive(Drop)]
 pub(crate) struct Reader<'a> {
     pub(crate) alloc: Global,
     pub(crate) names: Vec<Bound<'a>>,
-    pub(crate) place: Place,
+    pub(crate) place: Place<'a>,
     pub(crate) nodes: Vec<Node>,
     pub(crate) needs: Vec<u32>,
 }
@@ -102,7 +102,7 @@ impl<'a> Reader<'a> {
     }
 
     /// Goes into the scope of a part.
-    #[tactic(auto, using(crate::proofs::ScopeLaws::scope_push, crate::proofs::ScopeLaws::scope_elsewhere))]
+    #[tactic(auto, using(crate::proofs::ScopeLaws::scope_push))]
     fn enter(&mut self, inner: Inner<'a>) -> Result<(), AllocError>
         requires small { length self.old.names.items + 2 ≤ most_bytes }
         requires outside { self.old.place.foreign ≤ length self.old.names.items }

@@ -3,8 +3,9 @@ ghost use Rattle.std.specs.Prelude.{ℕ, ◌≡◌, ◌<◌, ◌≤◌, ◌&&◌
 ghost use Rattle.std.specs.List.{list_any, position};
 ghost use Rattle.fx_text.specs.Scope.{is_taken, same_kind, slot_of};
 ghost use Rattle.fx_term.specs.Scope.{kind_elsewhere};
-ghost use Rattle.fx_text.specs.ScopeView.{view_names, seen_past};
+ghost use Rattle.fx_text.specs.ScopeView.{view_names, seen_past, scope};
 
+use crate::place::Place;
 use fx_term::NameKind;
 
 /// A name in scope.
@@ -52,12 +53,18 @@ fn index_elsewhere(names: &[Bound<'_>], kind: NameKind, name: &[u8]) -> Option<u
         .position(|b| b.name == name && b.kind.elsewhere() == kind)
 }
 
-/// Whether the name is in scope.
-#[tactic(auto, using(crate::proofs::ScopeLaws::is_taken_among))]
-pub(crate) fn is_bound(names: &[Bound<'_>], name: &[u8]) -> bool
-    ensures { (foreign : ℕ) → result ≡ is_taken name.now (seen_past foreign (view_names names.now)) }
+fn is_queue(queues: &[&[u8]], name: &[u8]) -> bool
+    ensures { result ≡ list_any (λ q. bytes_eq q.now name.now) queues.now }
 {
-    is_among(names, name)
+    queues.iter().any(|queue| *queue == name)
+}
+
+/// Whether the name is in scope there, of whatever kind.
+#[tactic(auto, using(crate::proofs::ScopeLaws::is_taken_among))]
+pub(crate) fn is_taken(names: &[Bound<'_>], place: Place<'_>, name: &[u8]) -> bool
+    ensures { result ≡ is_taken name.now (scope names.now place.entry) }
+{
+    is_among(names, name) || is_queue(place.queues, name)
 }
 
 /// The slot of the name, where it is of that kind, and so many names are bound outside of the fiber.

@@ -107,6 +107,7 @@ fn main_nodes(alloc: Global, text: &[u8]) -> Result<Vec<Node>, ReadError>
         place: Place {
             turns: 1,
             foreign: 0,
+            queues: &[],
         },
         nodes: Vec::new(alloc),
         needs: Vec::new(alloc),

@@ -22,7 +22,7 @@ impl<'a> Reader<'a> {
         requires { IsReady 2 self.now bytes.now }
         ensures { ReadsHead Form.Let self.now bytes.now result }
     {
-        let (x, rest) = binder(&self.names, bytes)?;
+        let (x, rest) = binder(&self.names, self.place, bytes)?;
         let slot = self.names.len() as u32;
         Ok((
             Head::Two(
@@ -45,7 +45,7 @@ impl<'a> Reader<'a> {
             (parts_at (group_at room) (shape Form.Handle (scope_of self.old)) bytes.now) result }
     {
         let (a, rest) = self.term(room, bytes)?;
-        let (x, rest) = binder(&self.names, rest)?;
+        let (x, rest) = binder(&self.names, self.place, rest)?;
         let slot = self.names.len() as u32;
         let (b, rest) = self.term_in(Inner::Name(NameKind::Value, x), room, rest)?;
         let rest = closing(rest)?;

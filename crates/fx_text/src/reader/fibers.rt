@@ -18,7 +18,7 @@ impl<'a> Reader<'a> {
         requires { IsReady 2 self.now bytes.now }
         ensures { ReadsHead Form.Start self.now bytes.now result }
     {
-        let (h, rest) = binder(&self.names, bytes)?;
+        let (h, rest) = binder(&self.names, self.place, bytes)?;
         let slot = self.names.len() as u32;
         let then = Inner::Name(NameKind::Fiber, h);
         Ok((Head::Two(Inner::Elsewhere, then, Double::Start(slot)), rest))
@@ -82,7 +82,7 @@ impl<'a> Reader<'a> {
             return Err(too_deep(bytes));
         }
         let rest = opening(bytes)?;
-        let (x, rest) = binder(&self.names, rest)?;
+        let (x, rest) = binder(&self.names, self.place, rest)?;
         let (root, rest) = self.term_in(Inner::Name(NameKind::Value, x), room - 1, rest)?;
         let rest = closing(rest)?;
         Ok((root, rest))

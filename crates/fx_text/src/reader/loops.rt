@@ -22,7 +22,7 @@ impl<'a> Reader<'a> {
         requires { IsReady 2 self.now bytes.now }
         ensures { ReadsHead Form.For self.now bytes.now result }
     {
-        let (i, rest) = binder(&self.names, bytes)?;
+        let (i, rest) = binder(&self.names, self.place, bytes)?;
         let slot = self.names.len() as u32;
         let (n, rest) = count(self.place, rest)?;
         Ok((Head::One(Inner::Loop(n, i), Single::For(slot, n)), rest))

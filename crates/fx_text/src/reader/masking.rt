@@ -15,7 +15,7 @@ impl<'a> Reader<'a> {
         requires { IsReady 2 self.now bytes.now }
         ensures { ReadsHead Form.Mask self.now bytes.now result }
     {
-        let (p, rest) = binder(&self.names, bytes)?;
+        let (p, rest) = binder(&self.names, self.place, bytes)?;
         let slot = self.names.len() as u32;
         Ok((
             Head::One(Inner::Name(NameKind::Poll, p), Single::Mask(slot)),

@@ -37,7 +37,7 @@ impl<'a> Reader<'a> {
         requires { IsReady 2 self.now bytes.now }
         ensures { ReadsHead Form.Bracket self.now bytes.now result }
     {
-        let (x, rest) = binder(&self.names, bytes)?;
+        let (x, rest) = binder(&self.names, self.place, bytes)?;
         Ok((Head::Bracket(x), rest))
     }
 
@@ -154,7 +154,7 @@ impl<'a> Reader<'a> {
             return Err(too_deep(bytes));
         }
         let rest = opening(bytes)?;
-        let (name, rest) = binder(&self.names, rest)?;
+        let (name, rest) = binder(&self.names, self.place, rest)?;
         let slot = self.names.len() as u32;
         let (acquire, rest) = self.term(room - 1, rest)?;
         let (release, rest) = self.term_in(Inner::Name(NameKind::Value, name), room - 1, rest)?;

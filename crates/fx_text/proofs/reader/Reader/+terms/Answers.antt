@@ -61,7 +61,7 @@ seq-returns t c =
 pub handle-returns : goal.handle-returns
 handle-returns t c = record {
   read = handle_means _ _ _ _ _ _ c.in_ok-x.x c.in_ok-a.a c.in_ok-b.b _ c.len-slot.result _ _ _ _ _ c.in_ok-a.ensures c.deref.ensures.value
-      (c.in_ok-x.ensures.read _) (omega (arith, c.len-slot.ensures, c.term.new.self.names.ok.0))
+      c.in_ok-x.ensures.read (omega (arith, c.len-slot.ensures, c.term.new.self.names.ok.0))
       c.in_ok-b.ensures c.in_ok-rest.ensures.read c.in_ok-add.ensures;
   went = node_went _ _ _ _ _ _ _ _ _ (through_more _ _ _ _ _ _ _ _ (through_later _ _ _ _ _ _ (through_one _ _ _ _ _ c.in_ok-a.ensures.went)
       (omega (arith, c.in_ok-x.ensures.shorter))) c.in_ok-b.ensures.went) c.in_ok-rest.ensures.shorter c.in_ok-add.ensures;
@@ -106,7 +106,7 @@ resource-returns-clause-read t c = resource_read _ _ _ _ (record {
   acquire = c.in_ok-acquire.acquire;
   release = c.in_ok-release.release;
 }) _ _ _ _ _ _ _ (omega (arith, c.if-room-eq0.false)) c.in_ok-rest.ensures.read c.deref.ensures.value
-    (c.in_ok-name.ensures.read _) (omega (arith, c.len-slot.ensures, c.args.self.now.names.ok.0))
+    c.in_ok-name.ensures.read (omega (arith, c.len-slot.ensures, c.args.self.now.names.ok.0))
     c.in_ok-acquire.ensures.read c.in_ok-acquire.ensures.went c.in_ok-release.ensures.read c.in_ok-release.ensures.went c.in_ok-rest-2.ensures.read
 
 pub resources-loop-resources-init : goal.resources-loop-resources-init
@@ -151,11 +151,13 @@ resources-returns t c =
     record { read = h.read; binds = h.binds; grows = h.grows }
 
 pub using-returns-in_err-used : goal.using-returns-in_err-used
-using-returns-in_err-used t c = let h = unused _ _ _ _ _ _ c.in_ok-resources.ensures.binds c.in_ok-resources.ensures.read c.requires.outside _ c.in_err-used.ensures in
+using-returns-in_err-used t c =
+    let h = unused _ _ _ _ _ _ c.in_ok-resources.ensures.binds c.in_ok-resources.ensures.read c.requires.outside _ c.in_err-used.ensures in
     search rules
 
 pub using-returns-in_err-rest : goal.using-returns-in_err-rest
-using-returns-in_err-rest t c = let h = using_unclosed _ _ _ _ _ _ c.in_ok-resources.ensures.binds c.in_ok-resources.ensures.read c.requires.outside _ _ c.in_ok-used.ensures.read
+using-returns-in_err-rest t c =
+    let h = using_unclosed _ _ _ _ _ _ c.in_ok-resources.ensures.binds c.in_ok-resources.ensures.read c.requires.outside _ _ c.in_ok-used.ensures.read
     _ c.in_err-rest.ensures.read in search rules
 
 pub using-nested-requires-clause-below : goal.using-nested-requires-clause-below
@@ -176,8 +178,8 @@ using-returns t c =
 
 pub join-returns : goal.join-returns
 join-returns t c = record {
-  read = join_means _ c.args.self.now _ _ _ _ c.args.fiber c.in_ok-succeeded.succeeded c.in_ok-errored.errored c.in_ok-canceled.canceled _ c.len-slot.result _ _ _ _ _
-      (omega (arith, c.len-slot.ensures, c.args.self.now.names.ok.0)) c.in_ok-succeeded.ensures c.in_ok-errored.ensures c.in_ok-canceled.ensures
+  read = join_means _ c.args.self.now _ _ _ _ c.args.fiber c.in_ok-succeeded.succeeded c.in_ok-errored.errored c.in_ok-canceled.canceled _
+      c.len-slot.result _ _ _ _ _ (omega (arith, c.len-slot.ensures, c.args.self.now.names.ok.0)) c.in_ok-succeeded.ensures c.in_ok-errored.ensures c.in_ok-canceled.ensures
       c.in_ok-rest.ensures.read c.in_ok-add.ensures;
   went = node_went _ _ _ _ _ _ _ _ _ (through_more _ _ _ _ _ _ _ _ (through_more _ _ _ _ _ _ _ _ (through_one _ _ _ _ _
       c.in_ok-succeeded.ensures.went) c.in_ok-errored.ensures.went) c.in_ok-canceled.ensures.went) c.in_ok-rest.ensures.shorter c.in_ok-add.ensures;

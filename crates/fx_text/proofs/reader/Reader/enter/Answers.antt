@@ -1,4 +1,4 @@
-use Rattle.std.proofs.Common.{◌≡◌, ℕ, ◌+◌, List, [], ◌∷◌, ◌++◌, length, take, refl, sym, ◌∙◌, ap, subst, arith, append_assoc}
+use Rattle.std.proofs.Common.{◌≡◌, List, [], ◌∷◌, ◌++◌, length, take, refl, sym, ◌∙◌, ap, subst, arith, append_assoc}
 use Rattle.std.proofs.lemmas.List.{take_all, length-append}
 use Rattle.std.proofs.Math.Seq.{take-append_seam}
 use Rattle.fx_term.specs.declared.name_kind.NameKind.TheVariants as kind
@@ -6,7 +6,6 @@ use Rattle.fx_text.specs.declared.reader.head.Inner.{Inner}
 use Rattle.fx_text.specs.declared.scope.Bound.{Bound as CodeBound}
 use Rattle.fx_text.specs.Head.{Enters}
 use Rattle.fx_text.specs.Scope.{Scope, under, elsewhere}
-use Rattle.fx_text.specs.ScopeView.{scope}
 use Rattle.fx_text.proofs.ScopeLaws.{scope_outside, scope_nameless}
 use Rattle.fx_text.proofs.reader.Reader.enter.Goals as goal
 
@@ -32,10 +31,11 @@ returns-in_ok-push-in-RaceLeft c =
     let b = c.nameless.result in
     let pushed = c.in_ok-push-in-RaceLeft.ensures.items in
     let all : c.len-self-in-RaceLeft.result ≡ length new.items = omega (arith, c.len-self-in-RaceLeft.ensures, new.ok.0) in
-    subst (λ (i : Inner). Enters i old (record old { names = new; place = record old.place { foreign = c.len-self-in-RaceLeft.result } })) (sym c.in-RaceLeft.is)
-    (record {
+    subst (λ (i : Inner). Enters i old (record old { names = new; place = record old.place { foreign = c.len-self-in-RaceLeft.result } }))
+    (sym c.in-RaceLeft.is) (record {
       scope = scope_outside new.items old.place _ all
-          ∙ ap elsewhere (scope_nameless old.names.items new.items b kind.Poll old.place c.requires.outside pushed c.nameless.ensures.name c.nameless.ensures.kind);
+          ∙ ap elsewhere (scope_nameless old.names.items new.items b kind.Poll old.place c.requires.outside pushed
+          c.nameless.ensures.name c.nameless.ensures.kind);
       names = ap (take (length old.names.items)) pushed ∙ take-append_seam old.names.items (b ∷ []);
       longer = omega (arith, ap length pushed, length-append old.names.items (b ∷ []));
       nodes = refl;
@@ -58,11 +58,11 @@ returns-in_ok-push-in-RaceRight-2 c =
     ∙ append_assoc old.names.items (poll ∷ []) (fiber ∷ []) in
     let all : c.len-self-in-RaceRight.result ≡ length new.items = omega (arith, c.len-self-in-RaceRight.ensures, new.ok.0) in
     let le = c.requires.outside in
-    subst (λ (i : Inner). Enters i old (record old { names = new; place = record old.place { foreign = c.len-self-in-RaceRight.result } })) (sym c.in-RaceRight.is)
-    (record {
+    subst (λ (i : Inner). Enters i old (record old { names = new; place = record old.place { foreign = c.len-self-in-RaceRight.result } }))
+    (sym c.in-RaceRight.is) (record {
       scope = scope_outside new.items old.place _ all
-          ∙ ap elsewhere (scope_nameless one.items new.items fiber kind.Fiber old.place (omega (arith, ap length first, length-append old.names.items (poll ∷ [])))
-          second c.nameless-in-RaceRight-2.ensures.name c.nameless-in-RaceRight-2.ensures.kind
+          ∙ ap elsewhere (scope_nameless one.items new.items fiber kind.Fiber old.place
+          (omega (arith, ap length first, length-append old.names.items (poll ∷ []))) second c.nameless-in-RaceRight-2.ensures.name c.nameless-in-RaceRight-2.ensures.kind
           ∙ ap (λ (p : Scope). under kind.Fiber [] p) (scope_nameless old.names.items one.items poll kind.Poll old.place le first
           c.nameless-in-RaceRight.ensures.name c.nameless-in-RaceRight.ensures.kind));
       names = ap (take (length old.names.items)) pushed ∙ take-append_seam old.names.items (poll ∷ fiber ∷ []);
