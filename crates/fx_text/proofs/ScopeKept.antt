@@ -4,6 +4,7 @@ use Rattle.std.proofs.Common.{
   ℕ,
   zero,
   suc,
+  ◌+◌,
   ◌<◌,
   ◌≤◌,
   nat_le,
@@ -38,16 +39,22 @@ use Rattle.std.proofs.lemmas.List.{length-append, length-map, map-append}
 use Rattle.std.proofs.lemmas.List.Quantifiers.{position-Some}
 use Rattle.std.proofs.lemmas.Option.{slice_get_past}
 use Rattle.fx_term.specs.declared.node.Arg.{Arg}
-use Rattle.fx_term.specs.Term.{Term, Pure, Let, Handle, For, Mask, Bracket}
+use Rattle.fx_term.specs.declared.node.Arg.TheVariants as arg
+use Rattle.fx_term.specs.Term.{Term, Pure, Raise, Let, Handle, If, For, Mask, Poll, OnCancel, Bracket, Start, Join, Cancel, First}
 use Rattle.fx_term.specs.Turns.{most_turns, turns_of_loop, HasFewTurns}
 use Rattle.fx_term.specs.declared.name_kind.NameKind.{NameKind}
 use Rattle.fx_term.specs.declared.name_kind.NameKind.TheVariants as kind
-use Rattle.fx_term.specs.Scope.{with_name, IsScoped, IsNew, HasLevels, IsInScope}
+use Rattle.fx_term.specs.Scope.{kind_elsewhere, with_name, IsScoped, IsNew, HasLevels, IsInScope}
+use Rattle.fx_term.specs.Scope.{elsewhere as elsewhere_of}
+use Rattle.fx_term.specs.Walk.{kinds_inside}
+use Rattle.fx_term.proofs.SeenLaws.{length_inside, scope_of_inside}
 use Rattle.fx_text.specs.declared.form.Form.{Form}
 use Rattle.fx_text.specs.declared.form.Form.TheVariants as form
 use Rattle.fx_text.specs.Token.{Token, Open, Close, Number, Name, Stray, Misnumber, End}
-use Rattle.fx_text.specs.Scope.{Scope, Bound, top, under, repeated, slot, same_kind, slot_of}
-use Rattle.fx_text.specs.Group.{Group, OfTerm, OfResource, OfResources, Resource, Content, under_all, scope_after}
+use Rattle.fx_text.specs.Scope.{Scope, Bound, top, under, bound_elsewhere, elsewhere, left_of_race, right_of_race, repeated, slot, same_kind, slot_of}
+use Rattle.fx_text.specs.Group.{Group, OfTerm, OfResource, OfResources, OfOutcome, Resource, Content, under_all, scope_after}
+use Rattle.fx_text.specs.declared.reader.races.RaceSlots.{RaceSlots}
+use Rattle.fx_text.specs.Race.{race_slots, cancel_both, outcome_of, decided, deciding, race}
 use Rattle.fx_text.specs.Shape.{Shape, ends, word, value, count, name, binder, group, groups, seq, using, shape, content}
 use Rattle.fx_text.specs.Part.{slot_arg, value_of, count_of, name_of}
 use Rattle.fx_text.specs.Reading.{Meaning}
@@ -77,6 +84,7 @@ EachFits Fit after p (x ∷ xs) = Fit p x × EachFits Fit after (after x p) xs
 abbrev pub Fits : (g : Group) → Scope → Content g → Type 0
 Fits OfTerm = StandsAt
 Fits OfResource = ResourceFits
+Fits OfOutcome = λ p. StandsAt (under kind.Value [] p)
 Fits OfResources = EachFits ResourceFits (λ r p. under kind.Value r.name p)
 
 -- where the parts fit their scopes, what the shape comes to has the property
@@ -285,6 +293,223 @@ using_stands p [] t all used = used
 using_stands p (r ∷ rs) t all used = bracket_stands p r.name r.acquire all.0.acquire r.slot (using rs t) r.release all.0.slot_is
     (using_stands (under kind.Value r.name p) rs t all.1 used) all.0.release
 
+-- the name does not matter
+named_so : (p : Scope) (x : List ℕ) (t : Term) → StandsAt (under kind.Value x p) t → StandsAt (under kind.Value [] p) t
+named_so p x t h = record {
+  scope = subst (λ (kinds : List NameKind). IsInScope kinds t) (kinds_under_is kind.Value x p ∙ sym (kinds_under_is kind.Value [] p)) h.scope;
+  turns = h.turns;
+}
+
+-- inside another fiber
+kinds_elsewhere : (p : Scope) → kinds_at (elsewhere p) ≡ kinds_inside true (kinds_at p)
+kinds_elsewhere p = map_map p.names
+  where
+    map_map : (names : List Bound) → map (λ b. b.kind) (map bound_elsewhere names) ≡ map kind_elsewhere (map (λ b. b.kind) names)
+    map_map [] = refl
+    map_map (b ∷ names) = ap (λ (ks : List NameKind). kind_elsewhere b.kind ∷ ks) (map_map names)
+
+module _ (p : Scope) (a : Term) (first : StandsAt (elsewhere p) a) where
+  there : IsInScope (kinds_inside true (kinds_at p)) a
+  there = subst (λ (kinds : List NameKind). IsInScope kinds a) (kinds_elsewhere p) first.scope
+
+  levels_elsewhere : HasLevels (length (kinds_at p)) a
+  levels_elsewhere = subst (λ (n : ℕ). HasLevels n a) (length_inside true (kinds_at p)) there.levels
+
+  scoped_elsewhere : IsScoped (elsewhere_of (λ x. slice_get (kinds_at p) x)) a
+  scoped_elsewhere = subst (λ (s : ℕ → Option NameKind). IsScoped s a) (scope_of_inside true (kinds_at p)) there.scoped
+
+start_stands : (p : Scope) (h : List ℕ) (a : Term) → StandsAt (elsewhere p) a → (b : Term) → StandsAt (under kind.Fiber h p) b
+    → StandsAt p (Start (slot p) a b)
+start_stands p h a first b second =
+    let at = slot_is p in
+    let inner = inner_scope kind.Fiber h p b second.scope in
+    record {
+      scope = record {
+        levels = (levels_elsewhere p a first, at, levels_under (kinds_at p) kind.Fiber (slot p) b at inner);
+        scoped = (
+          scoped_elsewhere p a first,
+          new_under (kinds_at p) kind.Fiber (slot p) b at inner,
+          scoped_under (kinds_at p) kind.Fiber (slot p) b at inner,
+        );
+      };
+      turns = (first.turns, second.turns);
+    }
+
+join_stands : (p : Scope) (f : ℕ) → f < length (kinds_at p) → slice_get (kinds_at p) f ≡ Some kind.Fiber
+    → (a : Term) → StandsAt (under kind.Value [] p) a → (b : Term) → StandsAt (under kind.Value [] p) b → (c : Term) → StandsAt p c
+    → StandsAt p (Join (arg.Slot f) (slot p) a (slot p) b c)
+join_stands p f lt of_fiber a first b second c third =
+    let at = slot_is p in
+    let left = inner_scope kind.Value [] p a first.scope in
+    let right = inner_scope kind.Value [] p b second.scope in
+    record {
+      scope = record {
+        levels = (
+          lt,
+          at,
+          levels_under (kinds_at p) kind.Value (slot p) a at left,
+          at,
+          levels_under (kinds_at p) kind.Value (slot p) b at right,
+          third.scope.levels,
+        );
+        scoped = (
+          of_fiber,
+          new_under (kinds_at p) kind.Value (slot p) a at left,
+          scoped_under (kinds_at p) kind.Value (slot p) a at left,
+          new_under (kinds_at p) kind.Value (slot p) b at right,
+          scoped_under (kinds_at p) kind.Value (slot p) b at right,
+          third.scope.scoped,
+        );
+      };
+      turns = (first.turns, second.turns, third.turns);
+    }
+
+-- ---- a race
+
+-- a name of that kind has this slot
+record Has (p : Scope) (i : ℕ) (k : NameKind) : Type 0 where
+  within : i < length (kinds_at p)
+  there : slice_get (kinds_at p) i ≡ Some k
+
+same_slot : (n : ℕ) → (n == n) ≡ true
+same_slot n = grind (arith, nat_tests)
+
+other_slot : (m n : ℕ) → m < n → (m == n) ≡ false
+other_slot m n lt = grind (arith, nat_tests)
+
+module _ (k : NameKind) (x : List ℕ) (p : Scope) where
+  longer_under : length (kinds_at (under k x p)) ≡ length (kinds_at p) + 1
+  longer_under = ap length (kinds_under_is k x p) ∙ length-append (kinds_at p) (k ∷ [])
+
+  slot_under : slot (under k x p) ≡ slot p + 1
+  slot_under = length-append p.names _
+
+  -- the name that is bound last
+  has_last : Has (under k x p) (slot p) k
+  has_last = record {
+    within = omega (arith, longer_under, slot_is p);
+    there =
+        let test : (slot p == length (kinds_at p)) ≡ true = ap (λ (n : ℕ). slot p == n) (sym (slot_is p)) ∙ same_slot (slot p) in
+        ap (λ (l : List NameKind). slice_get l (slot p)) (kinds_under_is k x p) ∙ get_push (kinds_at p) k (slot p) ∙ rw test refl;
+  }
+
+  -- and those before
+  has_before : (i : ℕ) (j : NameKind) → Has p i j → Has (under k x p) i j
+  has_before i j h = record {
+    within = let lt = h.within in omega (arith, longer_under);
+    there =
+        let test = other_slot i (length (kinds_at p)) h.within in
+        ap (λ (l : List NameKind). slice_get l i) (kinds_under_is k x p) ∙ get_push (kinds_at p) k i ∙ rw test h.there;
+  }
+
+value_stands : (p : Scope) (i : ℕ) → Has p i kind.Value → StandsAt p (Pure (arg.Slot i))
+value_stands p i h = record { scope = record { levels = h.within; scoped = h.there }; turns = tt }
+
+error_stands : (p : Scope) (i : ℕ) → Has p i kind.Value → StandsAt p (Raise (arg.Slot i))
+error_stands p i h = record { scope = record { levels = h.within; scoped = h.there }; turns = tt }
+
+cancel_stands : (p : Scope) (i : ℕ) → Has p i kind.Fiber → StandsAt p (Cancel (arg.Slot i))
+cancel_stands p i h = record { scope = record { levels = h.within; scoped = h.there }; turns = tt }
+
+poll_stands : (p : Scope) (i : ℕ) (a : Term) → Has p i kind.Poll → StandsAt p a → StandsAt p (Poll (arg.Slot i) a)
+poll_stands p i a h inside = record {
+  scope = record { levels = (h.within, inside.scope.levels); scoped = (h.there, inside.scope.scoped) };
+  turns = inside.turns;
+}
+
+on_cancel_stands : (p : Scope) (a f : Term) → StandsAt p a → StandsAt p f → StandsAt p (OnCancel a f)
+on_cancel_stands p a f first second = record {
+  scope = record { levels = (first.scope.levels, second.scope.levels); scoped = (first.scope.scoped, second.scope.scoped) };
+  turns = (first.turns, second.turns);
+}
+
+-- the names of a race are in scope
+record HasRace (p : Scope) (s : RaceSlots) : Type 0 where
+  mask : Has p s.mask kind.Poll
+  left : Has p s.left kind.Fiber
+  right : Has p s.right kind.Fiber
+
+race_under : (p : Scope) (s : RaceSlots) → HasRace p s → HasRace (under kind.Value [] p) s
+race_under p s h = record {
+  mask = has_before kind.Value [] p s.mask kind.Poll h.mask;
+  left = has_before kind.Value [] p s.left kind.Fiber h.left;
+  right = has_before kind.Value [] p s.right kind.Fiber h.right;
+}
+
+module _ (p : Scope) (s : RaceSlots) (h : HasRace p s) where
+  both_stand : StandsAt p (cancel_both s)
+  both_stand = then_stands p (Cancel (arg.Slot s.left)) (Cancel (arg.Slot s.right)) (cancel_stands p s.left h.left) (cancel_stands p s.right h.right)
+
+  module _ (number : s.number ≡ slot p) where
+    given : Has (under kind.Value [] p) s.number kind.Value
+    given = subst (λ (n : ℕ). Has (under kind.Value [] p) n kind.Value) (sym number) (has_last kind.Value [] p)
+
+    joined : (f : ℕ) → Has p f kind.Fiber → (a b c : Term) → StandsAt (under kind.Value [] p) a → StandsAt (under kind.Value [] p) b → StandsAt p c
+        → StandsAt p (Join (arg.Slot f) s.number a s.number b c)
+    joined f of_fiber a b c first second third = subst (λ (n : ℕ). StandsAt p (Join (arg.Slot f) n a n b c)) (sym number)
+        (join_stands p f of_fiber.within of_fiber.there a first b second c third)
+
+    outcome_stands : (f : ℕ) → Has p f kind.Fiber → StandsAt p (outcome_of s f)
+    outcome_stands f of_fiber =
+        let q = under kind.Value [] p in
+        joined f of_fiber _ _ _ (value_stands q s.number given) (error_stands q s.number given)
+        (record { scope = record { levels = (tt, tt, tt); scoped = (tt, tt, tt) }; turns = (tt, tt) })
+
+    decided_stands : (f g : ℕ) → Has p f kind.Fiber → Has p g kind.Fiber → StandsAt p (decided s f g)
+    decided_stands f g of_first of_other =
+        let q = under kind.Value [] p in
+        let canceled = cancel_stands q g (has_before kind.Value [] p g kind.Fiber of_other) in
+        joined f of_first _ _ _ (then_stands q _ _ canceled (value_stands q s.number given)) (then_stands q _ _ canceled (error_stands q s.number given))
+        (on_cancel_stands p _ _ (poll_stands p s.mask _ h.mask (outcome_stands g of_other)) both_stand)
+
+deciding_stands : (p : Scope) (s : RaceSlots) → HasRace p s → s.ended ≡ slot p → s.number ≡ slot p + 1 → StandsAt p (deciding s)
+deciding_stands p s h ended number =
+    let q = under kind.Value [] p in
+    let later = race_under p s h in
+    let at : s.number ≡ slot q = number ∙ sym (slot_under kind.Value [] p) in
+    let of_ended : Has q s.ended kind.Value = subst (λ (n : ℕ). Has q n kind.Value) (sym ended) (has_last kind.Value [] p) in
+    let waits : StandsAt p (First (arg.Slot s.left) (arg.Slot s.right)) = record {
+      scope = record { levels = (h.left.within, h.right.within); scoped = (h.left.there, h.right.there) };
+      turns = tt;
+    } in
+    let waited = on_cancel_stands p _ _ (poll_stands p s.mask _ h.mask waits) (both_stand p s h) in
+    let right = decided_stands q s later at s.right s.left later.right later.left in
+    let left = decided_stands q s later at s.left s.right later.left later.right in
+    let chosen : StandsAt q (If (arg.Slot s.ended) (decided s s.right s.left) (decided s s.left s.right)) = record {
+      scope = record {
+        levels = (of_ended.within, right.scope.levels, left.scope.levels);
+        scoped = (of_ended.there, right.scope.scoped, left.scope.scoped);
+      };
+      turns = (right.turns, left.turns);
+    } in
+    subst (λ (n : ℕ). StandsAt p (Let (Some n) (OnCancel (Poll (arg.Slot s.mask) (First (arg.Slot s.left) (arg.Slot s.right))) (cancel_both s))
+    (If (arg.Slot s.ended) (decided s s.right s.left) (decided s s.left s.right)))) (sym ended) (let_stands p [] _ waited _ chosen)
+
+race_stands : (p : Scope) (a b : Term) → StandsAt (left_of_race p) a → StandsAt (right_of_race p) b → StandsAt p (race (race_slots (slot p)) a b)
+race_stands p a b first second =
+    let s = race_slots (slot p) in
+    let in_mask = under kind.Poll [] p in
+    let in_left = under kind.Fiber [] in_mask in
+    let in_right = under kind.Fiber [] in_left in
+    let at_left : s.left ≡ slot in_mask = sym (slot_under kind.Poll [] p) in
+    let at_right : s.right ≡ slot in_left = omega (arith, slot_under kind.Poll [] p, slot_under kind.Fiber [] in_mask) in
+    let at_end : s.ended ≡ slot in_right =
+    omega (arith, slot_under kind.Poll [] p, slot_under kind.Fiber [] in_mask, slot_under kind.Fiber [] in_left) in
+    let at_number : s.number ≡ slot in_right + 1 = omega (arith, at_end) in
+    let has : HasRace in_right s = record {
+      mask = has_before kind.Fiber [] in_left (slot p) kind.Poll (has_before kind.Fiber [] in_mask (slot p) kind.Poll (has_last kind.Poll [] p));
+      left = has_before kind.Fiber [] in_left s.left kind.Fiber
+          (subst (λ (n : ℕ). Has in_left n kind.Fiber) (sym at_left) (has_last kind.Fiber [] in_mask));
+      right = subst (λ (n : ℕ). Has in_right n kind.Fiber) (sym at_right) (has_last kind.Fiber [] in_left);
+    } in
+    let rest = deciding_stands in_right s has at_end at_number in
+    let inner : StandsAt in_left (Start s.right b (deciding s)) = subst (λ (n : ℕ). StandsAt in_left (Start n b (deciding s))) (sym at_right)
+    (start_stands in_left [] b second (deciding s) rest) in
+    let outer : StandsAt in_mask (Start s.left a (Start s.right b (deciding s))) =
+    subst (λ (n : ℕ). StandsAt in_mask (Start n a (Start s.right b (deciding s)))) (sym at_left)
+    (start_stands in_mask [] a first (Start s.right b (deciding s)) inner) in
+    mask_stands p [] (Start s.left a (Start s.right b (deciding s))) outer
+
 -- ---- the rows of the table
 
 shape_fits : (f : Form) (p : Scope) → KeepsFit (StandsAt p) (shape f p)
@@ -317,10 +542,16 @@ shape_fits form.Forcer p = λ a first b second. record {
   turns = ((first.turns, tt), second.turns);
 }
 shape_fits form.Using p = λ rs all t used. using_stands p rs t all used
+shape_fits form.Start p = λ h a first b second. start_stands p h a first b second
+shape_fits form.Join p = λ f lt of_fiber a first b second c third. join_stands p f lt of_fiber a first b second c third
+shape_fits form.Cancel p = λ f lt of_fiber. record { scope = record { levels = lt; scoped = of_fiber }; turns = tt }
+shape_fits form.Race p = λ a first b second. race_stands p a b first second
+shape_fits form.First p = λ f lt of_fiber g lt' of_fiber'. record { scope = record { levels = (lt, lt'); scoped = (of_fiber, of_fiber') }; turns = tt }
 
 content_fits : (g : Group) (p : Scope) → KeepsFit (Fits g p) (content g p)
 content_fits OfTerm p = λ f. shape_fits f p
 content_fits OfResource p = λ x a first r second. record { slot_is = refl; acquire = first; release = second }
+content_fits OfOutcome p = λ x a inside. named_so p x a inside
 content_fits OfResources p = λ r one rs others. (one, others)
 
 -- ---- all groups
@@ -333,7 +564,7 @@ spelled_fits g P room (count p go) _ x (count_so {k = k} {ks = ks} n e d) h = sp
 spelled_fits g P room (name c p go) _ x (name_so {k = k} {ks = ks} i e d) h = let found = name_found c p k i e in
     spelled_fits g P room (go i) ks x d (h i found.0 found.1)
 spelled_fits g P room (binder p go) _ x (binder_so {ks = ks} b e d) h = spelled_fits g P room (go b) ks x d (h b)
-spelled_fits g P room (group k p go) _ x (group_so left a inner ks has_room d1 d2 whole) h =
+spelled_fits g P room (group k p go) _ x (group_so left a inner ks has_room d1 few d2 whole) h =
     spelled_fits g P room (go a) ks x d2 (h a (spelled_fits k (Fits k p) left (content k p) inner a d1 (content_fits k p)))
 spelled_fits g P room (groups k p go) _ x (groups_end {ks = ks} d) h = spelled_fits g P room (go []) (Close ∷ ks) x d (h [] tt)
 spelled_fits g P room (groups k p go) ks x (groups_more d) h =

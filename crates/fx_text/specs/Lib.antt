@@ -3,6 +3,7 @@ pub mod Fault
 pub mod Token
 pub mod Scope
 pub mod Group
+pub mod Race
 pub mod Shape
 pub mod Part
 pub mod Meaning
@@ -14,6 +15,7 @@ pub mod TokenView
 pub mod ScopeView
 pub mod Given
 pub mod Trees
+pub mod Needs
 pub mod ReaderState
 pub mod Head
 pub mod Made

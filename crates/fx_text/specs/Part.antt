@@ -49,7 +49,7 @@ name_of k p _ = None
 
 -- a name that is not in scope
 abbrev pub new_name : Scope → Token → Option (List ℕ)
-new_name p (Name x) = if is_taken x p.names then None else Some x
+new_name p (Name x) = if is_taken x p then None else Some x
 new_name p _ = None
 
 -- the form whose word it is
