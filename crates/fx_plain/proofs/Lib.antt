@@ -34,3 +34,5 @@ pub mod Written
 pub mod QueueNames
 pub mod WorldClasses
 pub mod WaitSteps
+pub mod Taken
+pub mod Answered

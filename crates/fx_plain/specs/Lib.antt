@@ -10,3 +10,8 @@ pub mod PlainCalls
 pub mod World
 pub mod WorldClasses
 pub mod Replay
+pub mod Refusal
+pub mod Answer
+pub mod PlainFault
+pub mod Input
+pub mod TextReplay
