@@ -17,7 +17,7 @@ use crate::code::tree::check_tree;
 use crate::code::walk::check_names;
 use crate::node::{Node, NodeId};
 pub use brand::CodeBrand;
-pub use needs::MOST_NEED;
+pub use needs::{MOST_NEED, need_of_node};
 use std::alloc::{AllocError, AllocFailed, Global};
 use std::marker::Model;
 use thiserror::Error;

@@ -3,7 +3,6 @@ use Rattle.std.proofs.Common.{◌≡◌, ℕ, ◌+◌, ◌-◌, ◌<◌, ◌≤�
 use Rattle.std.proofs.lemmas.List.{append-nil, length-append, length-map, map-append}
 use Rattle.std.proofs.Math.Seq.{take-append_seam}
 use Rattle.fx_term.specs.declared.node.Node.{Node}
-use Rattle.fx_term.specs.Tree.{ChildrenComeFirst}
 use Rattle.fx_term.specs.Term.{Term}
 use Rattle.fx_term.specs.Meaning.{term_of}
 use Rattle.fx_text.specs.Limits.{term_spares, form_spares}
@@ -13,19 +12,22 @@ use Rattle.fx_text.specs.declared.form.Form.TheVariants as form
 use Rattle.fx_term.specs.declared.name_kind.NameKind.TheVariants as kind
 use Rattle.fx_text.specs.declared.reader.Reader.{Reader}
 use Rattle.fx_text.specs.declared.reader.resources.Resource.{Resource as CodeResource}
+use Rattle.fx_text.specs.declared.place.Place.{Place}
 use Rattle.fx_text.specs.declared.scope.Bound.{Bound as CodeBound}
 use Rattle.fx_text.specs.Token.{next}
 use Rattle.fx_text.specs.Part.{is_closing}
-use Rattle.fx_text.specs.Scope.{Scope, Bound, slot, under}
+use Rattle.fx_text.specs.Scope.{Scope, slot, under}
 use Rattle.fx_text.specs.Group.{OfResource, OfResources, Resource, under_all}
 use Rattle.fx_text.specs.Shape.{Shape, ends, group, groups, using, shape, content}
-use Rattle.fx_text.specs.ScopeView.{view_bound, scope}
+use Rattle.fx_text.specs.ScopeView.{scope}
 use Rattle.fx_text.specs.Reading.{◌>>=◌, Read, binder_at, opening_at, closing_at, group_at, term_at, parts_at}
 use Rattle.fx_text.specs.Given.{Fails}
+use Rattle.fx_text.specs.Needs.{AreMade}
 use Rattle.fx_text.specs.Trees.{AllBelow, GrowsBy}
 use Rattle.fx_text.specs.ReaderState.{scope_of, IsReady, Went, WentThrough}
 use Rattle.fx_text.specs.ResourceState.{resource_of, resources_of, roots_of, bounds_of, Binds, Nests}
-use Rattle.fx_text.proofs.GroupLaws.{group_is}
+use Rattle.fx_text.proofs.GroupLaws.{group_untested}
+use Rattle.fx_text.proofs.ScopeLaws.{slot_at, scope_push}
 use Rattle.fx_text.proofs.GroupsLaws.{parts_ended, parts_go_on}
 use Rattle.fx_text.proofs.ReaderLaws.{grows_none, grows_append, last_root}
 use Rattle.fx_text.proofs.ReadLaws.{same_scope}
@@ -33,18 +35,18 @@ use Rattle.fx_text.proofs.ResourceLaws.{resources_push, resources_kept, roots_pu
 
 -- ---- the scope after resources
 
-under_push : (names : List CodeBound) (turns : ℕ) (r : CodeResource)
-    → scope (names ++ bounds_of (r ∷ [])) turns ≡ under kind.Value r.name.now (scope names turns)
-under_push names turns r = ap (λ (l : List Bound). record { names = l; turns = turns }) (map-append view_bound names (bounds_of (r ∷ [])))
+under_push : (names : List CodeBound) (place : Place) (r : CodeResource) → place.foreign ≤ length names
+    → scope (names ++ bounds_of (r ∷ [])) place ≡ under kind.Value r.name.now (scope names place)
+under_push names place r le = scope_push names (record { name = r.name; kind = kind.Value }) place le
 
 -- in the scope of the names of resources
-pub scope_after_all : (nodes : List Node) (rs : List CodeResource) (names : List CodeBound) (turns : ℕ)
-    → scope (names ++ bounds_of rs) turns ≡ under_all (resources_of nodes rs) (scope names turns)
-scope_after_all nodes [] names turns = ap (λ (l : List CodeBound). scope l turns) (append-nil names)
-scope_after_all nodes (r ∷ rs) names turns =
-    ap (λ (l : List CodeBound). scope l turns) (sym (append_assoc names (bounds_of (r ∷ [])) (bounds_of rs)))
-    ∙ scope_after_all nodes rs (names ++ bounds_of (r ∷ [])) turns
-    ∙ ap (λ (p : Scope). under_all (resources_of nodes rs) p) (under_push names turns r)
+pub scope_after_all : (nodes : List Node) (rs : List CodeResource) (names : List CodeBound) (place : Place) → place.foreign ≤ length names
+    → scope (names ++ bounds_of rs) place ≡ under_all (resources_of nodes rs) (scope names place)
+scope_after_all nodes [] names place le = ap (λ (l : List CodeBound). scope l place) (append-nil names)
+scope_after_all nodes (r ∷ rs) names place le =
+    ap (λ (l : List CodeBound). scope l place) (sym (append_assoc names (bounds_of (r ∷ [])) (bounds_of rs)))
+    ∙ scope_after_all nodes rs (names ++ bounds_of (r ∷ [])) place (omega (arith, le, length-append names (bounds_of (r ∷ []))))
+    ∙ ap (λ (p : Scope). under_all (resources_of nodes rs) p) (under_push names place r le)
 
 -- what comes after can be read
 pub binds_ready : (old new : Reader) (rs : List CodeResource) (bytes rest : List ℕ) → IsReady 0 old bytes → Binds old new rs bytes rest → IsReady 0 new rest
@@ -52,11 +54,12 @@ binds_ready old new rs bytes rest ready b =
     let more : length new.names.items ≡ length old.names.items + length rs = ap length b.names ∙ length-append old.names.items (bounds_of rs)
     ∙ ap (λ (n : ℕ). length old.names.items + n) (length-map rs _) in
     record {
-      tree = b.tree;
+      made = b.made;
       names_fit = omega (arith, ready.names_fit, b.shorter);
       nodes_fit = omega (arith, ready.nodes_fit, b.paid);
-      some_turns = omega (arith, ready.some_turns, b.turns);
-      few_turns = omega (arith, ready.few_turns, b.turns);
+      outside = omega (arith, ready.outside, more, ap (λ (at : Place). at.foreign) b.place);
+      some_turns = omega (arith, ready.some_turns, ap (λ (at : Place). at.turns) b.place);
+      few_turns = omega (arith, ready.few_turns, ap (λ (at : Place). at.turns) b.place);
     }
 
 -- ---- one by one
@@ -94,13 +97,13 @@ pub record BindsSoFar (room : ℕ) (to_come : List Resource → Scope → Shape 
   pub read : parts_at (group_at room) (content OfResources (scope_of old)) bytes
       ≡ parts_at (group_at room) (to_come (resources_of new.nodes.items rs) (scope_of new)) rest
 
-pub binds_none : (room : ℕ) (old : Reader) (rs : List CodeResource) (bytes : List ℕ) → rs ≡ [] → ChildrenComeFirst old.nodes.items
+pub binds_none : (room : ℕ) (old : Reader) (rs : List CodeResource) (bytes : List ℕ) → rs ≡ [] → AreMade old.nodes.items old.needs.items
     → BindsSoFar room more_after old old rs bytes bytes
-binds_none room old rs bytes none tree = subst (λ (l : List CodeResource). BindsSoFar room more_after old old l bytes bytes) (sym none) (record {
+binds_none room old rs bytes none made = subst (λ (l : List CodeResource). BindsSoFar room more_after old old l bytes bytes) (sym none) (record {
   binds = record {
     names = sym (append-nil old.names.items);
-    turns = refl;
-    tree = tree;
+    place = refl;
+    made = made;
     keeps = record { longer = omega arith; same = λ id h. refl };
     below = tt;
     paid = omega arith;
@@ -121,16 +124,19 @@ pub binds_one : (room : ℕ) (old middle one new : Reader) (rs all : List CodeRe
     → group_at room OfResource (scope_of middle) rest ≡ Ok (resource_of one.nodes.items r, after)
     → WentThrough middle one (r.acquire ∷ r.release ∷ []) rest after
     → GrowsBy middle.nodes.items one.nodes.items (r.acquire.0 ∷ r.release.0 ∷ []) → length after < length rest
-    → new.names.items ≡ one.names.items ++ record { name = r.name; kind = kind.Value } ∷ [] → new.turns ≡ one.turns → new.nodes.items ≡ one.nodes.items
-    → all ≡ rs ++ r ∷ []
+    → new.names.items ≡ one.names.items ++ record { name = r.name; kind = kind.Value } ∷ [] → new.place ≡ one.place → new.nodes.items ≡ one.nodes.items
+    → new.needs.items ≡ one.needs.items
+    → all ≡ rs ++ r ∷ [] → old.place.foreign ≤ length old.names.items
     → BindsSoFar room others_after old new all bytes after
-binds_one room old middle one new rs all r bytes rest after h e w g lt names turns nodes pushed =
+binds_one room old middle one new rs all r bytes rest after h e w g lt names place nodes needs pushed outside =
+    let le : middle.place.foreign ≤ length middle.names.items =
+    omega (arith, outside, ap (λ (at : Place). at.foreign) h.binds.place, ap length h.binds.names, length-append old.names.items (bounds_of rs)) in
     let bound = bounds_of (r ∷ []) in
     let named : new.names.items ≡ middle.names.items ++ bound = names ∙ ap (λ (l : List CodeBound). l ++ bound) w.names in
     let stands : scope_of new ≡ under kind.Value r.name.now (scope_of middle) =
-    ap (λ (l : List CodeBound). scope l new.turns) named
-    ∙ ap (λ (n : ℕ). scope (middle.names.items ++ bound) n) (turns ∙ w.turns)
-    ∙ under_push middle.names.items middle.turns r in
+    ap (λ (l : List CodeBound). scope l new.place) named
+    ∙ ap (λ (at : Place). scope (middle.names.items ++ bound) at) (place ∙ w.place)
+    ∙ under_push middle.names.items middle.place r le in
     let kept = resources_kept middle.nodes.items one.nodes.items rs w.keeps h.binds.below in
     let done : resources_of middle.nodes.items rs ++ resource_of one.nodes.items r ∷ [] ≡ resources_of new.nodes.items (rs ++ r ∷ []) =
     ap (λ (l : List Resource). l ++ resource_of one.nodes.items r ∷ []) (sym kept) ∙ sym (resources_push one.nodes.items rs r)
@@ -139,8 +145,8 @@ binds_one room old middle one new rs all r bytes rest after h e w g lt names tur
       binds = record {
         names = named ∙ ap (λ (l : List CodeBound). l ++ bound) h.binds.names ∙ append_assoc old.names.items (bounds_of rs) bound
             ∙ ap (λ (l : List CodeBound). old.names.items ++ l) (sym (map-append _ rs (r ∷ [])));
-        turns = turns ∙ w.turns ∙ h.binds.turns;
-        tree = rw nodes w.tree;
+        place = place ∙ w.place ∙ h.binds.place;
+        made = rw (nodes, needs) w.made;
         keeps = record {
           longer = rw nodes (let l = w.keeps.longer in let k = h.binds.keeps.longer in omega arith);
           same = λ id lt. rw nodes (w.keeps.same id (let k = h.binds.keeps.longer in omega arith) ∙ h.binds.keeps.same id lt);
@@ -173,20 +179,20 @@ binds_fails room old new rs bytes rest (errors.Fault x) h f = h.read ∙ rw f re
 -- a resource is a name, what acquires it, and what releases it in the scope of the name
 pub resource_read : (room : ℕ) (old one two : Reader) (r : CodeResource) (names : List CodeBound) (bytes inside named after before_end end : List ℕ) → 0 < room
     → opening_at bytes ≡ Ok (tt, inside)
-    → names ≡ old.names.items → binder_at (scope names old.turns) inside ≡ Ok (r.name.now, named) → r.slot ≡ length old.names.items
+    → names ≡ old.names.items → binder_at (scope names old.place) inside ≡ Ok (r.name.now, named) → r.slot ≡ length old.names.items
     → term_at (room - 1) (scope_of old) named ≡ Ok (term_of one.nodes.items r.acquire.0, after) → Went term_spares old one r.acquire.0 named after
     → term_at (room - 1) (under kind.Value r.name.now (scope_of one)) after ≡ Ok (term_of two.nodes.items r.release.0, before_end)
     → Went term_spares one two r.release.0 after before_end
     → closing_at before_end ≡ Ok (tt, end) → group_at room OfResource (scope_of old) bytes ≡ Ok (resource_of two.nodes.items r, end)
 resource_read room old one two r names bytes inside named after before_end end some opened same bound numbered first w second v closed =
     let bound' : binder_at (scope_of old) inside ≡ Ok (r.name.now, named) =
-    subst (λ (l : List CodeBound). binder_at (scope l old.turns) inside ≡ Ok (r.name.now, named)) same bound in
+    subst (λ (l : List CodeBound). binder_at (scope l old.place) inside ≡ Ok (r.name.now, named)) same bound in
     let second' : term_at (room - 1) (under kind.Value r.name.now (scope_of old)) after ≡ Ok (term_of two.nodes.items r.release.0, before_end) =
     subst (λ (p : Scope). term_at (room - 1) (under kind.Value r.name.now p) after ≡ Ok (term_of two.nodes.items r.release.0, before_end))
-    (same_scope old one w.names w.turns) second in
+    (same_scope old one w.names w.place) second in
     let kept : term_of two.nodes.items r.acquire.0 ≡ term_of one.nodes.items r.acquire.0 = v.keeps.same r.acquire.0 (omega (arith, w.last)) in
-    let numbered' : slot (scope_of old) ≡ r.slot = length-map old.names.items view_bound ∙ sym numbered in
-    group_is room OfResource (scope_of old) bytes some ∙ rw (opened, bound', first, second', closed, numbered', kept) refl
+    let numbered' : slot (scope_of old) ≡ r.slot = slot_at old.names.items old.place ∙ sym numbered in
+    group_untested room OfResource (scope_of old) bytes some (λ r. refl) ∙ rw (opened, bound', first, second', closed, numbered', kept) refl
 
 -- ---- the list
 
@@ -195,8 +201,8 @@ pub binds_wider : (old new : Reader) (rs : List CodeResource) (bytes inside rest
     → length after ≤ length rest → Binds old new rs bytes after
 binds_wider old new rs bytes inside rest after b longer shorter = record {
   names = b.names;
-  turns = b.turns;
-  tree = b.tree;
+  place = b.place;
+  made = b.made;
   keeps = b.keeps;
   below = b.below;
   paid = omega (arith, b.paid);
@@ -205,7 +211,7 @@ binds_wider old new rs bytes inside rest after b longer shorter = record {
 
 module _ (room : ℕ) (p : Scope) (bytes inside : List ℕ) (some : 0 < room) (opened : opening_at bytes ≡ Ok (tt, inside)) where
   list_is : group_at room OfResources p bytes ≡ parts_at (group_at (room - 1)) (content OfResources p) inside
-  list_is = group_is room OfResources p bytes some ∙ rw opened refl
+  list_is = group_untested room OfResources p bytes some (λ rs. refl) ∙ rw opened refl
 
   pub list_fails : (e : ReadError) → Fails e (parts_at (group_at (room - 1)) (content OfResources p) inside) → Fails e (group_at room OfResources p bytes)
   list_fails e f = subst (λ (r : Read (List Resource)). Fails e r) (sym list_is) f
@@ -236,7 +242,8 @@ module _ (room : ℕ) (old new : Reader) (rs : List CodeResource) (bytes inside 
 -- ---- the whole form
 
 module _ (room : ℕ) (old middle : Reader) (rs : List CodeResource) (bytes rest : List ℕ) (b : Binds old middle rs bytes rest)
-    (read : group_at room OfResources (scope_of old) bytes ≡ Ok (resources_of middle.nodes.items rs, rest)) where
+    (read : group_at room OfResources (scope_of old) bytes ≡ Ok (resources_of middle.nodes.items rs, rest))
+    (outside : old.place.foreign ≤ length old.names.items) where
   -- what uses the resources is read where all their names are in scope
   using_is : parts_at (group_at room) (shape form.Using (scope_of old)) bytes
       ≡ (term_at room (scope_of middle) rest >>= λ t. closing_at t.1 >>= λ c. Ok (using (resources_of middle.nodes.items rs) t.0, c.1))
@@ -244,8 +251,8 @@ module _ (room : ℕ) (old middle : Reader) (rs : List CodeResource) (bytes rest
       (sym stands))
     where
       stands : scope_of middle ≡ under_all (resources_of middle.nodes.items rs) (scope_of old)
-      stands = ap (λ (l : List CodeBound). scope l middle.turns) b.names ∙ ap (λ (n : ℕ). scope (old.names.items ++ bounds_of rs) n) b.turns
-          ∙ scope_after_all middle.nodes.items rs old.names.items old.turns
+      stands = ap (λ (l : List CodeBound). scope l middle.place) b.names ∙ ap (λ (at : Place). scope (old.names.items ++ bounds_of rs) at) b.place
+          ∙ scope_after_all middle.nodes.items rs old.names.items old.place outside
 
   pub unused : (e : ReadError) → Fails e (term_at room (scope_of middle) rest) → Fails e (parts_at (group_at room) (shape form.Using (scope_of old)) bytes)
   unused errors.Memory f = tt
@@ -263,7 +270,7 @@ module _ (room : ℕ) (old middle : Reader) (rs : List CodeResource) (bytes rest
 -- the names of the resources go out of scope after what uses them
 pub record Leaves (names : ℕ) (old new : Reader) : Type 0 where
   pub names_left : new.names.items ≡ take names old.names.items
-  pub turns : new.turns ≡ old.turns
+  pub place : new.place ≡ old.place
   pub nodes : new.nodes.items ≡ old.nodes.items
 
 module _ (old one two three new : Reader) (rs : List CodeResource) (used root outside : ℕ) (bytes rest after end : List ℕ) (b : Binds old one rs bytes rest)
@@ -275,8 +282,8 @@ module _ (old one two three new : Reader) (rs : List CodeResource) (used root ou
       record {
         names = n.names ∙ l.names_left ∙ ap (λ (x : List CodeBound). take outside x) (w.names ∙ b.names)
             ∙ ap (λ (k : ℕ). take k (old.names.items ++ bounds_of rs)) at ∙ take-append_seam old.names.items (bounds_of rs);
-        turns = n.turns ∙ l.turns ∙ w.turns ∙ b.turns;
-        tree = n.tree;
+        place = n.place ∙ l.place ∙ w.place ∙ b.place;
+        made = n.made;
         keeps = record {
           longer = let x = b.keeps.longer in let y = w.keeps.longer in omega arith;
           same = λ id h. let x = b.keeps.longer in let y = w.keeps.longer in n.keeps.same id (omega (arith, ap length l.nodes))
@@ -287,10 +294,10 @@ module _ (old one two three new : Reader) (rs : List CodeResource) (used root ou
         shorter = omega (arith, w.shorter, b.shorter);
       }
 
-  pub using_means : (room : ℕ) → group_at room OfResources (scope_of old) bytes ≡ Ok (resources_of one.nodes.items rs, rest)
+  pub using_means : (room : ℕ) → old.place.foreign ≤ length old.names.items → group_at room OfResources (scope_of old) bytes ≡ Ok (resources_of one.nodes.items rs, rest)
       → term_at room (scope_of one) rest ≡ Ok (term_of two.nodes.items used, after) → closing_at after ≡ Ok (tt, end)
       → parts_at (group_at room) (shape form.Using (scope_of old)) bytes ≡ Ok (term_of new.nodes.items root, end)
-  using_means room read term close = using_read room old one rs bytes rest b read (term_of two.nodes.items used) after term end close
+  using_means room outside read term close = using_read room old one rs bytes rest b read outside (term_of two.nodes.items used) after term end close
       ∙ ap (λ (t : Term). Ok (t, end)) (sym means)
     where
       means : term_of new.nodes.items root ≡ using (resources_of one.nodes.items rs) (term_of two.nodes.items used)

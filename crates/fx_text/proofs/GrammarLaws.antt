@@ -1,9 +1,9 @@
 -- Reading takes what the grammar has, and nothing else. Nothing here speaks of a form.
-use Rattle.std.proofs.Common.{◌≡◌, ℕ, zero, suc, cond, Bool, true, false, Ok, List, [], ◌∷◌, ◌++◌, length, refl, sym, ap, ◌∙◌, subst, append_assoc}
+use Rattle.std.proofs.Common.{◌≡◌, ℕ, zero, suc, cond, Bool, true, false, Ok, Err, List, [], ◌∷◌, ◌++◌, length, refl, sym, ap, ◌∙◌, subst, append_assoc}
 use Rattle.fx_text.specs.declared.fault.TextKind.TheVariants as kind
 use Rattle.fx_text.specs.Token.{Token, Open, Close, next}
 use Rattle.fx_text.specs.Scope.{Scope}
-use Rattle.fx_text.specs.Group.{Group, Content, scope_after}
+use Rattle.fx_text.specs.Group.{Group, Content, scope_after, needs_few}
 use Rattle.fx_text.specs.Shape.{Shape, ends, word, value, count, name, binder, group, groups, content}
 use Rattle.fx_text.specs.Part.{opens, closes, is_closing, value_of, count_of, name_of, new_name, form_of}
 use Rattle.fx_text.specs.Reading.{
@@ -22,6 +22,7 @@ use Rattle.fx_text.specs.Reading.{
   groups_within,
   groups_at,
   parts_at,
+  kept,
   group_at,
 }
 use Rattle.fx_text.specs.Grammar.{IsText, Spells, ends_so, word_so, value_so, count_so, name_so, binder_so, group_so, groups_end, groups_more}
@@ -40,6 +41,7 @@ pub record IsGroup (room : ℕ) (h : Group) (p : Scope) (text : List ℕ) (a : C
   pub inner : List Token
   pub has_room : room ≡ suc left
   pub spells : Spells h left (content h p) inner a
+  pub few : needs_few h a ≡ true
   pub text_is : IsText text (Open ∷ (inner ++ others))
 
 -- ---- what is read is in the grammar
@@ -60,7 +62,7 @@ some_token (value_so v h d) e = absurd cc
 some_token (count_so n h d) e = absurd cc
 some_token (name_so i h d) e = absurd cc
 some_token (binder_so b h d) e = absurd cc
-some_token (group_so left a inner ks has_room d1 d2 whole) e = absurd cc
+some_token (group_so left a inner ks has_room d1 few d2 whole) e = absurd cc
 some_token (groups_end d) e = absurd cc
 some_token (groups_more d) e = some_token d e
 
@@ -89,7 +91,7 @@ module _ (room : ℕ) (each : GroupReading)
       let f = is_group h p text a rest (r.tokens ++ others) e r.text_is in
       record {
         tokens = Open ∷ (f.inner ++ r.tokens);
-        spells = group_so f.left a f.inner r.tokens f.has_room f.spells r.spells refl;
+        spells = group_so f.left a f.inner r.tokens f.has_room f.spells f.few r.spells refl;
         text_is = subst (λ (l : List Token). IsText text (Open ∷ l)) (sym (append_assoc f.inner r.tokens others)) f.text_is;
       }
 
@@ -159,28 +161,41 @@ module _ (room : ℕ) (each : GroupReading)
       let b = bind_ok (groups_at each h p text) (λ c. parts_at each (go c.0) c.1) (x, rest) e in
       all_groups (length text) h p go text b.0.0 b.0.1 x others b.1 (parts_sound (go b.0.0) b.0.1 x rest others b.2 is)
 
+-- a group that was kept can use few fiber numbers
+kept_ok : (h : Group) (from : ℕ) (x y : Content h × List ℕ) → kept h from x ≡ Ok y → (needs_few h y.0 ≡ true) × (x ≡ y)
+kept_ok h from x y e = by_test (needs_few h x.0) refl e
+  where
+    by_test : (b : Bool) → needs_few h x.0 ≡ b → cond {A = Read (Content h)} b (Ok x) (Err (record { kind = kind.Need; left = from })) ≡ Ok y
+        → (needs_few h y.0 ≡ true) × (x ≡ y)
+    by_test true few e = let same : x ≡ y = cc in (subst (λ (z : Content h × List ℕ). needs_few h z.0 ≡ true) same few, same)
+    by_test false few e = absurd cc
+
 pub group_sound : (room : ℕ) (h : Group) (p : Scope) (text : List ℕ) (a : Content h) (rest : List ℕ) (others : List Token)
     → group_at room h p text ≡ Ok (a, rest) → IsText rest others → IsGroup room h p text a others
 unfolding group_at opening_at
 group_sound zero h p text a rest others e is = absurd cc
 group_sound (suc room) h p text a rest others e is =
-    let o = bind_ok (opening_at text) (λ o. parts_at (group_at room) (content h p) o.1) (a, rest) e in
+    let o = bind_ok (opening_at text) (λ o. parts_at (group_at room) (content h p) o.1 >>= kept h (next text).from) (a, rest) e in
+    let b = bind_ok (parts_at (group_at room) (content h p) o.0.1) (kept h (next text).from) (a, rest) o.2 in
+    let few = kept_ok h (next text).from b.0 (a, rest) b.2 in
     let q = part_ok opens (λ _. kind.Unwanted) text o.0.0 o.0.1 o.1 in
-    let r = parts_sound room (group_at room) (group_sound room) (content h p) o.0.1 a rest others o.2 is in
+    let read = b.1 ∙ ap Ok few.1 in
+    let r = parts_sound room (group_at room) (group_sound room) (content h p) o.0.1 a rest others read is in
     record {
       left = room;
       inner = r.tokens;
       has_room = refl;
       spells = r.spells;
+      few = few.0;
       text_is = (opens_is _ _ q.0, subst (λ (l : List ℕ). IsText l (r.tokens ++ others)) (sym q.1) r.text_is);
     }
 
 -- ---- what is in the grammar is read
 
 group_again : (room : ℕ) (h : Group) (p : Scope) (text : List ℕ) (a : Content h) (rest : List ℕ) → (next text).token ≡ Open
-    → parts_at (group_at room) (content h p) (next text).rest ≡ Ok (a, rest) → group_at (suc room) h p text ≡ Ok (a, rest)
+    → parts_at (group_at room) (content h p) (next text).rest ≡ Ok (a, rest) → needs_few h a ≡ true → group_at (suc room) h p text ≡ Ok (a, rest)
 unfolding group_at opening_at
-group_again room h p text a rest opened parts = rw (part_again opens (λ _. kind.Unwanted) text Open tt opened refl) parts
+group_again room h p text a rest opened parts few = rw (part_again opens (λ _. kind.Unwanted) text Open tt opened refl, parts, few) refl
 
 -- reading gives what the group is, and the other tokens are left
 pub record IsRead {g : Group} (room : ℕ) (s : Shape g) (text : List ℕ) (x : Content g) (others : List Token) : Type 0 where
@@ -191,7 +206,7 @@ pub record IsRead {g : Group} (room : ℕ) (s : Shape g) (text : List ℕ) (x : 
 -- a group begins with `(`
 group_opens : {g h : Group} {room : ℕ} {p : Scope} {go : Content h → Shape g} {ks : List Token} {x : Content g} → Spells g room (group h p go) ks x
     → (text : List ℕ) (others : List Token) → IsText text (ks ++ others) → (next text).token ≡ Open
-group_opens (group_so left a inner ks has_room d1 d2 whole) text others is = is.0
+group_opens (group_so left a inner ks has_room d1 few d2 whole) text others is = is.0
 
 pub parts_complete : (g : Group) (room : ℕ) (s : Shape g) (ks : List Token) (x : Content g) → Spells g room s ks x → (text : List ℕ) (others : List Token)
     → IsText text (ks ++ others) → IsRead room s text x others
@@ -216,12 +231,12 @@ parts_complete g room (name c p go) _ x (name_so {k = k} {ks = ks} i e d) text o
 parts_complete g room (binder p go) _ x (binder_so {k = k} {ks = ks} b e d) text others is =
     let r = parts_complete g room (go b) ks x d (next text).rest others is.1 in
     record { rest = r.rest; read = rw (part_again (new_name p) (at_name kind.Taken) text k b is.0 e) r.read; rest_is = r.rest_is }
-parts_complete g room (group h p go) _ x (group_so {all = all} left a inner ks has_room d1 d2 whole) text others is =
+parts_complete g room (group h p go) _ x (group_so {all = all} left a inner ks has_room d1 few d2 whole) text others is =
     let regroup : all ++ others ≡ inner ++ (ks ++ others) = ap (λ (l : List Token). l ++ others) whole ∙ append_assoc inner ks others in
     let after = (next text).rest in
     let one = parts_complete h left (content h p) inner a d1 after (ks ++ others) (subst (λ (l : List Token). IsText after l) regroup is.1) in
     let two = parts_complete g room (go a) ks x d2 one.rest others one.rest_is in
-    let read = subst (λ (r : ℕ). group_at r h p text ≡ Ok (a, one.rest)) (sym has_room) (group_again left h p text a one.rest is.0 one.read) in
+    let read = subst (λ (r : ℕ). group_at r h p text ≡ Ok (a, one.rest)) (sym has_room) (group_again left h p text a one.rest is.0 one.read few) in
     record { rest = two.rest; read = rw read two.read; rest_is = two.rest_is }
 parts_complete g room (groups h p go) _ x (groups_end {ks = ks} d) text others is =
     let r = parts_complete g room (go []) (Close ∷ ks) x d text others is in

@@ -1,24 +1,38 @@
 -- Reading a group, step by step.
-use Rattle.std.proofs.Common.{◌≡◌, ℕ, zero, suc, ◌-◌, ◌<◌, List, refl, subst, arith}
+use Rattle.std.proofs.Common.{◌≡◌, ℕ, zero, suc, ◌-◌, ◌<◌, true, Ok, Err, List, refl, ◌∙◌, subst, arith}
 use Rattle.fx_text.specs.declared.fault.ReadError.{ReadError}
 use Rattle.fx_text.specs.declared.fault.ReadError.TheVariants as errors
 use Rattle.fx_text.specs.Token.{next}
 use Rattle.fx_text.specs.Given.{Fails}
 use Rattle.fx_text.specs.Scope.{Scope}
-use Rattle.fx_text.specs.Group.{Group, OfTerm}
+use Rattle.fx_text.specs.Group.{Group, OfTerm, Content, needs_few}
 use Rattle.fx_text.specs.Shape.{shape, content}
-use Rattle.fx_text.specs.Reading.{◌>>=◌, kind_of, too_deep, opening_at, form_at, parts_at, group_at, term_at}
+use Rattle.fx_text.specs.Reading.{◌>>=◌, Read, kind_of, too_deep, opening_at, form_at, parts_at, kept, group_at, term_at}
 
 -- where a `(` may be open, a group is `(` and its parts
 pub group_is : (room : ℕ) (g : Group) (p : Scope) (bytes : List ℕ) → 0 < room
-    → group_at room g p bytes ≡ (opening_at bytes >>= λ o. parts_at (group_at (room - 1)) (content g p) o.1)
+    → group_at room g p bytes ≡ (opening_at bytes >>= λ o. parts_at (group_at (room - 1)) (content g p) o.1 >>= kept g (next bytes).from)
 unfolding group_at
 group_is zero g p bytes h = absurd (omega arith)
 group_is (suc k) g p bytes h = let e : suc k - 1 ≡ k = omega arith in rw e refl
 
+-- a group that is no form is its parts, since it is not tested itself
+pub group_untested : (room : ℕ) (g : Group) (p : Scope) (bytes : List ℕ) → 0 < room → ((x : Content g) → needs_few g x ≡ true)
+    → group_at room g p bytes ≡ (opening_at bytes >>= λ o. parts_at (group_at (room - 1)) (content g p) o.1)
+group_untested room g p bytes h few = group_is room g p bytes h ∙ by_opening (opening_at bytes)
+  where
+    all_kept : (r : Read (Content g)) → (r >>= kept g (next bytes).from) ≡ r
+    all_kept (Ok x) = let e = few x.0 in rw e refl
+    all_kept (Err f) = refl
+
+    by_opening : (o : Read (Unit {0})) → (o >>= λ o. parts_at (group_at (room - 1)) (content g p) o.1 >>= kept g (next bytes).from)
+        ≡ (o >>= λ o. parts_at (group_at (room - 1)) (content g p) o.1)
+    by_opening (Ok o) = all_kept (parts_at (group_at (room - 1)) (content g p) o.1)
+    by_opening (Err f) = refl
+
 -- and a term is `(`, the word of a form and its parts
 pub term_is : (room : ℕ) (p : Scope) (bytes : List ℕ) → 0 < room → term_at room p bytes
-    ≡ (opening_at bytes >>= λ o. form_at o.1 >>= λ f. parts_at (group_at (room - 1)) (shape f.0 p) f.1)
+    ≡ (opening_at bytes >>= λ o. (form_at o.1 >>= λ f. parts_at (group_at (room - 1)) (shape f.0 p) f.1) >>= kept OfTerm (next bytes).from)
 term_is room p bytes h = group_is room OfTerm p bytes h
 
 -- where no `(` may be open, there is no group

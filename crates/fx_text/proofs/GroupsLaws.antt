@@ -29,7 +29,7 @@ use Rattle.fx_text.specs.declared.fault.Fault.{Fault}
 use Rattle.fx_text.specs.declared.fault.TextKind.TheVariants as kind
 use Rattle.fx_text.specs.Token.{next}
 use Rattle.fx_text.specs.Scope.{Scope}
-use Rattle.fx_text.specs.Group.{Group, Content, scope_after}
+use Rattle.fx_text.specs.Group.{Group, Content, scope_after, needs_few}
 use Rattle.fx_text.specs.Shape.{Shape, ends, word, value, count, name, binder, group, groups, content}
 use Rattle.fx_text.specs.Part.{opens, closes, is_closing, value_of, count_of, name_of, new_name, form_of}
 use Rattle.fx_text.specs.Reading.{
@@ -49,6 +49,7 @@ use Rattle.fx_text.specs.Reading.{
   groups_within,
   groups_at,
   parts_at,
+  kept,
   group_at,
 }
 use Rattle.fx_text.proofs.PartLaws.{bind_ok, ok_pair, part_shorter}
@@ -106,16 +107,26 @@ module _ (each : GroupReading) (shorter : (h : Group) (p : Scope) (text : List �
       let b = bind_ok (groups_at each h p text) (λ c. parts_at each (go c.0) c.1) (x, rest) e in
       omega (arith, within_le (length text) h p text b.0.0 b.0.1 b.1, parts_shorter (go b.0.0) b.0.1 x rest b.2)
 
+-- a group that was kept is what was read
+pub kept_same : (h : Group) (from : ℕ) (x y : Content h × List ℕ) → kept h from x ≡ Ok y → x ≡ y
+kept_same h from x y e = by_test (needs_few h x.0) e
+  where
+    by_test : (b : Bool) → cond {A = Read (Content h)} b (Ok x) (Err (record { kind = kind.Need; left = from })) ≡ Ok y → x ≡ y
+    by_test true e = cc
+    by_test false e = absurd cc
+
 pub group_shorter : (room : ℕ) (h : Group) (p : Scope) (text : List ℕ) (a : Content h) (rest : List ℕ) → group_at room h p text ≡ Ok (a, rest)
     → length rest < length text
 unfolding group_at opening_at
 group_shorter zero h p text a rest e = absurd cc
 group_shorter (suc room) h p text a rest e =
-    let o = bind_ok (opening_at text) (λ o. parts_at (group_at room) (content h p) o.1) (a, rest) e in
+    let o = bind_ok (opening_at text) (λ o. parts_at (group_at room) (content h p) o.1 >>= kept h (next text).from) (a, rest) e in
+    let b = bind_ok (parts_at (group_at room) (content h p) o.0.1) (kept h (next text).from) (a, rest) o.2 in
+    let same = kept_same h (next text).from b.0 (a, rest) b.2 in
     omega (
       arith,
       part_shorter opens (λ _. kind.Unwanted) text o.0.0 o.0.1 refl o.1,
-      parts_shorter (group_at room) (group_shorter room) (content h p) o.0.1 a rest o.2,
+      parts_shorter (group_at room) (group_shorter room) (content h p) o.0.1 a rest (b.1 ∙ ap Ok same),
     )
 
 -- ---- one by one

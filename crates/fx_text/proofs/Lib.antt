@@ -19,7 +19,6 @@ pub mod GrammarLaws
 pub mod ScopeKept
 pub mod ScriptLaws
 pub mod ScriptNeeds
-pub mod ScriptTerms
 pub mod PicksLaws
 pub mod WordLaws
 pub mod ScheduleLaws

@@ -22,8 +22,8 @@ guarantee_made old one new zero a f root can first second =
     let f_is = second.keeps.same f.0 (let b = can.below.1.0 in omega (arith, first.one)) ∙ first.keeps.same f.0 can.below.1.0 in
     record {
       names = second.names ∙ first.names;
-      turns = second.turns ∙ first.turns;
-      tree = second.tree;
+      place = second.place ∙ first.place;
+      made = second.made;
       keeps = record {
         longer = omega (arith, first.one, second.one);
         same = λ id lt. second.keeps.same id (omega (arith, first.one))

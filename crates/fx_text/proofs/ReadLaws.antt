@@ -2,11 +2,12 @@
 use Rattle.std.proofs.Common.{◌≡◌, ℕ, ◌<◌, ◌≤◌, List, [], ◌∷◌, ◌++◌, length, sym, ◌∙◌, subst, arith}
 use Rattle.std.proofs.lemmas.List.{length-append}
 use Rattle.fx_term.specs.declared.node.NodeId.{NodeId}
+use Rattle.fx_term.specs.declared.node.Node.{Node}
 use Rattle.fx_term.specs.Term.{Term}
 use Rattle.fx_text.specs.Limits.{term_spares, form_spares}
 use Rattle.fx_text.specs.declared.reader.Reader.{Reader}
 use Rattle.fx_text.specs.Trees.{AllBelow, GrowsBy}
-use Rattle.fx_text.specs.ReaderState.{scope_of, ids, Went, WentThrough}
+use Rattle.fx_text.specs.ReaderState.{scope_of, ids, Went, WentThrough, Adds}
 use Rattle.fx_text.specs.Made.{Makes}
 use Rattle.fx_text.proofs.ReaderLaws.{grows_append}
 use Rattle.fx_text.proofs.SequenceLaws.{ids_push}
@@ -16,8 +17,8 @@ pub record ReadParts (old new : Reader) (roots : List NodeId) (bytes rest : List
   pub went : WentThrough old new roots bytes rest
   pub grows : GrowsBy old.nodes.items new.nodes.items (ids roots)
 
-pub same_scope : (old new : Reader) → new.names.items ≡ old.names.items → new.turns ≡ old.turns → scope_of new ≡ scope_of old
-same_scope old new names turns = cc
+pub same_scope : (old new : Reader) → new.names.items ≡ old.names.items → new.place ≡ old.place → scope_of new ≡ scope_of old
+same_scope old new names place = cc
 
 below_push : (bound more c : ℕ) (cs : List ℕ) → bound ≤ more → c < more → AllBelow bound cs → AllBelow more (cs ++ c ∷ [])
 below_push bound more c [] le lt h = (lt, tt)
@@ -27,8 +28,8 @@ pub through_one : (old new : Reader) (root : NodeId) (bytes rest : List ℕ) →
     → WentThrough old new (root ∷ []) bytes rest
 through_one old new root bytes rest w = record {
   names = w.names;
-  turns = w.turns;
-  tree = w.tree;
+  place = w.place;
+  made = w.made;
   keeps = w.keeps;
   below = (omega (arith, w.last), tt);
   paid = omega (arith, w.paid);
@@ -39,8 +40,8 @@ pub through_more : (old middle new : Reader) (roots : List NodeId) (root : NodeI
     → Went term_spares middle new root.0 rest after → WentThrough old new (roots ++ root ∷ []) bytes after
 through_more old middle new roots root bytes rest after t w = record {
   names = w.names ∙ t.names;
-  turns = w.turns ∙ t.turns;
-  tree = w.tree;
+  place = w.place ∙ t.place;
+  made = w.made;
   keeps = record {
     longer = let l = w.keeps.longer in let k = t.keeps.longer in omega arith;
     same = λ id lt. w.keeps.same id (let k = t.keeps.longer in omega arith) ∙ t.keeps.same id lt;
@@ -49,6 +50,35 @@ through_more old middle new roots root bytes rest after t w = record {
       (below_push (length middle.nodes.items) (length new.nodes.items) root.0 (ids roots) w.keeps.longer (omega (arith, w.last)) t.below);
   paid = omega (arith, w.paid, t.paid, length-append roots (root ∷ []));
   shorter = omega (arith, w.shorter, t.shorter);
+}
+
+-- of what comes after the parts a token was read
+pub through_later : (old new : Reader) (roots : List NodeId) (bytes rest after : List ℕ) → WentThrough old new roots bytes rest → length after ≤ length rest
+    → WentThrough old new roots bytes after
+through_later old new roots bytes rest after t le = record {
+  names = t.names;
+  place = t.place;
+  made = t.made;
+  keeps = t.keeps;
+  below = t.below;
+  paid = omega (arith, t.paid);
+  shorter = omega (arith, t.shorter);
+}
+
+-- the parts, the `)`, and then one node
+pub node_went : (old middle new : Reader) (roots : List NodeId) (n : Node) (root : ℕ) (bytes after rest : List ℕ) → WentThrough old middle roots bytes after
+    → length rest < length after → Adds middle new n root → Went form_spares old new root bytes rest
+node_went old middle new roots n root bytes after rest t lt a = record {
+  names = a.names ∙ t.names;
+  place = a.place ∙ t.place;
+  made = a.made;
+  keeps = record {
+    longer = let l = a.keeps.longer in let k = t.keeps.longer in omega arith;
+    same = λ id h. a.keeps.same id (let k = t.keeps.longer in omega arith) ∙ t.keeps.same id h;
+  };
+  last = a.last;
+  paid = omega (arith, t.paid, a.one);
+  shorter = omega (arith, t.shorter);
 }
 
 pub one_part : (old new : Reader) (root : NodeId) (bytes rest : List ℕ) → Went term_spares old new root.0 bytes rest
@@ -73,8 +103,8 @@ module _ (old middle new : Reader) (parts : List NodeId) (t : Term) (root : ℕ)
   pub made_went : Went form_spares old new root bytes rest
   made_went = record {
     names = m.names ∙ p.went.names;
-    turns = m.turns ∙ p.went.turns;
-    tree = m.tree;
+    place = m.place ∙ p.went.place;
+    made = m.made;
     keeps = record {
       longer = let l = m.keeps.longer in let k = p.went.keeps.longer in omega arith;
       same = λ id h. m.keeps.same id (let k = p.went.keeps.longer in omega arith) ∙ p.went.keeps.same id h;

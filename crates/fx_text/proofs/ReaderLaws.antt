@@ -1,14 +1,19 @@
 -- The nodes of the reader, as a node is added.
-use Rattle.std.proofs.Common.{◌≡◌, ℕ, zero, suc, ◌+◌, ◌<◌, List, [], ◌∷◌, ◌++◌, length, All, IsPermutation, refl, sym, ◌∙◌, ap, subst, arith, append_assoc}
-use Rattle.std.proofs.lemmas.List.{append-nil, length-append}
+use Rattle.std.proofs.Common.{◌≡◌, ℕ, zero, suc, ◌+◌, ◌<◌, List, [], ◌∷◌, ◌++◌, length, All, IsPermutation, refl, sym, ◌∙◌, ap, subst, arith, append_assoc, get_or}
+use Rattle.std.specs.Prelude.{slice_index}
+use Rattle.std.proofs.lemmas.List.{append-nil, length-append, get_or_push}
 use Rattle.fx_term.specs.declared.node.Node.{Node}
-use Rattle.fx_term.specs.Tree.{children, ChildrenComeFirst}
+use Rattle.fx_term.specs.Tree.{children}
+use Rattle.fx_term.specs.Need.{need}
+use Rattle.fx_term.specs.NodeNeed.{capped, need_of_node, AreNeeds}
+use Rattle.fx_term.proofs.NeedLaws.{needs_push}
 use Rattle.fx_term.proofs.NodeTerms.{length_push, term_before, children_first_push, term_push}
 use Rattle.fx_text.specs.declared.reader.Reader.{Reader}
+use Rattle.fx_text.specs.Needs.{AreMade}
 use Rattle.fx_text.specs.Trees.{Trees, empty, more, GrowsBy, AllBelow}
 use Rattle.fx_text.specs.ReaderState.{Adds}
 
-all_below : (n : ℕ) (cs : List ℕ) → AllBelow n cs → All (λ c. c < n) cs
+pub all_below : (n : ℕ) (cs : List ℕ) → AllBelow n cs → All (λ c. c < n) cs
 all_below n [] h k d lt = absurd (omega arith)
 all_below n (c ∷ cs) h zero d lt = h.0
 all_below n (c ∷ cs) h (suc k) d lt = all_below n cs h.1 k d (omega arith)
@@ -110,19 +115,40 @@ grows_node a b n root parts at order g = record {
       (ap (λ (i : ℕ). i ∷ []) (omega (arith, at, ap length g.is, length-append a g.added)));
 }
 
-pub adds : (old new : Reader) (n : Node) (root : ℕ) → new.nodes.items ≡ old.nodes.items ++ n ∷ [] → new.names.items ≡ old.names.items → new.turns ≡ old.turns
-    → root ≡ length old.nodes.items
-    → ChildrenComeFirst old.nodes.items → AllBelow (length old.nodes.items) (children n) → Adds old new n root
-adds old new n root e names turns at tree below =
+-- a node and its need more
+module _ (nodes : List Node) (n : Node) (needs more : List ℕ) (made : AreMade nodes needs) (below : All (λ c. c < length nodes) (children n))
+    (pushed : more ≡ needs ++ capped (need_of_node (λ id. slice_index needs id) n) ∷ []) where
+  node_made : AreMade (nodes ++ n ∷ []) more
+  node_made =
+      let tree = children_first_push nodes n made.tree below in
+      let long = length_push nodes n in
+      let within : length nodes < length (nodes ++ n ∷ []) = omega arith in
+      let before : AreNeeds (nodes ++ n ∷ []) (length nodes) needs = record {
+        each = made.each.each;
+        need = λ id lt. made.each.need id lt ∙ ap (λ t. capped (need t)) (sym (term_before nodes n made.tree id lt));
+      } in
+      let last : get_or (nodes ++ n ∷ []) (length nodes) n ≡ n = get_or_push nodes n n (length nodes) refl in
+      record {
+        tree = tree;
+        each = subst (λ count. AreNeeds (nodes ++ n ∷ []) count more) (sym long)
+            (needs_push (nodes ++ n ∷ []) tree (length nodes) n within needs before (capped (need_of_node (λ id. slice_index needs id) n))
+            (ap (λ m. capped (need_of_node (λ id. slice_index needs id) m)) (sym last)) more pushed);
+      }
+
+pub adds : (old new : Reader) (n : Node) (root : ℕ) → new.nodes.items ≡ old.nodes.items ++ n ∷ []
+    → new.needs.items ≡ old.needs.items ++ capped (need_of_node (λ id. slice_index old.needs.items id) n) ∷ []
+    → new.names.items ≡ old.names.items → new.place ≡ old.place → root ≡ length old.nodes.items
+    → AreMade old.nodes.items old.needs.items → AllBelow (length old.nodes.items) (children n) → Adds old new n root
+adds old new n root e pushed names place at made below =
     let first = all_below (length old.nodes.items) (children n) below in
     let long = length_push old.nodes.items n in
     record {
       names = names;
-      turns = turns;
-      tree = rw e (children_first_push old.nodes.items n tree first);
-      keeps = record { longer = rw e (omega arith); same = λ id h. rw e (term_before old.nodes.items n tree id h) };
+      place = place;
+      made = rw e (node_made old.nodes.items n old.needs.items new.needs.items made first pushed);
+      keeps = record { longer = rw e (omega arith); same = λ id h. rw e (term_before old.nodes.items n made.tree id h) };
       last = rw e (omega arith);
       one = rw e long;
-      term = rw (e, at) (term_push old.nodes.items n tree first);
+      term = rw (e, at) (term_push old.nodes.items n made.tree first);
       grows = λ start parts order g. rw e (grows_node start old.nodes.items n root parts at order g);
     }

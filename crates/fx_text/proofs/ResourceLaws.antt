@@ -7,11 +7,11 @@ use Rattle.fx_term.specs.declared.node.Node.{Node}
 use Rattle.fx_term.specs.declared.node.Node.TheVariants as node
 use Rattle.fx_term.specs.Term.{Term, Bracket}
 use Rattle.fx_term.specs.Meaning.{term_of}
-use Rattle.fx_term.specs.Tree.{ChildrenComeFirst}
 use Rattle.fx_text.specs.declared.reader.Reader.{Reader}
 use Rattle.fx_text.specs.declared.reader.resources.Resource.{Resource as CodeResource}
 use Rattle.fx_text.specs.Group.{Resource}
 use Rattle.fx_text.specs.Shape.{using}
+use Rattle.fx_text.specs.Needs.{AreMade}
 use Rattle.fx_text.specs.Trees.{AllBelow, GrowsBy, Keeps}
 use Rattle.fx_text.specs.ReaderState.{Adds}
 use Rattle.fx_text.specs.ResourceState.{resource_of, resources_of, roots_of, Nests}
@@ -57,8 +57,8 @@ roots_below bound all front r e h = split front (subst (λ (l : List CodeResourc
 -- the resources before the last ones are left, and the last ones are brackets, with this root
 pub record NestsLast (old new : Reader) (rs : List CodeResource) (used : ℕ) (left : List CodeResource) (root : ℕ) : Type 0 where
   pub names : new.names.items ≡ old.names.items
-  pub turns : new.turns ≡ old.turns
-  pub tree : ChildrenComeFirst new.nodes.items
+  pub place : new.place ≡ old.place
+  pub made : AreMade new.nodes.items new.needs.items
   pub keeps : Keeps old.nodes.items new.nodes.items
   pub more : length new.nodes.items + length left ≡ length old.nodes.items + length rs
   pub below : AllBelow (length old.nodes.items) (roots_of left)
@@ -67,12 +67,12 @@ pub record NestsLast (old new : Reader) (rs : List CodeResource) (used : ℕ) (l
   pub grows : (start : List Node) → GrowsBy start old.nodes.items (roots_of rs ++ used ∷ []) → GrowsBy start new.nodes.items (roots_of left ++ root ∷ [])
 
 -- at first what uses them stands alone
-pub nests_none : (old : Reader) (rs : List CodeResource) (used : ℕ) → ChildrenComeFirst old.nodes.items → AllBelow (length old.nodes.items) (roots_of rs)
+pub nests_none : (old : Reader) (rs : List CodeResource) (used : ℕ) → AreMade old.nodes.items old.needs.items → AllBelow (length old.nodes.items) (roots_of rs)
     → used < length old.nodes.items → NestsLast old old rs used rs used
-nests_none old rs used tree below lt = record {
+nests_none old rs used made below lt = record {
   names = refl;
-  turns = refl;
-  tree = tree;
+  place = refl;
+  made = made;
   keeps = record { longer = omega arith; same = λ id h. refl };
   more = refl;
   below = below;
@@ -107,8 +107,8 @@ module _ (old middle : Reader) (rs : List CodeResource) (used : ℕ) (left front
       (term_of old.nodes.items r.release.0) = added.term ∙ cc in
       record {
         names = added.names ∙ h.names;
-        turns = added.turns ∙ h.turns;
-        tree = added.tree;
+        place = added.place ∙ h.place;
+        made = added.made;
         keeps = record { longer = let l = added.keeps.longer in omega arith; same = λ id lt. added.keeps.same id (omega arith) ∙ h.keeps.same id lt };
         more = omega (arith, added.one, h.more, ap length e, length-append front (r ∷ []));
         below = split.0;
@@ -132,8 +132,8 @@ pub nests_all : (old new : Reader) (rs : List CodeResource) (used : ℕ) (left :
     → NestsLast old new rs used left root → Nests old new rs used root
 nests_all old new rs used [] root e h = record {
   names = h.names;
-  turns = h.turns;
-  tree = h.tree;
+  place = h.place;
+  made = h.made;
   keeps = h.keeps;
   more = omega (arith, h.more);
   term = h.term;

@@ -33,7 +33,7 @@ use Rattle.std.specs.List.{concat}
 use Rattle.std.proofs.lemmas.Bool.{lt-ltb, le-ltb}
 use Rattle.std.proofs.lemmas.List.{length-append, length-replicate}
 use Rattle.fx_term.specs.declared.node.Arg.TheVariants.{Number, Slot}
-use Rattle.fx_term.specs.Term.{Term, Pure, Raise, Canceled, Never, Cede, Let, Handle, If, For, Mask, Poll, OnCancel, Bracket}
+use Rattle.fx_term.specs.Term.{Term, Pure, Raise, Canceled, Never, Cede, Let, Handle, If, For, Mask, Poll, OnCancel, Bracket, Start, Join, Cancel, First}
 use Rattle.fx_text.specs.declared.fault.TextFault.{TextFault}
 use Rattle.fx_text.specs.declared.fault.TextKind.{TextKind}
 use Rattle.fx_text.specs.declared.fault.TextKind.TheVariants as kind
@@ -120,6 +120,34 @@ poll_among_values_row : reading (codes "(main (let x (pure 1) (mask p (let y (po
     ≡ means (Let (Some 0) (Pure (Number 1)) (Mask 1 (Let (Some 2) (Poll (Slot 1) (Pure (Slot 0))) (Pure (Slot 2)))))
 unfolding next opening_at closing_at value_at name_at binder_at form_at main_word_at group_at top_opening_at script_at
 poll_among_values_row = refl
+
+start_row : reading (codes "(main (start h (pure 1) (start k (cancel h) (first k h))))")
+    ≡ means (Start 0 (Pure (Number 1)) (Start 1 (Cancel (Slot 0)) (First (Slot 1) (Slot 0))))
+unfolding next opening_at closing_at value_at count_at name_at binder_at form_at main_word_at groups_within group_at top_opening_at script_at
+start_row = refl
+
+join_row : reading (codes "(main (start h (pure 1) (join h (x (pure x)) (y (raise y)) (never))))")
+    ≡ means (Start 0 (Pure (Number 1)) (Join (Slot 0) 1 (Pure (Slot 1)) 1 (Raise (Slot 1)) Never))
+unfolding next opening_at closing_at value_at count_at name_at binder_at form_at main_word_at groups_within group_at top_opening_at script_at
+join_row = refl
+
+-- the poll of another fiber is unknown, and its name stays taken
+foreign_poll_row : reading (codes "(main (mask p (start h (poll p (pure 1)) (pure 2))))") ≡ fault kind.Unknown 29
+unfolding next opening_at closing_at value_at count_at name_at binder_at form_at main_word_at groups_within group_at top_opening_at script_at
+foreign_poll_row = refl
+
+foreign_name_row : reading (codes "(main (mask p (start h (mask p (pure 1)) (pure 2))))") ≡ fault kind.Taken 29
+unfolding next opening_at closing_at value_at count_at name_at binder_at form_at main_word_at groups_within group_at top_opening_at script_at
+foreign_name_row = refl
+
+-- the first form to close that can start too many fibers, at its `(`
+many_fibers_row : reading (codes "(main (for i 2000 (start h (pure i) (pure 0))))") ≡ fault kind.Need 6
+unfolding next opening_at closing_at value_at count_at name_at binder_at form_at main_word_at groups_within group_at top_opening_at script_at
+many_fibers_row = refl
+
+many_fibers_inside_row : reading (codes "(main (seq (cede) (for i 1024 (start h (cede) (cede))) (foo)))") ≡ fault kind.Need 18
+unfolding next opening_at closing_at value_at count_at name_at binder_at form_at main_word_at groups_within group_at top_opening_at script_at
+many_fibers_inside_row = refl
 
 if_row : reading (codes "(main (let x (pure 1) (if x (never) (cede))))") ≡ means (Let (Some 0) (Pure (Number 1)) (If (Slot 0) Never Cede))
 unfolding next opening_at closing_at value_at count_at name_at binder_at form_at main_word_at groups_within group_at top_opening_at script_at

@@ -38,16 +38,20 @@ use Rattle.std.proofs.lemmas.List.{length-append, length-map, map-append}
 use Rattle.std.proofs.lemmas.List.Quantifiers.{position-Some}
 use Rattle.std.proofs.lemmas.Option.{slice_get_past}
 use Rattle.fx_term.specs.declared.node.Arg.{Arg}
-use Rattle.fx_term.specs.Term.{Term, Pure, Let, Handle, For, Mask, Bracket}
+use Rattle.fx_term.specs.declared.node.Arg.TheVariants as arg
+use Rattle.fx_term.specs.Term.{Term, Pure, Let, Handle, For, Mask, Bracket, Start, Join}
 use Rattle.fx_term.specs.Turns.{most_turns, turns_of_loop, HasFewTurns}
 use Rattle.fx_term.specs.declared.name_kind.NameKind.{NameKind}
 use Rattle.fx_term.specs.declared.name_kind.NameKind.TheVariants as kind
-use Rattle.fx_term.specs.Scope.{with_name, IsScoped, IsNew, HasLevels, IsInScope}
+use Rattle.fx_term.specs.Scope.{kind_elsewhere, with_name, IsScoped, IsNew, HasLevels, IsInScope}
+use Rattle.fx_term.specs.Scope.{elsewhere as elsewhere_of}
+use Rattle.fx_term.specs.Walk.{kinds_inside}
+use Rattle.fx_term.proofs.SeenLaws.{length_inside, scope_of_inside}
 use Rattle.fx_text.specs.declared.form.Form.{Form}
 use Rattle.fx_text.specs.declared.form.Form.TheVariants as form
 use Rattle.fx_text.specs.Token.{Token, Open, Close, Number, Name, Stray, Misnumber, End}
-use Rattle.fx_text.specs.Scope.{Scope, Bound, top, under, repeated, slot, same_kind, slot_of}
-use Rattle.fx_text.specs.Group.{Group, OfTerm, OfResource, OfResources, Resource, Content, under_all, scope_after}
+use Rattle.fx_text.specs.Scope.{Scope, Bound, top, under, bound_elsewhere, elsewhere, repeated, slot, same_kind, slot_of}
+use Rattle.fx_text.specs.Group.{Group, OfTerm, OfResource, OfResources, OfOutcome, Resource, Content, under_all, scope_after}
 use Rattle.fx_text.specs.Shape.{Shape, ends, word, value, count, name, binder, group, groups, seq, using, shape, content}
 use Rattle.fx_text.specs.Part.{slot_arg, value_of, count_of, name_of}
 use Rattle.fx_text.specs.Reading.{Meaning}
@@ -77,6 +81,7 @@ EachFits Fit after p (x ∷ xs) = Fit p x × EachFits Fit after (after x p) xs
 abbrev pub Fits : (g : Group) → Scope → Content g → Type 0
 Fits OfTerm = StandsAt
 Fits OfResource = ResourceFits
+Fits OfOutcome = λ p. StandsAt (under kind.Value [] p)
 Fits OfResources = EachFits ResourceFits (λ r p. under kind.Value r.name p)
 
 -- where the parts fit their scopes, what the shape comes to has the property
@@ -285,6 +290,77 @@ using_stands p [] t all used = used
 using_stands p (r ∷ rs) t all used = bracket_stands p r.name r.acquire all.0.acquire r.slot (using rs t) r.release all.0.slot_is
     (using_stands (under kind.Value r.name p) rs t all.1 used) all.0.release
 
+-- the name does not matter
+named_so : (p : Scope) (x : List ℕ) (t : Term) → StandsAt (under kind.Value x p) t → StandsAt (under kind.Value [] p) t
+named_so p x t h = record {
+  scope = subst (λ (kinds : List NameKind). IsInScope kinds t) (kinds_under_is kind.Value x p ∙ sym (kinds_under_is kind.Value [] p)) h.scope;
+  turns = h.turns;
+}
+
+-- inside another fiber
+kinds_elsewhere : (p : Scope) → kinds_at (elsewhere p) ≡ kinds_inside true (kinds_at p)
+kinds_elsewhere p = map_map p.names
+  where
+    map_map : (names : List Bound) → map (λ b. b.kind) (map bound_elsewhere names) ≡ map kind_elsewhere (map (λ b. b.kind) names)
+    map_map [] = refl
+    map_map (b ∷ names) = ap (λ (ks : List NameKind). kind_elsewhere b.kind ∷ ks) (map_map names)
+
+module _ (p : Scope) (a : Term) (first : StandsAt (elsewhere p) a) where
+  there : IsInScope (kinds_inside true (kinds_at p)) a
+  there = subst (λ (kinds : List NameKind). IsInScope kinds a) (kinds_elsewhere p) first.scope
+
+  levels_elsewhere : HasLevels (length (kinds_at p)) a
+  levels_elsewhere = subst (λ (n : ℕ). HasLevels n a) (length_inside true (kinds_at p)) there.levels
+
+  scoped_elsewhere : IsScoped (elsewhere_of (λ x. slice_get (kinds_at p) x)) a
+  scoped_elsewhere = subst (λ (s : ℕ → Option NameKind). IsScoped s a) (scope_of_inside true (kinds_at p)) there.scoped
+
+start_stands : (p : Scope) (h : List ℕ) (a : Term) → StandsAt (elsewhere p) a → (b : Term) → StandsAt (under kind.Fiber h p) b
+    → StandsAt p (Start (slot p) a b)
+start_stands p h a first b second =
+    let at = slot_is p in
+    let inner = inner_scope kind.Fiber h p b second.scope in
+    record {
+      scope = record {
+        levels = (levels_elsewhere p a first, at, levels_under (kinds_at p) kind.Fiber (slot p) b at inner);
+        scoped = (
+          scoped_elsewhere p a first,
+          new_under (kinds_at p) kind.Fiber (slot p) b at inner,
+          scoped_under (kinds_at p) kind.Fiber (slot p) b at inner,
+        );
+      };
+      turns = (first.turns, second.turns);
+    }
+
+join_stands : (p : Scope) (f : ℕ) → f < length (kinds_at p) → slice_get (kinds_at p) f ≡ Some kind.Fiber
+    → (a : Term) → StandsAt (under kind.Value [] p) a → (b : Term) → StandsAt (under kind.Value [] p) b → (c : Term) → StandsAt p c
+    → StandsAt p (Join (arg.Slot f) (slot p) a (slot p) b c)
+join_stands p f lt of_fiber a first b second c third =
+    let at = slot_is p in
+    let left = inner_scope kind.Value [] p a first.scope in
+    let right = inner_scope kind.Value [] p b second.scope in
+    record {
+      scope = record {
+        levels = (
+          lt,
+          at,
+          levels_under (kinds_at p) kind.Value (slot p) a at left,
+          at,
+          levels_under (kinds_at p) kind.Value (slot p) b at right,
+          third.scope.levels,
+        );
+        scoped = (
+          of_fiber,
+          new_under (kinds_at p) kind.Value (slot p) a at left,
+          scoped_under (kinds_at p) kind.Value (slot p) a at left,
+          new_under (kinds_at p) kind.Value (slot p) b at right,
+          scoped_under (kinds_at p) kind.Value (slot p) b at right,
+          third.scope.scoped,
+        );
+      };
+      turns = (first.turns, second.turns, third.turns);
+    }
+
 -- ---- the rows of the table
 
 shape_fits : (f : Form) (p : Scope) → KeepsFit (StandsAt p) (shape f p)
@@ -317,10 +393,15 @@ shape_fits form.Forcer p = λ a first b second. record {
   turns = ((first.turns, tt), second.turns);
 }
 shape_fits form.Using p = λ rs all t used. using_stands p rs t all used
+shape_fits form.Start p = λ h a first b second. start_stands p h a first b second
+shape_fits form.Join p = λ f lt of_fiber a first b second c third. join_stands p f lt of_fiber a first b second c third
+shape_fits form.Cancel p = λ f lt of_fiber. record { scope = record { levels = lt; scoped = of_fiber }; turns = tt }
+shape_fits form.First p = λ f lt of_fiber g lt' of_fiber'. record { scope = record { levels = (lt, lt'); scoped = (of_fiber, of_fiber') }; turns = tt }
 
 content_fits : (g : Group) (p : Scope) → KeepsFit (Fits g p) (content g p)
 content_fits OfTerm p = λ f. shape_fits f p
 content_fits OfResource p = λ x a first r second. record { slot_is = refl; acquire = first; release = second }
+content_fits OfOutcome p = λ x a inside. named_so p x a inside
 content_fits OfResources p = λ r one rs others. (one, others)
 
 -- ---- all groups
@@ -333,7 +414,7 @@ spelled_fits g P room (count p go) _ x (count_so {k = k} {ks = ks} n e d) h = sp
 spelled_fits g P room (name c p go) _ x (name_so {k = k} {ks = ks} i e d) h = let found = name_found c p k i e in
     spelled_fits g P room (go i) ks x d (h i found.0 found.1)
 spelled_fits g P room (binder p go) _ x (binder_so {ks = ks} b e d) h = spelled_fits g P room (go b) ks x d (h b)
-spelled_fits g P room (group k p go) _ x (group_so left a inner ks has_room d1 d2 whole) h =
+spelled_fits g P room (group k p go) _ x (group_so left a inner ks has_room d1 few d2 whole) h =
     spelled_fits g P room (go a) ks x d2 (h a (spelled_fits k (Fits k p) left (content k p) inner a d1 (content_fits k p)))
 spelled_fits g P room (groups k p go) _ x (groups_end {ks = ks} d) h = spelled_fits g P room (go []) (Close ∷ ks) x d (h [] tt)
 spelled_fits g P room (groups k p go) ks x (groups_more d) h =

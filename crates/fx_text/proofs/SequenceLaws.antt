@@ -7,9 +7,9 @@ use Rattle.fx_term.specs.declared.node.Node.{Node}
 use Rattle.fx_term.specs.declared.node.Node.TheVariants as node
 use Rattle.fx_term.specs.Term.{Term, Let}
 use Rattle.fx_term.specs.Meaning.{term_of}
-use Rattle.fx_term.specs.Tree.{ChildrenComeFirst}
 use Rattle.fx_text.specs.declared.reader.Reader.{Reader}
 use Rattle.fx_text.specs.Shape.{seq}
+use Rattle.fx_text.specs.Needs.{AreMade}
 use Rattle.fx_text.specs.Trees.{GrowsBy, Keeps, AllBelow}
 use Rattle.fx_text.specs.ReaderState.{ids, Adds}
 use Rattle.fx_text.proofs.ReaderLaws.{grows_append, grew_before_two}
@@ -34,8 +34,8 @@ terms_of nodes roots = map (λ part. term_of nodes part.0) roots
 -- the terms before the last ones are left, and the last ones are one, with this root
 pub record JoinsLast (old new : Reader) (first : NodeId) (others left : List NodeId) (root : NodeId) : Type 0 where
   pub names : new.names.items ≡ old.names.items
-  pub turns : new.turns ≡ old.turns
-  pub tree : ChildrenComeFirst new.nodes.items
+  pub place : new.place ≡ old.place
+  pub made : AreMade new.nodes.items new.needs.items
   pub keeps : Keeps old.nodes.items new.nodes.items
   pub more : length new.nodes.items + length left ≡ length old.nodes.items + length others
   pub below : AllBelow (length old.nodes.items) (ids left)
@@ -55,16 +55,16 @@ pub terms_push : (nodes : List Node) (roots : List NodeId) (root : NodeId)
 terms_push nodes roots root = map-append (λ (r : NodeId). term_of nodes r.0) roots (root ∷ [])
 
 -- at first the last one stands alone
-pub joins_none : (old : Reader) (first : NodeId) (others front : List NodeId) (last : NodeId) → others ≡ front ++ last ∷ [] → ChildrenComeFirst old.nodes.items
+pub joins_none : (old : Reader) (first : NodeId) (others front : List NodeId) (last : NodeId) → others ≡ front ++ last ∷ [] → AreMade old.nodes.items old.needs.items
     → AllBelow (length old.nodes.items) (ids (first ∷ others))
     → JoinsLast old old first others (first ∷ front) last
-joins_none old first others front last e tree below =
+joins_none old first others front last e made below =
     let split = below_front (length old.nodes.items) (ids front) (last.0 ∷ []) (subst (λ (l : List ℕ). AllBelow (length old.nodes.items) l) (ap ids e
     ∙ ids_push front last) below.1) in
     record {
       names = refl;
-      turns = refl;
-      tree = tree;
+      place = refl;
+      made = made;
       keeps = record { longer = omega arith; same = λ id h. refl };
       more = omega (arith, ap length e, length-append front (last ∷ []));
       below = (below.0, split.0);
@@ -94,8 +94,8 @@ joins_more old middle new first others left front part root whole e h added =
     let whole_is : term_of new.nodes.items whole.0 ≡ Let None (term_of old.nodes.items part.0) (term_of middle.nodes.items root.0) = added.term ∙ cc in
     record {
       names = added.names ∙ h.names;
-      turns = added.turns ∙ h.turns;
-      tree = added.tree;
+      place = added.place ∙ h.place;
+      made = added.made;
       keeps = record { longer = let l = added.keeps.longer in omega arith; same = λ id lt. added.keeps.same id (omega arith) ∙ h.keeps.same id lt };
       more = omega (arith, added.one, h.more, ap length e, length-append front (part ∷ []));
       below = split.0;

@@ -4,7 +4,6 @@ use Rattle.fx_term.specs.declared.node.NodeId.{NodeId}
 use Rattle.fx_term.specs.declared.node.Node.{Node}
 use Rattle.fx_term.specs.Term.{Term}
 use Rattle.fx_term.specs.Meaning.{term_of}
-use Rattle.fx_term.specs.Tree.{ChildrenComeFirst}
 use Rattle.fx_text.specs.Limits.{term_spares, form_spares}
 use Rattle.fx_text.specs.declared.fault.ReadError.{ReadError}
 use Rattle.fx_text.specs.declared.fault.ReadError.TheVariants as errors
@@ -15,6 +14,7 @@ use Rattle.fx_text.specs.Reading.{groups_at, group_at, term_at}
 use Rattle.fx_text.specs.Given.{Fails}
 use Rattle.fx_text.specs.Scope.{Scope}
 use Rattle.fx_text.specs.Group.{OfTerm}
+use Rattle.fx_text.specs.Needs.{AreMade}
 use Rattle.fx_text.specs.Trees.{GrowsBy, Keeps, AllBelow}
 use Rattle.fx_text.specs.ReaderState.{scope_of, ids, Went, WentThrough, Joins}
 use Rattle.fx_text.proofs.GroupsLaws.{IsReadSoFar, none_so_far, more_so_far, fault_so_far, all_so_far}
@@ -33,13 +33,13 @@ terms_kept : (old new : List Node) (roots : List NodeId) → Keeps old new → A
 terms_kept old new [] keeps below = refl
 terms_kept old new (root ∷ roots) keeps below = let h = keeps.same root.0 below.0 in let g = terms_kept old new roots keeps below.1 in cc
 
-pub went_none : (room : ℕ) (old : Reader) (roots : List NodeId) (bytes : List ℕ) → roots ≡ [] → ChildrenComeFirst old.nodes.items
+pub went_none : (room : ℕ) (old : Reader) (roots : List NodeId) (bytes : List ℕ) → roots ≡ [] → AreMade old.nodes.items old.needs.items
     → WentSoFar room old old roots bytes bytes
-went_none room old roots bytes none tree = subst (λ (l : List NodeId). WentSoFar room old old l bytes bytes) (sym none) (record {
+went_none room old roots bytes none made = subst (λ (l : List NodeId). WentSoFar room old old l bytes bytes) (sym none) (record {
   went = record {
     names = refl;
-    turns = refl;
-    tree = tree;
+    place = refl;
+    made = made;
     keeps = record { longer = omega arith; same = λ id h. refl };
     below = tt;
     paid = omega arith;
@@ -51,7 +51,7 @@ went_none room old roots bytes none tree = subst (λ (l : List NodeId). WentSoFa
 
 module _ (room : ℕ) (old middle : Reader) (roots : List NodeId) (bytes rest : List ℕ) (h : WentSoFar room old middle roots bytes rest) where
   here : scope_of middle ≡ scope_of old
-  here = same_scope old middle h.went.names h.went.turns
+  here = same_scope old middle h.went.names h.went.place
 
   pub went_more : (new : Reader) (root : NodeId) (all : List NodeId) (after : List ℕ) → all ≡ roots ++ root ∷ [] → is_closing (next rest).token ≡ false
       → term_at room (scope_of middle) rest ≡ Ok (term_of new.nodes.items root.0, after)
@@ -85,8 +85,8 @@ pub went_seq : (old one two new : Reader) (first : NodeId) (others : List NodeId
     → Joins two new first others root → GrowsBy old.nodes.items new.nodes.items (root ∷ []) → Went form_spares old new root bytes rest
 went_seq old one two new first others root bytes after before_end rest w v lt j g = record {
   names = j.names ∙ v.names ∙ w.names;
-  turns = j.turns ∙ v.turns ∙ w.turns;
-  tree = j.tree;
+  place = j.place ∙ v.place ∙ w.place;
+  made = j.made;
   keeps = record {
     longer = let l = w.keeps.longer in let k = v.keeps.longer in omega (arith, j.more);
     same = λ id h. j.keeps.same id (let l = w.keeps.longer in let k = v.keeps.longer in omega arith) ∙ v.keeps.same id (let l = w.keeps.longer in omega arith)

@@ -1,17 +1,21 @@
 -- The next token, and what is left after it.
-use Rattle.std.proofs.Common.{◌≡◌, ℕ, ◌+◌, ◌<◌, ◌≤◌, Bool, true, false, cond, ◌||◌, ◌==◌, List, [], ◌∷◌, length, refl, arith}
-use Rattle.std.specs.List.{prefix_len}
+use Rattle.std.proofs.Common.{◌≡◌, ℕ, ◌+◌, ◌<◌, ◌≤◌, Bool, true, false, cond, ◌&&◌, ◌||◌, ◌==◌, ◌^◌, nat_lt, List, [], ◌∷◌, length, refl, arith}
+use Rattle.std.specs.List.{list_all, prefix_len}
 use Rattle.std.proofs.lemmas.List.{length-drop}
 use Rattle.fx_text.specs.Token.{
+  Token,
   Open,
   Close,
+  Number,
   Name,
   Stray,
+  Misnumber,
   End,
   Lexeme,
   is_space,
   is_digit,
   is_letter_or_digit,
+  value_after,
   number,
   after_spaces,
   word,
@@ -76,3 +80,36 @@ next_shorter text some = by_front (after_spaces text) (after_spaces_le text) som
     by_front : (bytes : List ℕ) → length bytes ≤ length text → ((front bytes).token ≡ End → ⊥) → length (front bytes).rest < length text
     by_front [] h some = absurd (some refl)
     by_front (b ∷ bytes) h some = let g = front_le b bytes in omega arith
+
+-- a `(` is one byte
+pub open_from : (text : List ℕ) → (next text).token ≡ Open → length (next text).rest + 1 ≡ (next text).from
+unfolding next
+open_from text is = by_front (after_spaces text) is
+  where
+    by_front : (bytes : List ℕ) → (front bytes).token ≡ Open → length (front bytes).rest + 1 ≡ (front bytes).from
+    by_front [] is = absurd cc
+    by_front (b ∷ bytes) is = by_tests (b == 40) (b == 41) (is_digit b) (is_letter_or_digit b) is
+      where
+        lexeme : Bool → Bool → Bool → Bool → Lexeme
+        lexeme opening closing digit letter =
+            let from = length (b ∷ bytes) in
+            cond {A = Lexeme} opening (record { token = Open; from = from; rest = bytes })
+            (cond {A = Lexeme} closing (record { token = Close; from = from; rest = bytes })
+            (cond {A = Lexeme} digit (record { token = number (word (b ∷ bytes)); from = from; rest = after_word (b ∷ bytes) })
+            (cond {A = Lexeme} letter (record { token = Name (word (b ∷ bytes)); from = from; rest = after_word (b ∷ bytes) }) (record {
+              token = Stray;
+              from = from;
+              rest = bytes;
+            }))))
+
+        by_tests : (opening closing digit letter : Bool) → (lexeme opening closing digit letter).token ≡ Open
+            → length (lexeme opening closing digit letter).rest + 1 ≡ (lexeme opening closing digit letter).from
+        by_tests true c d l is = omega arith
+        by_tests false true d l is = absurd cc
+        by_tests false false true l is = absurd (no_number (list_all is_digit (word (b ∷ bytes)) && nat_lt (value_after 0 (word (b ∷ bytes))) (2 ^ 64)) is)
+          where
+            no_number : (n : Bool) → cond {A = Token} n (Number (value_after 0 (word (b ∷ bytes)))) Misnumber ≡ Open → ⊥
+            no_number true e = absurd cc
+            no_number false e = absurd cc
+        by_tests false false false true is = absurd cc
+        by_tests false false false false is = absurd cc

@@ -18,6 +18,7 @@ kind_number kind.Unknown = 7
 kind_number kind.Taken = 8
 kind_number kind.Size = 9
 kind_number kind.Depth = 11
+kind_number kind.Need = 12
 kind_number kind.Main = 13
 kind_number kind.Memory = 14
 

@@ -1,12 +1,12 @@
 -- The grammar of scripts: which tokens each shape stands for. It knows no faults and no order of reading.
-use Rattle.std.specs.Prelude.{◌≡◌, ℕ, suc, length, ◌≤◌, Some, List, [], ◌∷◌, ◌++◌, codes}
+use Rattle.std.specs.Prelude.{◌≡◌, ℕ, suc, true, length, ◌≤◌, Some, List, [], ◌∷◌, ◌++◌, codes}
 use Rattle.fx_term.specs.declared.node.Arg.{Arg}
 use Rattle.fx_term.specs.declared.name_kind.NameKind.{NameKind}
 use Rattle.fx_text.specs.declared.form.Form.{Form}
 use Rattle.fx_text.specs.Limits.{most_bytes, most_open}
 use Rattle.fx_text.specs.Token.{Token, Open, Close, Name, End, next}
 use Rattle.fx_text.specs.Scope.{Scope}
-use Rattle.fx_text.specs.Group.{Group, OfTerm, Content, scope_after}
+use Rattle.fx_text.specs.Group.{Group, OfTerm, Content, scope_after, needs_few}
 use Rattle.fx_text.specs.Shape.{Shape, ends, word, value, count, name, binder, group, groups, content, main_shape}
 use Rattle.fx_text.specs.Part.{value_of, count_of, name_of, new_name, form_of}
 use Rattle.fx_text.specs.Meaning.{Meaning}
@@ -37,7 +37,7 @@ pub data Spells : (g : Group) → ℕ → Shape g → List Token → Content g �
       → Spells g room (binder p go) (k ∷ ks) x
   group_so : {g h : Group} {room : ℕ} {p : Scope} {go : Content h → Shape g} {all : List Token} {x : Content g} (left : ℕ) (a : Content h)
       (inner ks : List Token)
-      → room ≡ suc left → Spells h left (content h p) inner a → Spells g room (go a) ks x → all ≡ inner ++ ks
+      → room ≡ suc left → Spells h left (content h p) inner a → needs_few h a ≡ true → Spells g room (go a) ks x → all ≡ inner ++ ks
       → Spells g room (group h p go) (Open ∷ all) x
   groups_end : {g h : Group} {room : ℕ} {p : Scope} {go : List (Content h) → Shape g} {ks : List Token} {x : Content g}
       → Spells g room (go []) (Close ∷ ks) x

@@ -3,7 +3,7 @@ use Rattle.std.specs.Prelude.{◌≡◌, ℕ, ◌+◌, ◌<◌, ◌≤◌, Some,
 use Rattle.std.specs.Borrow.{Bor}
 use Rattle.fx_term.specs.declared.node.Node.{Node}
 use Rattle.fx_term.specs.declared.node.Arg.TheVariants as arg
-use Rattle.fx_term.specs.Term.{Term, Never, Let, If, For, Mask, Poll, OnCancel, Bracket}
+use Rattle.fx_term.specs.Term.{Term, Never, Let, If, For, Mask, Poll, OnCancel, Bracket, Start, Join}
 use Rattle.fx_term.specs.Meaning.{assemble}
 use Rattle.fx_term.specs.Tree.{children}
 use Rattle.fx_term.specs.declared.name_kind.NameKind.TheVariants as kind
@@ -20,9 +20,9 @@ use Rattle.fx_text.specs.declared.reader.head.Double.{Double}
 use Rattle.fx_text.specs.declared.reader.head.Double.TheVariants as double
 use Rattle.fx_text.specs.declared.reader.head.Head.{Head}
 use Rattle.fx_text.specs.declared.reader.head.Head.TheVariants as head
-use Rattle.fx_text.specs.Scope.{Scope, slot, under, repeated}
-use Rattle.fx_text.specs.Group.{OfTerm}
-use Rattle.fx_text.specs.Shape.{Shape, ends, term, shape, pure_zero}
+use Rattle.fx_text.specs.Scope.{Scope, slot, under, elsewhere, repeated}
+use Rattle.fx_text.specs.Group.{OfTerm, OfOutcome}
+use Rattle.fx_text.specs.Shape.{Shape, ends, group, term, shape, pure_zero}
 use Rattle.fx_text.specs.Reading.{GroupReading, parts_at}
 use Rattle.fx_text.specs.Given.{Fails}
 use Rattle.fx_text.specs.ReaderState.{scope_of}
@@ -31,6 +31,7 @@ use Rattle.fx_text.specs.ReaderState.{scope_of}
 abbrev pub scope_in : Inner → Scope → Scope
 scope_in inner.Same p = p
 scope_in (inner.Name k x) p = under k x.now p
+scope_in inner.Elsewhere p = elsewhere p
 scope_in (inner.Loop n x) p = repeated n (under kind.Value x.now p)
 
 -- no loop takes the turns above the most
@@ -44,8 +45,10 @@ pub record Enters (i : Inner) (old new : Reader) : Type 0 where
   pub names : take (length old.names.items) new.names.items ≡ old.names.items
   pub longer : length new.names.items ≤ length old.names.items + 1
   pub nodes : new.nodes.items ≡ old.nodes.items
-  pub some_turns : 0 < new.turns
-  pub few_turns : new.turns ≤ most_turns
+  pub needs : new.needs.items ≡ old.needs.items
+  pub outside : new.place.foreign ≤ length new.names.items
+  pub some_turns : 0 < new.place.turns
+  pub few_turns : new.place.turns ≤ most_turns
 
 -- the term of a node with no children
 abbrev pub leaf_term : Node → Term
@@ -61,6 +64,7 @@ single_term (single.Poll x) a = Poll (arg.Slot x) a
 abbrev pub double_term : Double → Term → Term → Term
 double_term (double.Let x) a b = Let (Some x) a b
 double_term (double.If v) a b = If v a b
+double_term (double.Start h) a b = Start h a b
 double_term double.OnCancel a b = OnCancel a b
 double_term double.Guarantee a b = Bracket None pure_zero a b
 
@@ -68,24 +72,25 @@ double_term double.Guarantee a b = Bracket None pure_zero a b
 abbrev pub still : Head → Scope → Shape OfTerm
 still (head.Leaf n) p = ends (leaf_term n)
 still (head.One i f) p = term (scope_in i p) λ a. ends (single_term f a)
-still (head.Two i f) p = term p λ a. term (scope_in i p) λ b. ends (double_term f a b)
+still (head.Two i j f) p = term (scope_in i p) λ a. term (scope_in j p) λ b. ends (double_term f a b)
 still head.Seq p = shape form.Seq p
 still head.Handle p = shape form.Handle p
 still head.Forcer p = shape form.Forcer p
 still (head.Bracket x) p = term p λ a. term (under kind.Value x.now p) λ u. term (under kind.Value x.now p) λ r. ends (Bracket (Some (slot p)) a u r)
 still head.Using p = shape form.Using p
+still (head.Join f) p = group OfOutcome p λ a. group OfOutcome p λ b. term p λ c. ends (Join (arg.Slot f) (slot p) a (slot p) b c)
 
 -- what it names can be made
 abbrev pub HeadFits : ℕ → Head → Type 0
 HeadFits turns (head.Leaf n) = children n ≡ []
 HeadFits turns (head.One i f) = TurnsFit turns i
-HeadFits turns (head.Two i f) = TurnsFit turns i
+HeadFits turns (head.Two i j f) = TurnsFit turns i × TurnsFit turns j
 HeadFits turns _ = Unit {0}
 
 -- the first tokens of a form were read
 pub record Begins (f : Form) (r : Reader) (bytes : List ℕ) (h : Head) (rest : List ℕ) : Type 0 where
   pub read : (each : GroupReading) → parts_at each (shape f (scope_of r)) bytes ≡ parts_at each (still h (scope_of r)) rest
-  pub fits : HeadFits r.turns h
+  pub fits : HeadFits r.place.turns h
   pub shorter : length rest ≤ length bytes
 
 -- the first tokens of a form, or its first fault among them

@@ -14,6 +14,7 @@ pub mod TokenView
 pub mod ScopeView
 pub mod Given
 pub mod Trees
+pub mod Needs
 pub mod ReaderState
 pub mod Head
 pub mod Made

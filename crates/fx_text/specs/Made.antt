@@ -4,23 +4,23 @@ use Rattle.fx_term.specs.declared.node.NodeId.{NodeId}
 use Rattle.fx_term.specs.declared.node.Node.{Node}
 use Rattle.fx_term.specs.Term.{Term}
 use Rattle.fx_term.specs.Meaning.{term_of}
-use Rattle.fx_term.specs.Tree.{ChildrenComeFirst}
 use Rattle.fx_text.specs.declared.reader.Reader.{Reader}
 use Rattle.fx_text.specs.Limits.{most_nodes, most_made}
+use Rattle.fx_text.specs.Needs.{AreMade}
 use Rattle.fx_text.specs.Trees.{AllBelow, GrowsBy, Keeps}
 use Rattle.fx_text.specs.ReaderState.{ids}
 
 -- the parts have nodes, and there is room for those that are made
 pub record CanMake (r : Reader) (parts : List NodeId) : Type 0 where
-  pub tree : ChildrenComeFirst r.nodes.items
+  pub made : AreMade r.nodes.items r.needs.items
   pub below : AllBelow (length r.nodes.items) (ids parts)
   pub room : length r.nodes.items + most_made (length parts) ≤ most_nodes
 
 -- of the parts this term was made, by no more nodes than these left over, and one
 pub record Makes (old new : Reader) (parts : List NodeId) (t : Term) (root : ℕ) : Type 0 where
   pub names : new.names.items ≡ old.names.items
-  pub turns : new.turns ≡ old.turns
-  pub tree : ChildrenComeFirst new.nodes.items
+  pub place : new.place ≡ old.place
+  pub made : AreMade new.nodes.items new.needs.items
   pub keeps : Keeps old.nodes.items new.nodes.items
   pub last : root + 1 ≡ length new.nodes.items
   pub paid : length new.nodes.items ≤ length old.nodes.items + most_made (length parts)

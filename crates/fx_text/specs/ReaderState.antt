@@ -5,7 +5,7 @@ use Rattle.fx_term.specs.declared.node.NodeId.{NodeId}
 use Rattle.fx_term.specs.declared.node.Node.{Node}
 use Rattle.fx_term.specs.Term.{Term}
 use Rattle.fx_term.specs.Meaning.{assemble, term_of}
-use Rattle.fx_term.specs.Tree.{children, ChildrenComeFirst}
+use Rattle.fx_term.specs.Tree.{children}
 use Rattle.fx_term.specs.Turns.{most_turns}
 use Rattle.fx_text.specs.declared.fault.ReadError.{ReadError}
 use Rattle.fx_text.specs.declared.reader.Reader.{Reader}
@@ -15,25 +15,28 @@ use Rattle.fx_text.specs.ScopeView.{scope}
 use Rattle.fx_text.specs.Shape.{seq}
 use Rattle.fx_text.specs.Reading.{Read}
 use Rattle.fx_text.specs.Given.{Fails}
+use Rattle.fx_text.specs.Needs.{AreMade}
 use Rattle.fx_text.specs.Trees.{AllBelow, GrowsBy, Keeps}
 
 -- where the reader stands
 abbrev pub scope_of : Reader → Scope
-scope_of r = scope r.names.items r.turns
+scope_of r = scope r.names.items r.place
 
--- before: a byte was paid for each name in scope and for each eight nodes, with so many bytes left over, and the loops round have one to the most turns
+-- before: a byte was paid for each name in scope and for each eight nodes, with so many bytes left over, no more names are bound outside of the fiber than are in
+-- scope, and the loops round have one to the most turns
 pub record IsReady (spared : ℕ) (r : Reader) (bytes : List ℕ) : Type 0 where
-  pub tree : ChildrenComeFirst r.nodes.items
+  pub made : AreMade r.nodes.items r.needs.items
   pub names_fit : length r.names.items + (length bytes + spared) ≤ most_bytes
   pub nodes_fit : length r.nodes.items + 8 * (length bytes + spared) ≤ most_nodes
-  pub some_turns : 0 < r.turns
-  pub few_turns : r.turns ≤ most_turns
+  pub outside : r.place.foreign ≤ length r.names.items
+  pub some_turns : 0 < r.place.turns
+  pub few_turns : r.place.turns ≤ most_turns
 
--- after: the names in scope and the turns are as before, the new root is the last node, and the new nodes were paid for, with so many nodes left over
+-- after: the names in scope and the place are as before, the new root is the last node, and the new nodes were paid for, with so many nodes left over
 pub record Went (spared : ℕ) (old new : Reader) (root : ℕ) (bytes rest : List ℕ) : Type 0 where
   pub names : new.names.items ≡ old.names.items
-  pub turns : new.turns ≡ old.turns
-  pub tree : ChildrenComeFirst new.nodes.items
+  pub place : new.place ≡ old.place
+  pub made : AreMade new.nodes.items new.needs.items
   pub keeps : Keeps old.nodes.items new.nodes.items
   pub last : root + 1 ≡ length new.nodes.items
   pub paid : length new.nodes.items + 8 * length rest + spared ≤ length old.nodes.items + 8 * length bytes
@@ -53,8 +56,8 @@ ReadsTerm spared old new bytes reading (Err e) = Fails e reading
 -- a node was added
 pub record Adds (old new : Reader) (n : Node) (root : ℕ) : Type 0 where
   pub names : new.names.items ≡ old.names.items
-  pub turns : new.turns ≡ old.turns
-  pub tree : ChildrenComeFirst new.nodes.items
+  pub place : new.place ≡ old.place
+  pub made : AreMade new.nodes.items new.needs.items
   pub keeps : Keeps old.nodes.items new.nodes.items
   pub last : root + 1 ≡ length new.nodes.items
   pub one : length new.nodes.items ≡ length old.nodes.items + 1
@@ -68,8 +71,8 @@ ids = map λ root. root.0
 -- after terms, any number: the same of their roots
 pub record WentThrough (old new : Reader) (roots : List NodeId) (bytes rest : List ℕ) : Type 0 where
   pub names : new.names.items ≡ old.names.items
-  pub turns : new.turns ≡ old.turns
-  pub tree : ChildrenComeFirst new.nodes.items
+  pub place : new.place ≡ old.place
+  pub made : AreMade new.nodes.items new.needs.items
   pub keeps : Keeps old.nodes.items new.nodes.items
   pub below : AllBelow (length new.nodes.items) (ids roots)
   pub paid : length new.nodes.items + 8 * length rest + term_spares * length roots ≤ length old.nodes.items + 8 * length bytes
@@ -78,8 +81,8 @@ pub record WentThrough (old new : Reader) (roots : List NodeId) (bytes rest : Li
 -- terms were made one, which does them in order, by one node more for each but the last
 pub record Joins (old new : Reader) (first : NodeId) (others : List NodeId) (root : ℕ) : Type 0 where
   pub names : new.names.items ≡ old.names.items
-  pub turns : new.turns ≡ old.turns
-  pub tree : ChildrenComeFirst new.nodes.items
+  pub place : new.place ≡ old.place
+  pub made : AreMade new.nodes.items new.needs.items
   pub keeps : Keeps old.nodes.items new.nodes.items
   pub more : length new.nodes.items ≡ length old.nodes.items + length others
   pub term : term_of new.nodes.items root ≡ seq (term_of old.nodes.items first.0) (map (λ part. term_of old.nodes.items part.0) others)

@@ -11,7 +11,7 @@ use Rattle.fx_text.specs.declared.form.Form.{Form}
 use Rattle.fx_text.specs.Limits.{most_bytes, most_open}
 use Rattle.fx_text.specs.Token.{Token, Open, Number, Name, Stray, Misnumber, End, Lexeme, next}
 use Rattle.fx_text.specs.Scope.{Scope}
-use Rattle.fx_text.specs.Group.{Group, OfTerm, Content, scope_after}
+use Rattle.fx_text.specs.Group.{Group, OfTerm, Content, scope_after, needs_few}
 use Rattle.fx_text.specs.Shape.{Shape, ends, word, value, count, name, binder, group, groups, content, main_shape}
 use Rattle.fx_text.specs.Part.{opens, closes, is_closing, value_of, count_of, name_of, new_name, form_of, main_word}
 pub use Rattle.fx_text.specs.Meaning.{Meaning}
@@ -131,12 +131,17 @@ abbrev pub too_deep : Token → TextKind
 too_deep Open = kind.Depth
 too_deep _ = kind.Unwanted
 
+-- A group that was read, unless it can use too many fiber numbers. That is tested at its `)`, and told at its `(`, from which so many bytes stand to the end
+abbrev pub kept : (g : Group) → ℕ → Content g × List ℕ → Read (Content g)
+kept g from (x, rest) = if needs_few g x then Ok (x, rest) else Err (record { kind = kind.Need; left = from })
+
 -- a group, where so many more `(` may be open
 unfoldable pub group_at : ℕ → GroupReading
 group_at zero g p bytes = refused (too_deep (next bytes).token) (next bytes)
 group_at (suc room) g p bytes = do
   (_, inside) ← opening_at bytes
-  parts_at (group_at room) (content g p) inside
+  x ← parts_at (group_at room) (content g p) inside
+  kept g (next bytes).from x
 
 abbrev pub term_at : ℕ → Scope → List ℕ → Read Term
 term_at room p bytes = group_at room OfTerm p bytes

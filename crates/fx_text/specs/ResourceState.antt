@@ -2,13 +2,13 @@
 use Rattle.std.specs.Prelude.{◌≡◌, ℕ, ◌+◌, ◌*◌, ◌≤◌, List, [], ◌∷◌, ◌++◌, length, map}
 use Rattle.fx_term.specs.declared.node.Node.{Node}
 use Rattle.fx_term.specs.Meaning.{term_of}
-use Rattle.fx_term.specs.Tree.{ChildrenComeFirst}
 use Rattle.fx_text.specs.declared.reader.Reader.{Reader}
 use Rattle.fx_text.specs.declared.reader.resources.Resource.{Resource as CodeResource}
 use Rattle.fx_text.specs.declared.scope.Bound.{Bound as CodeBound}
 use Rattle.fx_term.specs.declared.name_kind.NameKind.TheVariants as kind
 use Rattle.fx_text.specs.Group.{Resource}
 use Rattle.fx_text.specs.Shape.{using}
+use Rattle.fx_text.specs.Needs.{AreMade}
 use Rattle.fx_text.specs.Trees.{AllBelow, GrowsBy, Keeps}
 
 -- a resource, with the terms that the nodes stand for
@@ -27,11 +27,11 @@ roots_of (r ∷ rs) = r.acquire.0 ∷ r.release.0 ∷ roots_of rs
 abbrev pub bounds_of : List CodeResource → List CodeBound
 bounds_of = map λ r. record { name = r.name; kind = kind.Value }
 
--- after resources, any number: their names are in scope too, the turns are as before, and for each a byte and more was paid that is left over
+-- after resources, any number: their names are in scope too, the place is as before, and for each a byte and more was paid that is left over
 pub record Binds (old new : Reader) (rs : List CodeResource) (bytes rest : List ℕ) : Type 0 where
   pub names : new.names.items ≡ old.names.items ++ bounds_of rs
-  pub turns : new.turns ≡ old.turns
-  pub tree : ChildrenComeFirst new.nodes.items
+  pub place : new.place ≡ old.place
+  pub made : AreMade new.nodes.items new.needs.items
   pub keeps : Keeps old.nodes.items new.nodes.items
   pub below : AllBelow (length new.nodes.items) (roots_of rs)
   pub paid : length new.nodes.items + 8 * (length rest + length rs) ≤ length old.nodes.items + 8 * length bytes
@@ -40,8 +40,8 @@ pub record Binds (old new : Reader) (rs : List CodeResource) (bytes rest : List 
 -- resources were made brackets round what uses them, by one node more for each
 pub record Nests (old new : Reader) (rs : List CodeResource) (used root : ℕ) : Type 0 where
   pub names : new.names.items ≡ old.names.items
-  pub turns : new.turns ≡ old.turns
-  pub tree : ChildrenComeFirst new.nodes.items
+  pub place : new.place ≡ old.place
+  pub made : AreMade new.nodes.items new.needs.items
   pub keeps : Keeps old.nodes.items new.nodes.items
   pub more : length new.nodes.items ≡ length old.nodes.items + length rs
   pub term : term_of new.nodes.items root ≡ using (resources_of old.nodes.items rs) (term_of old.nodes.items used)

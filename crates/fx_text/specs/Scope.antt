@@ -1,8 +1,9 @@
 -- The scope of a part of a script: the names there, and how often the loops round it run it.
-use Rattle.std.specs.Prelude.{ℕ, Bool, true, false, ◌&&◌, Option, List, [], ◌∷◌, ◌++◌, length, bytes_eq}
+use Rattle.std.specs.Prelude.{ℕ, Bool, true, false, ◌&&◌, Option, List, [], ◌∷◌, ◌++◌, length, map, bytes_eq}
 use Rattle.std.specs.List.{list_any, position}
 use Rattle.fx_term.specs.declared.name_kind.NameKind.{NameKind}
 use Rattle.fx_term.specs.declared.name_kind.NameKind.TheVariants as kind
+use Rattle.fx_term.specs.Scope.{kind_elsewhere}
 use Rattle.fx_term.specs.Turns.{turns_of_loop}
 
 -- a name in scope
@@ -26,6 +27,14 @@ slot p = length p.names
 -- in the scope of one name more
 abbrev pub under : NameKind → List ℕ → Scope → Scope
 under k x p = record p { names = p.names ++ (record { name = x; kind = k }) ∷ [] }
+
+-- a name as another fiber has it: it stays taken, and a poll is none of that fiber's
+abbrev pub bound_elsewhere : Bound → Bound
+bound_elsewhere b = record b { kind = kind_elsewhere b.kind }
+
+-- inside another fiber
+abbrev pub elsewhere : Scope → Scope
+elsewhere p = record p { names = map bound_elsewhere p.names }
 
 -- inside a loop of that count
 abbrev pub repeated : ℕ → Scope → Scope

@@ -2,13 +2,13 @@
 use Rattle.std.specs.Prelude.{ℕ, Some, None, List, [], ◌∷◌, codes}
 use Rattle.fx_term.specs.declared.node.Arg.{Arg}
 use Rattle.fx_term.specs.declared.node.Arg.TheVariants as arg
-use Rattle.fx_term.specs.Term.{Term, Pure, Raise, Canceled, Never, Cede, Let, Handle, If, For, Mask, Poll, OnCancel, Bracket}
+use Rattle.fx_term.specs.Term.{Term, Pure, Raise, Canceled, Never, Cede, Let, Handle, If, For, Mask, Poll, OnCancel, Bracket, Start, Join, Cancel, First}
 use Rattle.fx_term.specs.declared.name_kind.NameKind.{NameKind}
 use Rattle.fx_term.specs.declared.name_kind.NameKind.TheVariants as kind
 use Rattle.fx_text.specs.declared.form.Form.{Form}
 use Rattle.fx_text.specs.declared.form.Form.TheVariants as form
-use Rattle.fx_text.specs.Scope.{Scope, top, slot, under, repeated}
-use Rattle.fx_text.specs.Group.{Group, OfTerm, OfResource, OfResources, Resource, Content, under_all}
+use Rattle.fx_text.specs.Scope.{Scope, top, slot, under, elsewhere, repeated}
+use Rattle.fx_text.specs.Group.{Group, OfTerm, OfResource, OfResources, OfOutcome, Resource, Content, under_all}
 
 -- What is still to come of a group, in the order of the text. What is read of a part is handed to the parts after it
 pub data Shape (g : Group) : Type 0 where
@@ -33,7 +33,7 @@ terms p go = groups OfTerm p go
 -- all forms
 abbrev pub forms : List Form
 forms = form.Pure ∷ form.Raise ∷ form.Canceled ∷ form.Never ∷ form.Cede ∷ form.Seq ∷ form.Let ∷ form.Handle ∷ form.If ∷ form.For ∷ form.Mask ∷ form.Poll ∷
-    form.OnCancel ∷ form.Bracket ∷ form.Guarantee ∷ form.Forcer ∷ form.Using ∷ []
+    form.OnCancel ∷ form.Bracket ∷ form.Guarantee ∷ form.Forcer ∷ form.Using ∷ form.Start ∷ form.Join ∷ form.Cancel ∷ form.First ∷ []
 
 abbrev pub word_of : Form → List ℕ
 word_of form.Pure = codes "pure"
@@ -53,6 +53,10 @@ word_of form.Bracket = codes "bracket"
 word_of form.Guarantee = codes "guarantee"
 word_of form.Forcer = codes "forcer"
 word_of form.Using = codes "using"
+word_of form.Start = codes "start"
+word_of form.Join = codes "join"
+word_of form.Cancel = codes "cancel"
+word_of form.First = codes "first"
 
 -- one after another, for the last one's value
 abbrev pub seq : Term → List Term → Term
@@ -87,11 +91,17 @@ shape form.Bracket p = binder p λ x. term p λ a. term (under kind.Value x p) �
 shape form.Guarantee p = term p λ a. term p λ f. ends (Bracket None pure_zero a f)
 shape form.Forcer p = term p λ a. term p λ b. ends (Let None (Handle a None pure_zero) b)
 shape form.Using p = group OfResources p λ rs. term (under_all rs p) λ t. ends (using rs t)
+shape form.Start p = binder p λ h. term (elsewhere p) λ a. term (under kind.Fiber h p) λ b. ends (Start (slot p) a b)
+shape form.Join p = name kind.Fiber p λ f. group OfOutcome p λ a. group OfOutcome p λ b. term p λ c.
+    ends (Join (arg.Slot f) (slot p) a (slot p) b c)
+shape form.Cancel p = name kind.Fiber p λ f. ends (Cancel (arg.Slot f))
+shape form.First p = name kind.Fiber p λ f. name kind.Fiber p λ g. ends (First (arg.Slot f) (arg.Slot g))
 
 -- what stands in the parentheses of a group
 abbrev pub content : (g : Group) → Scope → Shape g
 content OfTerm p = word λ f. shape f p
 content OfResource p = binder p λ x. term p λ a. term (under kind.Value x p) λ r. ends (record { name = x; slot = slot p; acquire = a; release = r })
+content OfOutcome p = binder p λ x. term (under kind.Value x p) λ t. ends t
 content OfResources p = group OfResource p λ r. groups OfResource (under kind.Value r.name p) λ rs. ends (r ∷ rs)
 
 -- main, which is its term

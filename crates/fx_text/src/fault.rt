@@ -28,7 +28,7 @@ pub enum TextKind {
     /// Another token than its place wants, or a word of a schedule that is no pick.
     #[error("not what is wanted here")]
     Unwanted,
-    /// A name that is not in scope, or is of another kind.
+    /// A name that is not in scope, or is of another kind, or is the poll of another fiber.
     #[error("no such name of this kind is in scope")]
     Unknown,
     /// A binder whose name is in scope.
@@ -40,6 +40,9 @@ pub enum TextKind {
     /// A `(` where 100 are open.
     #[error("100 parentheses are open already")]
     Depth,
+    /// A form that can start more than 1,023 fibers.
+    #[error("a form that can start more than 1,023 fibers")]
+    Need,
     /// The text ends before `main`, or goes on after it.
     #[error("a script is one main and nothing after it")]
     Main,
@@ -64,6 +67,7 @@ impl TextKind {
             TextKind::Taken => 8,
             TextKind::Size => 9,
             TextKind::Depth => 11,
+            TextKind::Need => 12,
             TextKind::Main => 13,
             TextKind::Memory => 14,
         }

@@ -20,13 +20,17 @@ pub(crate) enum Form {
     Guarantee,
     Forcer,
     Using,
+    Start,
+    Join,
+    Cancel,
+    First,
 }
 
 impl Form {
     ghost use Rattle.std.specs.Prelude.{◌≡◌, bytes_eq, find};
     ghost use Rattle.fx_text.specs.Shape.{forms, word_of};
 
-    const ALL: [Form; 17] = [
+    const ALL: [Form; 21] = [
         Form::Pure,
         Form::Raise,
         Form::Canceled,
@@ -44,6 +48,10 @@ impl Form {
         Form::Guarantee,
         Form::Forcer,
         Form::Using,
+        Form::Start,
+        Form::Join,
+        Form::Cancel,
+        Form::First,
     ];
 
     fn word(self) -> &'static [u8]
@@ -67,6 +75,10 @@ impl Form {
             Form::Guarantee => b"guarantee",
             Form::Forcer => b"forcer",
             Form::Using => b"using",
+            Form::Start => b"start",
+            Form::Join => b"join",
+            Form::Cancel => b"cancel",
+            Form::First => b"first",
         }
     }
 

@@ -10,7 +10,8 @@
 //! 3. Reading goes through the same table token by token, and stops at the first token that its
 //!    place refuses. What it reads is exactly what the grammar has.
 //! 4. A scope has the names of its place, and how often the loops round it run it. A count is
-//!    refused where it takes these turns above 1,000,000.
+//!    refused where it takes these turns above 1,000,000. Inside another fiber all names stay taken,
+//!    but no poll from outside of it is known.
 //! 5. A node is made after those of its parts, so children stand before their parents, the last node
 //!    is the root, and there are never more than eight nodes a byte.
 //! 6. A recursion is as deep as the parentheses that are open, of which there are at most 100. The
@@ -27,6 +28,7 @@ mod form;
 pub mod laws;
 mod part;
 mod pick;
+mod place;
 mod reader;
 mod schedules;
 mod scope;

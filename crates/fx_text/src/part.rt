@@ -1,15 +1,17 @@
 //! The parts of a form that are one token.
-ghost use Rattle.std.specs.Prelude.{ℕ, ◌≡◌, ◌<◌, ◌≤◌, ◌^◌, List, length, nat_le, IfOk};
+ghost use Rattle.std.specs.Prelude.{ℕ, ◌≡◌, ◌+◌, ◌<◌, ◌≤◌, ◌^◌, List, length, nat_le, IfOk};
 ghost use Rattle.fx_term.specs.Turns.{most_turns, turns_of_loop};
 ghost use Rattle.fx_text.specs.Reading.{kind_of, opening_at, closing_at, value_at, count_at, name_at, binder_at, form_at, main_word_at, too_deep};
 ghost use Rattle.fx_text.specs.Part.{is_closing};
 ghost use Rattle.fx_text.specs.Token.{next};
 ghost use Rattle.fx_text.specs.TokenView.{view_token};
 ghost use Rattle.fx_text.specs.ScopeView.{scope};
+ghost use Rattle.fx_text.specs.declared.place.Place.{Place as PlaceView};
 ghost use Rattle.fx_text.specs.Given.{Gives};
 
 use crate::fault::{Fault, ReadError, TextKind};
 use crate::form::Form;
+use crate::place::Place;
 use crate::scope::{Bound, is_bound, slot_of};
 use crate::token::{Lexeme, Token, next};
 use fx_term::{Arg, NameKind, turns_of_loop};
@@ -41,6 +43,7 @@ pub(crate) fn refused(kind: TextKind, lexeme: Lexeme<'_>) -> ReadError
 pub(crate) fn opening(bytes: &[u8]) -> Result<&[u8], ReadError>
     ensures read { Gives (λ x. (tt, x.now)) result (opening_at bytes.now) }
     ensures shorter { IfOk result (λ x. length x.now < length bytes.now) }
+    ensures from { IfOk result (λ x. length x.now + 1 ≡ (next bytes.now).from) }
 {
     let lexeme = next(bytes);
     match lexeme.token {
@@ -71,16 +74,20 @@ pub(crate) fn is_closing(bytes: &[u8]) -> bool
 
 /// A number, or the name of a value.
 #[tactic(auto, unfolding(crate::specs::Reading::value_at))]
-pub(crate) fn value<'a>(names: &[Bound<'a>], bytes: &'a [u8]) -> Result<(Arg, &'a [u8]), ReadError>
-    requires { length names.now < 2 ^ 32 }
-    ensures read { (turns : ℕ)
-        → Gives (λ x. (x.0, x.1.now)) result (value_at (scope names.now turns) bytes.now) }
+pub(crate) fn value<'a>(
+    names: &[Bound<'a>],
+    place: Place,
+    bytes: &'a [u8],
+) -> Result<(Arg, &'a [u8]), ReadError>
+    requires small { length names.now < 2 ^ 32 }
+    requires outside { place.foreign ≤ length names.now }
+    ensures read { Gives (λ x. (x.0, x.1.now)) result (value_at (scope names.now place) bytes.now) }
     ensures shorter { IfOk result (λ x. length x.1.now < length bytes.now) }
 {
     let lexeme = next(bytes);
     match lexeme.token {
         Token::Number(n) => Ok((Arg::Number(n), lexeme.rest)),
-        Token::Name(name) => match slot_of(names, NameKind::Value, name) {
+        Token::Name(name) => match slot_of(names, place.foreign, NameKind::Value, name) {
             None => Err(refused(TextKind::Unknown, lexeme)),
             Some(slot) => Ok((Arg::Slot(slot as u32), lexeme.rest)),
         },
@@ -98,17 +105,17 @@ fn has_few_turns(turns: u32, count: u64) -> bool
 
 /// The count of a loop that is run so many times.
 #[tactic(auto, unfolding(crate::specs::Reading::count_at))]
-pub(crate) fn count(turns: u32, bytes: &[u8]) -> Result<(u32, &[u8]), ReadError>
-    requires { 0 < turns }
+pub(crate) fn count(place: Place, bytes: &[u8]) -> Result<(u32, &[u8]), ReadError>
+    requires { 0 < place.turns }
     ensures read { (names : List Bound)
-        → Gives (λ x. (x.0, x.1.now)) result (count_at (scope names turns) bytes.now) }
-    ensures few { IfOk result (λ x. turns_of_loop turns x.0 ≤ most_turns) }
+        → Gives (λ x. (x.0, x.1.now)) result (count_at (scope names place) bytes.now) }
+    ensures few { IfOk result (λ x. turns_of_loop place.turns x.0 ≤ most_turns) }
     ensures shorter { IfOk result (λ x. length x.1.now < length bytes.now) }
 {
     let lexeme = next(bytes);
     match lexeme.token {
         Token::Number(count) => {
-            if !has_few_turns(turns, count) {
+            if !has_few_turns(place.turns, count) {
                 return Err(refused(TextKind::Size, lexeme));
             }
             Ok((count as u32, lexeme.rest))
@@ -121,17 +128,19 @@ pub(crate) fn count(turns: u32, bytes: &[u8]) -> Result<(u32, &[u8]), ReadError>
 #[tactic(auto, unfolding(crate::specs::Reading::name_at))]
 pub(crate) fn name<'a>(
     names: &[Bound<'a>],
+    place: Place,
     kind: NameKind,
     bytes: &'a [u8],
 ) -> Result<(u32, &'a [u8]), ReadError>
-    requires { length names.now < 2 ^ 32 }
-    ensures read { (turns : ℕ) → Gives (λ x. (x.0, x.1.now)) result
-        (name_at kind (scope names.now turns) bytes.now) }
+    requires small { length names.now < 2 ^ 32 }
+    requires outside { place.foreign ≤ length names.now }
+    ensures read { Gives (λ x. (x.0, x.1.now)) result
+        (name_at kind (scope names.now place) bytes.now) }
     ensures shorter { IfOk result (λ x. length x.1.now < length bytes.now) }
 {
     let lexeme = next(bytes);
     match lexeme.token {
-        Token::Name(name) => match slot_of(names, kind, name) {
+        Token::Name(name) => match slot_of(names, place.foreign, kind, name) {
             None => Err(refused(TextKind::Unknown, lexeme)),
             Some(slot) => Ok((slot as u32, lexeme.rest)),
         },
@@ -145,8 +154,8 @@ pub(crate) fn binder<'a>(
     names: &[Bound<'a>],
     bytes: &'a [u8],
 ) -> Result<(&'a [u8], &'a [u8]), ReadError>
-    ensures read { (turns : ℕ)
-        → Gives (λ x. (x.0.now, x.1.now)) result (binder_at (scope names.now turns) bytes.now) }
+    ensures read { (at : PlaceView)
+        → Gives (λ x. (x.0.now, x.1.now)) result (binder_at (scope names.now at) bytes.now) }
     ensures shorter { IfOk result (λ x. length x.1.now < length bytes.now) }
 {
     let lexeme = next(bytes);
@@ -207,4 +216,16 @@ pub(crate) fn too_deep(bytes: &[u8]) -> ReadError
         _ => TextKind::Unwanted,
     };
     refused(kind, lexeme)
+}
+
+/// The fault of a form that can start too many fibers, by the bytes after its `(`.
+pub(crate) fn too_many_fibers(inside: &[u8]) -> ReadError
+    requires { length inside.now < 2 ^ 32 }
+    ensures { result ≡ ReadError.Fault
+        (record { kind = TextKind.Need; left = length inside.now + 1 }) }
+{
+    ReadError::Fault(Fault {
+        kind: TextKind::Need,
+        left: inside.len() + 1,
+    })
 }

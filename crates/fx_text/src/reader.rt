@@ -1,18 +1,20 @@
 //! Reads terms.
 ghost use Rattle.std.specs.Prelude.{◌<◌, ◌≤◌, ◌∷◌, length, map, IfOk};
 ghost use Rattle.fx_term.specs.Meaning.{term_of};
-ghost use Rattle.fx_term.specs.Tree.{children, ChildrenComeFirst};
+ghost use Rattle.fx_term.specs.Tree.{children};
 ghost use Rattle.fx_term.specs.Turns.{most_turns};
 ghost use Rattle.fx_text.specs.Limits.{most_bytes, most_nodes, term_spares, form_spares};
 ghost use Rattle.fx_text.specs.Group.{OfTerm};
 ghost use Rattle.fx_text.specs.Shape.{shape};
 ghost use Rattle.fx_text.specs.Reading.{term_at, groups_at, group_at, parts_at};
 ghost use Rattle.fx_text.specs.Given.{Gives};
+ghost use Rattle.fx_text.specs.Needs.{AreMade};
 ghost use Rattle.fx_text.specs.Trees.{AllBelow, GrowsBy};
 ghost use Rattle.fx_text.specs.ReaderState.{scope_of, ids, IsReady, ReadsTerm, WentThrough, Adds};
 ghost use Rattle.fx_text.specs.Head.{scope_in, TurnsFit, Enters, still};
 
 mod binding;
+mod fibers;
 mod head;
 mod leaves;
 mod loops;
@@ -21,31 +23,35 @@ mod resources;
 
 use crate::fault::ReadError;
 use crate::form::Form;
-use crate::part::{closing, form, is_closing, opening, too_deep};
+use crate::part::{closing, form, is_closing, opening, too_deep, too_many_fibers};
+use crate::place::Place;
 use crate::scope::Bound;
-use fx_term::{NameKind, Node, NodeId};
+use fx_term::{MOST_NEED, NameKind, Node, NodeId, need_of_node};
 use head::{Double, Head, Inner, Single};
 use std::alloc::{AllocError, Global};
 
-/// The names in scope, how often the loops round this place run it, the nodes so far, and where
-/// memory comes from.
+/// The names in scope, what else is known of this place, the nodes so far, each with its need, and
+/// where memory comes from.
 #[derive(Drop)]
 pub(crate) struct Reader<'a> {
     pub(crate) alloc: Global,
     pub(crate) names: Vec<Bound<'a>>,
-    pub(crate) turns: u32,
+    pub(crate) place: Place,
     pub(crate) nodes: Vec<Node>,
+    pub(crate) needs: Vec<u32>,
 }
 
 impl<'a> Reader<'a> {
     pub(crate) fn add(&mut self, node: Node) -> Result<NodeId, AllocError>
-        requires tree { ChildrenComeFirst self.old.nodes.items }
+        requires made { AreMade self.old.nodes.items self.old.needs.items }
         requires children { AllBelow (length self.old.nodes.items) (children node) }
         requires small { length self.old.nodes.items < most_nodes }
         ensures { IfOk result (λ id. Adds self.old self.new node id.0) }
     {
         let id = NodeId(self.nodes.len() as u32);
+        let need = need_of_node(node, &self.needs);
         self.nodes.push(node)?;
+        self.needs.push(need)?;
         Ok(id)
     }
 
@@ -64,9 +70,13 @@ impl<'a> Reader<'a> {
         if room == 0 {
             return Err(too_deep(bytes));
         }
-        let rest = opening(bytes)?;
-        let (form, rest) = form(rest)?;
-        self.parts(form, room - 1, rest)
+        let inside = opening(bytes)?;
+        let (form, rest) = form(inside)?;
+        let (root, rest) = self.parts(form, room - 1, rest)?;
+        if self.needs[root.0 as usize] > MOST_NEED {
+            return Err(too_many_fibers(inside));
+        }
+        Ok((root, rest))
     }
 
     /// A term in that scope.
@@ -78,33 +88,39 @@ impl<'a> Reader<'a> {
         bytes: &'a [u8],
     ) -> Result<(NodeId, &'a [u8]), ReadError>
         requires ready { IsReady 1 self.old bytes.now }
-        requires turns { TurnsFit self.old.turns inner }
+        requires turns { TurnsFit self.old.place.turns inner }
         ensures { ReadsTerm term_spares self.old self.new bytes.now
             (term_at room (scope_in inner.entry (scope_of self.old)) bytes.now) result }
     {
-        let (names, turns) = (self.names.len(), self.turns);
+        let (names, place) = (self.names.len(), self.place);
         self.enter(inner)?;
         let (root, rest) = self.term(room, bytes)?;
         self.names.truncate(names);
-        self.turns = turns;
+        self.place = place;
         Ok((root, rest))
     }
 
     /// Goes into the scope of a part.
+    #[tactic(auto, using(crate::proofs::ScopeLaws::scope_push, crate::proofs::ScopeLaws::scope_elsewhere))]
     fn enter(&mut self, inner: Inner<'a>) -> Result<(), AllocError>
         requires small { length self.old.names.items < most_bytes }
-        requires some { 0 < self.old.turns }
-        requires few { self.old.turns ≤ most_turns }
-        requires turns { TurnsFit self.old.turns inner }
+        requires outside { self.old.place.foreign ≤ length self.old.names.items }
+        requires some { 0 < self.old.place.turns }
+        requires few { self.old.place.turns ≤ most_turns }
+        requires turns { TurnsFit self.old.place.turns inner }
         ensures { IfOk result (λ _. Enters inner.entry self.old self.new) }
     {
         match inner {
             Inner::Same => Ok(()),
             Inner::Name(kind, name) => Ok(self.names.push(Bound { name, kind })?),
+            Inner::Elsewhere => {
+                self.place.foreign = self.names.len();
+                Ok(())
+            }
             Inner::Loop(count, name) => {
                 let kind = NameKind::Value;
                 self.names.push(Bound { name, kind })?;
-                self.turns = self.turns * count.max(1);
+                self.place.turns = self.place.turns * count.max(1);
                 Ok(())
             }
         }
@@ -148,12 +164,13 @@ impl<'a> Reader<'a> {
         match head {
             Head::Leaf(node) => self.leaf(node, rest),
             Head::One(inner, form) => self.one(inner, form, room, rest),
-            Head::Two(inner, form) => self.two(inner, form, room, rest),
+            Head::Two(outer, inner, form) => self.two(outer, inner, form, room, rest),
             Head::Seq => self.seq(room, rest),
             Head::Handle => self.handle(room, rest),
             Head::Forcer => self.forcer(room, rest),
             Head::Bracket(name) => self.bracket(name, room, rest),
             Head::Using => self.using(room, rest),
+            Head::Join(fiber) => self.join(fiber, room, rest),
         }
     }
 
@@ -166,7 +183,7 @@ impl<'a> Reader<'a> {
         bytes: &'a [u8],
     ) -> Result<(NodeId, &'a [u8]), ReadError>
         requires ready { IsReady 2 self.old bytes.now }
-        requires turns { TurnsFit self.old.turns inner }
+        requires turns { TurnsFit self.old.place.turns inner }
         ensures { ReadsTerm form_spares self.old self.new bytes.now
             (parts_at (group_at room)
             (still (Head.One inner.entry form) (scope_of self.old)) bytes.now)
@@ -180,19 +197,21 @@ impl<'a> Reader<'a> {
     #[cycle(terms)]
     fn two(
         &mut self,
+        outer: Inner<'a>,
         inner: Inner<'a>,
         form: Double,
         room: usize,
         bytes: &'a [u8],
     ) -> Result<(NodeId, &'a [u8]), ReadError>
         requires ready { IsReady 2 self.old bytes.now }
-        requires turns { TurnsFit self.old.turns inner }
+        requires first { TurnsFit self.old.place.turns outer }
+        requires second { TurnsFit self.old.place.turns inner }
         ensures { ReadsTerm form_spares self.old self.new bytes.now
             (parts_at (group_at room)
-            (still (Head.Two inner.entry form) (scope_of self.old)) bytes.now)
+            (still (Head.Two outer.entry inner.entry form) (scope_of self.old)) bytes.now)
             result }
     {
-        let (first, rest) = self.term(room, bytes)?;
+        let (first, rest) = self.term_in(outer, room, bytes)?;
         let (second, rest) = self.term_in(inner, room, rest)?;
         let rest = closing(rest)?;
         Ok((self.double_node(form, first, second)?, rest))

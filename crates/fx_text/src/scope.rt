@@ -1,8 +1,9 @@
 //! The names in scope.
-ghost use Rattle.std.specs.Prelude.{◌≡◌, ◌<◌, ◌&&◌, length, IfSome, bytes_eq};
+ghost use Rattle.std.specs.Prelude.{ℕ, ◌≡◌, ◌<◌, ◌≤◌, ◌&&◌, length, IfSome, bytes_eq};
 ghost use Rattle.std.specs.List.{list_any, position};
 ghost use Rattle.fx_text.specs.Scope.{is_taken, same_kind, slot_of};
-ghost use Rattle.fx_text.specs.ScopeView.{view_names};
+ghost use Rattle.fx_term.specs.Scope.{kind_elsewhere};
+ghost use Rattle.fx_text.specs.ScopeView.{view_names, seen_past};
 
 use fx_term::NameKind;
 
@@ -28,19 +29,42 @@ fn index_of(names: &[Bound<'_>], kind: NameKind, name: &[u8]) -> Option<usize>
     names.iter().position(|b| b.name == name && b.kind == kind)
 }
 
+fn index_elsewhere(names: &[Bound<'_>], kind: NameKind, name: &[u8]) -> Option<usize>
+    ensures index { result ≡ position
+        (λ b. bytes_eq b.name.now name.now && same_kind (kind_elsewhere b.kind) kind)
+        names.now }
+    ensures within { IfSome result (λ i. i < length names.now) }
+{
+    names
+        .iter()
+        .position(|b| b.name == name && b.kind.elsewhere() == kind)
+}
+
 /// Whether the name is in scope.
 #[tactic(auto, using(crate::proofs::ScopeLaws::is_taken_among))]
 pub(crate) fn is_bound(names: &[Bound<'_>], name: &[u8]) -> bool
-    ensures { result ≡ is_taken name.now (view_names names.now) }
+    ensures { (foreign : ℕ) → result ≡ is_taken name.now (seen_past foreign (view_names names.now)) }
 {
     is_among(names, name)
 }
 
-/// The slot of the name, where it is of that kind.
-#[tactic(auto, using(crate::proofs::ScopeLaws::slot_of_index))]
-pub(crate) fn slot_of(names: &[Bound<'_>], kind: NameKind, name: &[u8]) -> Option<usize>
-    ensures slot { result ≡ slot_of kind name.now (view_names names.now) }
+/// The slot of the name, where it is of that kind, and so many names are bound outside of the fiber.
+pub(crate) fn slot_of(
+    names: &[Bound<'_>],
+    foreign: usize,
+    kind: NameKind,
+    name: &[u8],
+) -> Option<usize>
+    requires { foreign ≤ length names.now }
+    ensures slot { result ≡ slot_of kind name.now (seen_past foreign (view_names names.now)) }
     ensures within { IfSome result (λ i. i < length names.now) }
 {
-    index_of(names, kind, name)
+    let (outside, own) = names.split_at(foreign);
+    match index_elsewhere(outside, kind, name) {
+        Some(index) => Some(index),
+        None => match index_of(own, kind, name) {
+            Some(index) => Some(foreign + index),
+            None => None,
+        },
+    }
 }

@@ -12,6 +12,7 @@ ghost use Rattle.fx_text.specs.View.{Answers, meaning};
 
 use crate::fault::{Fault, ReadError, TextFault, TextKind};
 use crate::part::{closing, main_word, refused};
+use crate::place::Place;
 use crate::reader::Reader;
 use crate::token::{Token, next};
 use fx_term::{Code, CodeFault, Node};
@@ -35,6 +36,18 @@ pub struct QueueDecl {
 pub struct Script {
     pub code: Code,
     pub queues: Vec<QueueDecl>,
+}
+
+impl Script {
+    ghost use Rattle.std.specs.Prelude.{◌+◌};
+    ghost use Rattle.fx_term.specs.Need.{need};
+
+    /// How many fibers there can be, main included: at most 1,024. Their numbers are below it.
+    pub fn total(&self) -> u32
+        ensures { result ≡ 1 + need (meaning self.now).term }
+    {
+        1 + self.code.need(self.code.root())
+    }
 }
 
 /// The script that the text says, or the text's first fault. It takes memory in proportion to the
@@ -91,8 +104,12 @@ fn main_nodes(alloc: Global, text: &[u8]) -> Result<Vec<Node>, ReadError>
     let mut reader = Reader {
         alloc,
         names: Vec::new(alloc),
-        turns: 1,
+        place: Place {
+            turns: 1,
+            foreign: 0,
+        },
         nodes: Vec::new(alloc),
+        needs: Vec::new(alloc),
     };
     let (_root, rest) = reader.term(MOST_OPEN, rest)?;
     let rest = closing(rest)?;

@@ -5,6 +5,7 @@ use std::alloc::{AllocError, Global};
 use std::process::Abort;
 use std::test::Fail;
 
+mod fibers;
 mod schedules;
 
 /// A text that is refused, the number of the fault's kind, and the byte that it is at.

@@ -41,8 +41,9 @@ fn need_of_both(running: Running, first: u32, then: u32) -> u32
     need.min(TOO_MANY)
 }
 
-/// The need of a node, from those of the nodes before it.
-fn need_of_node(node: Node, needs: &[u32]) -> u32
+/// The need of a node's term, the number of fibers that it can start, from those of the nodes before
+/// it. All needs above [`MOST_NEED`] are taken for the next number, in what it takes and what it gives.
+pub fn need_of_node(node: Node, needs: &[u32]) -> u32
     requires { All (λ c. c < length needs.now) (children node) }
     ensures { result ≡ capped (need_of_node (λ id. slice_index needs.now id) node) }
 {

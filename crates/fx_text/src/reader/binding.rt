@@ -1,10 +1,10 @@
 //! Reads the forms that do one term after another.
 ghost use Rattle.std.specs.Prelude.{◌≤◌, ◌+◌, ◌∷◌, length, IfOk};
-ghost use Rattle.fx_term.specs.Tree.{ChildrenComeFirst};
 ghost use Rattle.fx_text.specs.Limits.{most_nodes, form_spares};
 ghost use Rattle.fx_text.specs.Head.{ReadsHead};
 ghost use Rattle.fx_text.specs.Shape.{shape};
 ghost use Rattle.fx_text.specs.Reading.{group_at, parts_at};
+ghost use Rattle.fx_text.specs.Needs.{AreMade};
 ghost use Rattle.fx_text.specs.Trees.{AllBelow};
 ghost use Rattle.fx_text.specs.ReaderState.{scope_of, ids, IsReady, ReadsTerm, Joins};
 
@@ -17,6 +17,7 @@ use fx_term::{Arg, NameKind, Node, NodeId};
 use std::alloc::AllocError;
 
 impl<'a> Reader<'a> {
+    #[tactic(auto, using(crate::proofs::ScopeLaws::slot_at))]
     pub(super) fn let_head(&self, bytes: &'a [u8]) -> Result<(Head<'a>, &'a [u8]), ReadError>
         requires { IsReady 2 self.now bytes.now }
         ensures { ReadsHead Form.Let self.now bytes.now result }
@@ -24,7 +25,11 @@ impl<'a> Reader<'a> {
         let (x, rest) = binder(&self.names, bytes)?;
         let slot = self.names.len() as u32;
         Ok((
-            Head::Two(Inner::Name(NameKind::Value, x), Double::Let(slot)),
+            Head::Two(
+                Inner::Same,
+                Inner::Name(NameKind::Value, x),
+                Double::Let(slot),
+            ),
             rest,
         ))
     }
@@ -88,7 +93,7 @@ impl<'a> Reader<'a> {
         first: NodeId,
         mut others: Vec<NodeId>,
     ) -> Result<NodeId, AllocError>
-        requires tree { ChildrenComeFirst self.old.nodes.items }
+        requires made { AreMade self.old.nodes.items self.old.needs.items }
         requires below { AllBelow (length self.old.nodes.items) (ids (first ∷ others.items)) }
         requires small { length self.old.nodes.items + length others.items ≤ most_nodes }
         ensures { IfOk result (λ root. Joins self.old self.new first others.items root.0) }

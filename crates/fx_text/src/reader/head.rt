@@ -22,6 +22,8 @@ pub(crate) enum Inner<'a> {
     Same,
     /// With one name more.
     Name(NameKind, &'a [u8]),
+    /// That of another fiber.
+    Elsewhere,
     /// With the name of a loop's number, inside a loop of that count.
     Loop(u32, &'a [u8]),
 }
@@ -39,6 +41,7 @@ pub(crate) enum Single {
 pub(crate) enum Double {
     Let(u32),
     If(Arg),
+    Start(u32),
     OnCancel,
     Guarantee,
 }
@@ -50,14 +53,16 @@ pub(crate) enum Head<'a> {
     Leaf(Node),
     /// A term in that scope.
     One(Inner<'a>, Single),
-    /// A term in the scope of the form, and a term in that scope.
-    Two(Inner<'a>, Double),
+    /// A term in each of these scopes.
+    Two(Inner<'a>, Inner<'a>, Double),
     Seq,
     Handle,
     Forcer,
     /// The parts of a bracket, whose resource has that name.
     Bracket(&'a [u8]),
     Using,
+    /// What comes after each outcome of the fiber of that slot.
+    Join(u32),
 }
 
 impl<'a> Reader<'a> {
@@ -83,11 +88,18 @@ impl<'a> Reader<'a> {
             Form::For => self.for_head(bytes),
             Form::Mask => self.mask_head(bytes),
             Form::Poll => self.poll_head(bytes),
-            Form::OnCancel => Ok((Head::Two(Inner::Same, Double::OnCancel), bytes)),
+            Form::OnCancel => Ok((Head::Two(Inner::Same, Inner::Same, Double::OnCancel), bytes)),
             Form::Bracket => self.bracket_head(bytes),
-            Form::Guarantee => Ok((Head::Two(Inner::Same, Double::Guarantee), bytes)),
+            Form::Guarantee => Ok((
+                Head::Two(Inner::Same, Inner::Same, Double::Guarantee),
+                bytes,
+            )),
             Form::Forcer => Ok((Head::Forcer, bytes)),
             Form::Using => Ok((Head::Using, bytes)),
+            Form::Start => self.start_head(bytes),
+            Form::Join => self.join_head(bytes),
+            Form::Cancel => self.cancel_head(bytes),
+            Form::First => self.first_head(bytes),
         }
     }
 
@@ -135,6 +147,7 @@ impl<'a> Reader<'a> {
         match form {
             Double::Let(slot) => self.add(Node::Let(Some(slot), first, second)),
             Double::If(v) => self.add(Node::If(v, first, second)),
+            Double::Start(slot) => self.add(Node::Start(slot, first, second)),
             Double::OnCancel => self.add(Node::OnCancel(first, second)),
             Double::Guarantee => self.guarantee_node(first, second),
         }

@@ -14,7 +14,7 @@ impl<'a> Reader<'a> {
         requires { IsReady 2 self.now bytes.now }
         ensures { ReadsHead Form.Pure self.now bytes.now result }
     {
-        let (v, rest) = value(&self.names, bytes)?;
+        let (v, rest) = value(&self.names, self.place, bytes)?;
         Ok((Head::Leaf(Node::Pure(v)), rest))
     }
 
@@ -22,7 +22,7 @@ impl<'a> Reader<'a> {
         requires { IsReady 2 self.now bytes.now }
         ensures { ReadsHead Form.Raise self.now bytes.now result }
     {
-        let (v, rest) = value(&self.names, bytes)?;
+        let (v, rest) = value(&self.names, self.place, bytes)?;
         Ok((Head::Leaf(Node::Raise(v)), rest))
     }
 }

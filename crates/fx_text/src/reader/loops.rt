@@ -13,17 +13,18 @@ impl<'a> Reader<'a> {
         requires { IsReady 2 self.now bytes.now }
         ensures { ReadsHead Form.If self.now bytes.now result }
     {
-        let (v, rest) = value(&self.names, bytes)?;
-        Ok((Head::Two(Inner::Same, Double::If(v)), rest))
+        let (v, rest) = value(&self.names, self.place, bytes)?;
+        Ok((Head::Two(Inner::Same, Inner::Same, Double::If(v)), rest))
     }
 
+    #[tactic(auto, using(crate::proofs::ScopeLaws::slot_at))]
     pub(super) fn for_head(&self, bytes: &'a [u8]) -> Result<(Head<'a>, &'a [u8]), ReadError>
         requires { IsReady 2 self.now bytes.now }
         ensures { ReadsHead Form.For self.now bytes.now result }
     {
         let (i, rest) = binder(&self.names, bytes)?;
         let slot = self.names.len() as u32;
-        let (n, rest) = count(self.turns, rest)?;
+        let (n, rest) = count(self.place, rest)?;
         Ok((Head::One(Inner::Loop(n, i), Single::For(slot, n)), rest))
     }
 }

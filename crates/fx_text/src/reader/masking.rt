@@ -10,6 +10,7 @@ use crate::reader::head::{Head, Inner, Single};
 use fx_term::NameKind;
 
 impl<'a> Reader<'a> {
+    #[tactic(auto, using(crate::proofs::ScopeLaws::slot_at))]
     pub(super) fn mask_head(&self, bytes: &'a [u8]) -> Result<(Head<'a>, &'a [u8]), ReadError>
         requires { IsReady 2 self.now bytes.now }
         ensures { ReadsHead Form.Mask self.now bytes.now result }
@@ -26,7 +27,7 @@ impl<'a> Reader<'a> {
         requires { IsReady 2 self.now bytes.now }
         ensures { ReadsHead Form.Poll self.now bytes.now result }
     {
-        let (slot, rest) = name(&self.names, NameKind::Poll, bytes)?;
+        let (slot, rest) = name(&self.names, self.place, NameKind::Poll, bytes)?;
         Ok((Head::One(Inner::Same, Single::Poll(slot)), rest))
     }
 }

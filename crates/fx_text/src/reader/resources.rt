@@ -1,12 +1,12 @@
 //! Reads the forms that acquire and release.
 ghost use Rattle.std.specs.Prelude.{◌<◌, ◌≤◌, ◌+◌, ◌*◌, [], ◌∷◌, ◌++◌, length, IfOk};
 ghost use Rattle.fx_term.specs.Meaning.{term_of};
-ghost use Rattle.fx_term.specs.Tree.{ChildrenComeFirst};
 ghost use Rattle.fx_text.specs.Limits.{most_nodes, form_spares};
 ghost use Rattle.fx_text.specs.Group.{OfResource, OfResources};
 ghost use Rattle.fx_text.specs.Shape.{shape};
 ghost use Rattle.fx_text.specs.Reading.{group_at, parts_at};
 ghost use Rattle.fx_text.specs.Given.{Gives};
+ghost use Rattle.fx_text.specs.Needs.{AreMade};
 ghost use Rattle.fx_text.specs.Trees.{AllBelow, GrowsBy};
 ghost use Rattle.fx_text.specs.ReaderState.{scope_of, IsReady, ReadsTerm, WentThrough};
 ghost use Rattle.fx_text.specs.Head.{ReadsHead, still, double_term};
@@ -174,7 +174,7 @@ impl<'a> Reader<'a> {
         mut resources: Vec<Resource<'a>>,
         used: NodeId,
     ) -> Result<NodeId, AllocError>
-        requires tree { ChildrenComeFirst self.old.nodes.items }
+        requires made { AreMade self.old.nodes.items self.old.needs.items }
         requires below { AllBelow (length self.old.nodes.items) (roots_of resources.items) }
         requires has_node { used.0 < length self.old.nodes.items }
         requires small { length self.old.nodes.items + length resources.items ≤ most_nodes }

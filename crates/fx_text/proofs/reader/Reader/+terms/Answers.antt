@@ -1,10 +1,11 @@
 use Rattle.std.proofs.Common.{rules, arith, refl, [], sym, ◌∙◌}
 use Rattle.std.proofs.lemmas.List.Sorted.{IsPermutation-refl}
 use Rattle.fx_text.specs.declared.reader.Reader.{Reader}
-use Rattle.fx_text.specs.Group.{OfTerm, OfResource, OfResources}
+use Rattle.fx_text.specs.Group.{OfTerm, OfResource, OfResources, OfOutcome}
 use Rattle.fx_text.proofs.GroupLaws.{no_group}
 use Rattle.fx_text.specs.Reading.{group_at}
-use Rattle.fx_text.proofs.HeadLaws.{two_read, handle_means, bracket_means}
+use Rattle.fx_text.proofs.HeadLaws.{two_read, handle_means, forcer_went, bracket_means, join_means}
+use Rattle.fx_text.proofs.ReadLaws.{through_one, through_more, through_later, node_went}
 use Rattle.fx_text.proofs.ReaderLaws.{grows_none, grows_append}
 use Rattle.fx_text.proofs.BindLaws.{
   resource_read,
@@ -28,7 +29,7 @@ pub term-returns-then-room-eq0 : goal.term-returns-then-room-eq0
 term-returns-then-room-eq0 t c = no_group _ OfTerm _ _ _ c.if-room-eq0.true c.too_deep.ensures
 
 pub terms-loop-self-init : goal.terms-loop-self-init
-terms-loop-self-init t c = went_none _ _ _ _ c.new-roots.ensures.items c.requires.tree
+terms-loop-self-init t c = went_none _ _ _ _ c.new-roots.ensures.items c.requires.made
 
 pub terms-returns-in_err-root-clause-read : goal.terms-returns-in_err-root-clause-read
 terms-returns-in_err-root-clause-read t c = let h = went_fails _ _ _ _ _ _ c.loop-self.invariant c.in_err-root.field-0.0 (sym c.is_closing.ensures
@@ -45,7 +46,7 @@ pub parts-returns-in-Leaf : goal.parts-returns-in-Leaf
 parts-returns-in-Leaf t c = let h = c.leaf.ensures (group_at c.args.room) in search rules
 
 pub two-returns : goal.two-returns
-two-returns t c = two_read _ _ _ _ _ c.in_ok-first.first _ _ c.in_ok-first.ensures _ c.in_ok-second.second _ c.in_ok-second.ensures _ _ _
+two-returns t c = two_read _ _ _ _ _ _ c.in_ok-first.first _ _ c.in_ok-first.ensures _ c.in_ok-second.second _ c.in_ok-second.ensures _ _ _
     c.in_ok-rest.ensures.read c.in_ok-rest.ensures.shorter c.in_ok-double_node.ensures
 
 pub seq-returns : goal.seq-returns
@@ -62,14 +63,16 @@ handle-returns t c = record {
   read = handle_means _ _ _ _ _ _ c.in_ok-x.x c.in_ok-a.a c.in_ok-b.b _ c.len-slot.result _ _ _ _ _ c.in_ok-a.ensures c.deref.ensures.value
       (c.in_ok-x.ensures.read _) (omega (arith, c.len-slot.ensures, c.term.new.self.names.ok.0))
       c.in_ok-b.ensures c.in_ok-rest.ensures.read c.in_ok-add.ensures;
-  went = search rules;
+  went = node_went _ _ _ _ _ _ _ _ _ (through_more _ _ _ _ _ _ _ _ (through_later _ _ _ _ _ _ (through_one _ _ _ _ _ c.in_ok-a.ensures.went)
+      (omega (arith, c.in_ok-x.ensures.shorter))) c.in_ok-b.ensures.went) c.in_ok-rest.ensures.shorter c.in_ok-add.ensures;
   grows = c.in_ok-add.ensures.grows _ _ (IsPermutation-refl _) (grows_append _ _ _ _ _ c.in_ok-a.ensures.grows c.in_ok-b.ensures.grows);
 }
 
 pub forcer-returns : goal.forcer-returns
 forcer-returns t c = record {
   read = search rules;
-  went = search rules;
+  went = forcer_went _ _ _ _ _ _ _ _ _ _ _ _ _ _ _ _ _ _ c.in_ok-forced.ensures.went c.in_ok-zero.ensures c.in_ok-handled.ensures c.in_ok-then.ensures.went
+      c.in_ok-rest.ensures.shorter c.in_ok-add.ensures;
   grows = c.in_ok-add.ensures.grows _ _ (IsPermutation-refl _)
       (grows_append _ _ _ _ _ (c.in_ok-handled.ensures.grows _ _ (IsPermutation-refl _)
       (grows_append _ _ _ _ _ c.in_ok-forced.ensures.grows (c.in_ok-zero.ensures.grows _ [] (IsPermutation-refl []) (grows_none _))))
@@ -78,10 +81,11 @@ forcer-returns t c = record {
 
 pub bracket-returns : goal.bracket-returns
 bracket-returns t c = record {
-  read = bracket_means _ _ _ _ _ _ c.args.x c.in_ok-acquire.acquire c.in_ok-used.used c.in_ok-release.release _ c.len-slot.result _ _ _ _ _
+  read = bracket_means _ c.args.self.now _ _ _ _ c.args.x c.in_ok-acquire.acquire c.in_ok-used.used c.in_ok-release.release _ c.len-slot.result _ _ _ _ _
       (omega (arith, c.len-slot.ensures, c.args.self.now.names.ok.0)) c.in_ok-acquire.ensures c.in_ok-used.ensures c.in_ok-release.ensures
       c.in_ok-rest.ensures.read c.in_ok-add.ensures;
-  went = search rules;
+  went = node_went _ _ _ _ _ _ _ _ _ (through_more _ _ _ _ _ _ _ _ (through_more _ _ _ _ _ _ _ _ (through_one _ _ _ _ _
+      c.in_ok-acquire.ensures.went) c.in_ok-used.ensures.went) c.in_ok-release.ensures.went) c.in_ok-rest.ensures.shorter c.in_ok-add.ensures;
   grows = c.in_ok-add.ensures.grows _ _ (IsPermutation-refl _) (grows_append _ _ _ _ _
       (grows_append _ _ _ _ _ c.in_ok-acquire.ensures.grows c.in_ok-used.ensures.grows) c.in_ok-release.ensures.grows);
 }
@@ -106,7 +110,7 @@ resource-returns-clause-read t c = resource_read _ _ _ _ (record {
     c.in_ok-acquire.ensures.read c.in_ok-acquire.ensures.went c.in_ok-release.ensures.read c.in_ok-release.ensures.went c.in_ok-rest-2.ensures.read
 
 pub resources-loop-resources-init : goal.resources-loop-resources-init
-resources-loop-resources-init t c = binds_none _ _ _ _ c.new-resources.ensures.items c.requires.tree
+resources-loop-resources-init t c = binds_none _ _ _ _ c.new-resources.ensures.items c.requires.made
 
 pub resources-returns-in_err-resource-clause-read : goal.resources-returns-in_err-resource-clause-read
 resources-returns-in_err-resource-clause-read t c = let h = list_fails _ _ _ _ (omega (arith, c.if-room-eq0.false)) c.in_ok-rest.ensures.read _
@@ -116,40 +120,42 @@ pub resources-loop-resources-preserved : goal.resources-loop-resources-preserved
 resources-loop-resources-preserved t c = binds_more _ _ _ _ _ _ (sym c.is_closing.ensures
     ∙ c.if-is_closing.false) (binds_one _ _ c.loop-resources.self c.resource.new.self _ _ _ c.in_ok-resource.resource _ _ _ c.loop-resources.invariant
     c.in_ok-resource.ensures.read c.in_ok-resource.ensures.went c.in_ok-resource.ensures.grows c.in_ok-resource.ensures.shorter c.in_ok-push.ensures.items refl
-    refl c.in_ok-push-2.ensures.items)
+    refl refl c.in_ok-push-2.ensures.items c.requires.outside)
 
 pub resources-returns-in_err-rest-2-clause-read : goal.resources-returns-in_err-rest-2-clause-read
 resources-returns-in_err-rest-2-clause-read t c = let new : Reader = record {
   alloc = c.resource.new.self.alloc;
   names = c.push.new.self;
-  turns = c.resource.new.self.turns;
+  place = c.resource.new.self.place;
   nodes = c.resource.new.self.nodes;
+  needs = c.resource.new.self.needs;
 } in
     let h = list_unclosed _ _ new _ _ _ _ (omega (arith, c.if-room-eq0.false)) c.in_ok-rest.ensures.read (sym c.is_closing.ensures
     ∙ c.if-is_closing.true) (binds_one _ _ c.loop-resources.self c.resource.new.self _ _ _ c.in_ok-resource.resource _ _ _ c.loop-resources.invariant
     c.in_ok-resource.ensures.read c.in_ok-resource.ensures.went c.in_ok-resource.ensures.grows c.in_ok-resource.ensures.shorter c.in_ok-push.ensures.items refl
-    refl c.in_ok-push-2.ensures.items) _ c.in_err-rest-2.ensures.read in search rules
+    refl refl c.in_ok-push-2.ensures.items c.requires.outside) _ c.in_err-rest-2.ensures.read in search rules
 
 pub resources-returns : goal.resources-returns
 resources-returns t c =
     let new : Reader = record {
       alloc = c.resource.new.self.alloc;
       names = c.push.new.self;
-      turns = c.resource.new.self.turns;
+      place = c.resource.new.self.place;
       nodes = c.resource.new.self.nodes;
+      needs = c.resource.new.self.needs;
     } in
     let h = list_read _ _ new _ _ _ _ (omega (arith, c.if-room-eq0.false)) c.in_ok-rest.ensures.read (sym c.is_closing.ensures
     ∙ c.if-is_closing.true) (binds_one _ _ c.loop-resources.self c.resource.new.self _ _ _ c.in_ok-resource.resource _ _ _ c.loop-resources.invariant
     c.in_ok-resource.ensures.read c.in_ok-resource.ensures.went c.in_ok-resource.ensures.grows c.in_ok-resource.ensures.shorter c.in_ok-push.ensures.items
-    refl refl c.in_ok-push-2.ensures.items) _ c.in_ok-rest-2.ensures.read c.in_ok-rest.ensures.shorter c.in_ok-rest-2.ensures.shorter in
+    refl refl refl c.in_ok-push-2.ensures.items c.requires.outside) _ c.in_ok-rest-2.ensures.read c.in_ok-rest.ensures.shorter c.in_ok-rest-2.ensures.shorter in
     record { read = h.read; binds = h.binds; grows = h.grows }
 
 pub using-returns-in_err-used : goal.using-returns-in_err-used
-using-returns-in_err-used t c = let h = unused _ _ _ _ _ _ c.in_ok-resources.ensures.binds c.in_ok-resources.ensures.read _ c.in_err-used.ensures in
+using-returns-in_err-used t c = let h = unused _ _ _ _ _ _ c.in_ok-resources.ensures.binds c.in_ok-resources.ensures.read c.requires.outside _ c.in_err-used.ensures in
     search rules
 
 pub using-returns-in_err-rest : goal.using-returns-in_err-rest
-using-returns-in_err-rest t c = let h = using_unclosed _ _ _ _ _ _ c.in_ok-resources.ensures.binds c.in_ok-resources.ensures.read _ _ c.in_ok-used.ensures.read
+using-returns-in_err-rest t c = let h = using_unclosed _ _ _ _ _ _ c.in_ok-resources.ensures.binds c.in_ok-resources.ensures.read c.requires.outside _ _ c.in_ok-used.ensures.read
     _ c.in_err-rest.ensures.read in search rules
 
 pub using-nested-requires-clause-below : goal.using-nested-requires-clause-below
@@ -160,10 +166,24 @@ using-returns t c =
     let grows = c.in_ok-nested.ensures.grows _ (grows_append _ _ _ _ _ c.in_ok-resources.ensures.grows c.in_ok-used.ensures.grows) in
     record {
       read = using_means _ _ _ _ _ _ _ _ _ _ _ _ _ c.in_ok-resources.ensures.binds c.in_ok-used.ensures.went c.in_ok-nested.ensures
-          (record { names_left = c.truncate.ensures.items; turns = refl; nodes = refl }) (omega (arith, c.len-outside.ensures, c.args.self.now.names.ok.0))
-          c.in_ok-rest.ensures.shorter _ c.in_ok-resources.ensures.read c.in_ok-used.ensures.read c.in_ok-rest.ensures.read;
+          (record { names_left = c.truncate.ensures.items; place = refl; nodes = refl }) (omega (arith, c.len-outside.ensures, c.args.self.now.names.ok.0))
+          c.in_ok-rest.ensures.shorter _ c.requires.outside c.in_ok-resources.ensures.read c.in_ok-used.ensures.read c.in_ok-rest.ensures.read;
       went = using_went _ _ _ _ _ _ _ _ _ _ _ _ _ c.in_ok-resources.ensures.binds c.in_ok-used.ensures.went c.in_ok-nested.ensures
-          (record { names_left = c.truncate.ensures.items; turns = refl; nodes = refl }) (omega (arith, c.len-outside.ensures, c.args.self.now.names.ok.0))
+          (record { names_left = c.truncate.ensures.items; place = refl; nodes = refl }) (omega (arith, c.len-outside.ensures, c.args.self.now.names.ok.0))
           c.in_ok-rest.ensures.shorter grows;
       grows = grows;
     }
+
+pub join-returns : goal.join-returns
+join-returns t c = record {
+  read = join_means _ c.args.self.now _ _ _ _ c.args.fiber c.in_ok-succeeded.succeeded c.in_ok-errored.errored c.in_ok-canceled.canceled _ c.len-slot.result _ _ _ _ _
+      (omega (arith, c.len-slot.ensures, c.args.self.now.names.ok.0)) c.in_ok-succeeded.ensures c.in_ok-errored.ensures c.in_ok-canceled.ensures
+      c.in_ok-rest.ensures.read c.in_ok-add.ensures;
+  went = node_went _ _ _ _ _ _ _ _ _ (through_more _ _ _ _ _ _ _ _ (through_more _ _ _ _ _ _ _ _ (through_one _ _ _ _ _
+      c.in_ok-succeeded.ensures.went) c.in_ok-errored.ensures.went) c.in_ok-canceled.ensures.went) c.in_ok-rest.ensures.shorter c.in_ok-add.ensures;
+  grows = c.in_ok-add.ensures.grows _ _ (IsPermutation-refl _) (grows_append _ _ _ _ _
+      (grows_append _ _ _ _ _ c.in_ok-succeeded.ensures.grows c.in_ok-errored.ensures.grows) c.in_ok-canceled.ensures.grows);
+}
+
+pub outcome-returns-then-room-eq0 : goal.outcome-returns-then-room-eq0
+outcome-returns-then-room-eq0 t c = no_group _ OfOutcome _ _ _ c.if-room-eq0.true c.too_deep.ensures

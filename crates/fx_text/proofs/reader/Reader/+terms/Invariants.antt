@@ -39,6 +39,12 @@ decreases-resources l = 5 * l.room + 2
 abbrev pub decreases-resource : goal.decreases-resource
 decreases-resource l = 5 * l.room + 2
 
+abbrev pub decreases-join : goal.decreases-join
+decreases-join l = 5 * l.room + 3
+
+abbrev pub decreases-outcome : goal.decreases-outcome
+decreases-outcome l = 5 * l.room + 2
+
 abbrev pub decreases-parts : goal.decreases-parts
 decreases-parts l = 5 * l.room + 4
 

@@ -3,7 +3,7 @@ use Rattle.fx_text.proofs.ResourceLaws.{nests_none, nests_parts, nests_more, nes
 use Rattle.fx_text.proofs.reader.Reader.nested.Goals as goal
 
 pub loop-r-init : goal.loop-r-init
-loop-r-init c = nests_none _ _ _ c.requires.tree c.requires.below c.requires.has_node
+loop-r-init c = nests_none _ _ _ c.requires.made c.requires.below c.requires.has_node
 
 pub add-requires-clause-children : goal.add-requires-clause-children
 add-requires-clause-children c = nests_parts _ _ _ _ _ _ _ _ c.in-Some.ensures.items c.loop-r.invariant

@@ -1,0 +1,197 @@
+//! Forms that start fibers and wait for them, and what the language says of each.
+use super::*;
+
+/// Names, parts and groups of these forms.
+static REFUSED_FIBERS: [Refusal; 18] = [
+    (
+        b"(main (mask p (start h (poll p (pure 1)) (pure 2))))",
+        7,
+        29,
+    ),
+    (
+        b"(main (mask p (start h (mask p (pure 1)) (pure 2))))",
+        8,
+        29,
+    ),
+    (b"(main (start h (cancel h) (pure 1)))", 7, 23),
+    (b"(main (let x (pure 1) (cancel x)))", 7, 30),
+    (b"(main (cancel h))", 7, 14),
+    (b"(main (start h (pure 1) (pure h)))", 7, 30),
+    (b"(main (start h (pure 1) (cancel 5)))", 6, 32),
+    (b"(main (start h (pure 1) (first h)))", 6, 32),
+    (b"(main (start h (pure 1) (first h k)))", 7, 33),
+    (
+        b"(main (start h (pure 1) (start h (pure 1) (pure 2))))",
+        8,
+        31,
+    ),
+    (b"(main (start h (pure 1) (join h x)))", 6, 32),
+    (b"(main (start h (pure 1) (join h (pure 1))))", 6, 38),
+    (b"(main (start h (pure 1) (join h (h (pure 1)))))", 8, 33),
+    (
+        b"(main (start h (pure 1) (join h (x (pure x) (pure 1)))))",
+        6,
+        44,
+    ),
+    (
+        b"(main (start h (pure 1) (join h (x (pure x)) (e (pure x)))))",
+        7,
+        54,
+    ),
+    (
+        b"(main (start h (pure 1) (join h (x (pure x)) (e (pure e)))))",
+        6,
+        57,
+    ),
+    (
+        b"(main (start h (pure 1) (join h (x (pure x)) (e (pure e)) (pure x))))",
+        7,
+        64,
+    ),
+    (b"(main (start h (pure 1) (cancel h) (join h)))", 6, 35),
+];
+
+/// Forms that can start more than 1,023 fibers, and a fault that comes before their `)`.
+static REFUSED_NEEDS: [Refusal; 7] = [
+    (b"(main (for i 2000 (start h (pure i) (pure 0))))", 12, 6),
+    (b"(main (for i 1024 (start h (cede) (cede))))", 12, 6),
+    (
+        b"(main (seq (cede) (for i 1024 (start h (cede) (cede))) (foo)))",
+        12,
+        18,
+    ),
+    (
+        b"(main (seq (for i 1000 (start h (cede) (cede))) (for i 24 (start h (cede) (cede)))))",
+        12,
+        6,
+    ),
+    (
+        b"(main (start h (for i 1023 (start k (cede) (cede))) (cede)))",
+        12,
+        6,
+    ),
+    (
+        b"(main (if 0 (for i 1023 (start h (cede) (cede))) (for i 1024 (start h (cede) (cede)))))",
+        12,
+        49,
+    ),
+    (b"(main (for i 1024 (start h (cede) (cede)) (cede)))", 6, 42),
+];
+
+#[test]
+fn refuses_what_is_no_script_of_fibers(rt: HostRuntime) {
+    assert_refused(&rt, rt.alloc(), &REFUSED_FIBERS);
+    assert_refused(&rt, rt.alloc(), &REFUSED_NEEDS);
+}
+
+/// Texts that are scripts, and how many fibers there can be.
+static TOTALS: [(&[u8], u32); 9] = [
+    (b"(main (cede))", 1),
+    (b"(main (start h (pure 1) (cancel h)))", 2),
+    (b"(main (start h (pure 1) (first h h)))", 2),
+    (
+        b"(main (start h (pure 1) (start k (cancel h) (first k h))))",
+        3,
+    ),
+    (
+        b"(main (mask p (start h (mask r (poll r (pure 1))) (poll p (pure 2)))))",
+        2,
+    ),
+    (b"(main (for i 1023 (start h (pure i) (pure 0))))", 1024),
+    (
+        b"(main (if 0 (for i 1023 (start h (cede) (cede))) (for i 1023 (start h (cede) (cede)))))",
+        1024,
+    ),
+    (
+        b"(main (seq (for i 1000 (start h (cede) (cede))) (for i 23 (start h (cede) (cede)))))",
+        1024,
+    ),
+    (
+        b"(main (start h (start k (cede) (cede)) (join h (x (start k (cede) (cede))) (e (start k (cede) (start l (cede) (cede)))) (cede))))",
+        5,
+    ),
+];
+
+fn total(alloc: Global, text: &[u8]) -> Option<u32> {
+    match parse(alloc, text) {
+        Ok(script) => Some(script.total()),
+        Err(_) => None,
+    }
+}
+
+#[test]
+fn counts_the_fibers(rt: HostRuntime) {
+    for &(text, fibers) in &TOTALS {
+        assert_eq!(rt; total(rt.alloc(), text), Some(fibers));
+    }
+}
+
+/// So many starts one after another, and the groups of a `join`, which have a parenthesis each.
+static REPEATED_FIBERS: [Repeated; 4] = [
+    (b"(main (seq", b"(start h (cede) (cede))", 1023, b"))", None),
+    (
+        b"(main (seq",
+        b"(start h (cede) (cede))",
+        1024,
+        b"))",
+        Some((12, 6)),
+    ),
+    (
+        b"(main ",
+        b"(handle ",
+        96,
+        b"(start h (pure 1) (join h (x (pure x)) (e (pure e)) (pure 3)))",
+        Some((11, 803)),
+    ),
+    (
+        b"(main ",
+        b"(handle ",
+        95,
+        b"(start h (pure 1) (join h (x (pure x)) (e (pure e)) (pure 3)))",
+        Some((4, 828)),
+    ),
+];
+
+#[test]
+fn limits_fibers_and_groups(rt: HostRuntime) -> Result<(), Fail> {
+    assert_repeated(&rt, rt.alloc(), &REPEATED_FIBERS)
+}
+
+static FIBER_NODES: [Nodes; 3] = [
+    (
+        b"(main (start h (pure 1) (cancel h)))",
+        &[
+            Node::Pure(Arg::Number(1)),
+            Node::Cancel(0),
+            Node::Start(0, NodeId(0), NodeId(1)),
+        ],
+    ),
+    (
+        b"(main (start h (pure 1) (start k (cancel h) (first k h))))",
+        &[
+            Node::Pure(Arg::Number(1)),
+            Node::Cancel(0),
+            Node::First(1, 0),
+            Node::Start(1, NodeId(1), NodeId(2)),
+            Node::Start(0, NodeId(0), NodeId(3)),
+        ],
+    ),
+    (
+        b"(main (start h (pure 1) (join h (x (pure x)) (e (raise e)) (pure 3))))",
+        &[
+            Node::Pure(Arg::Number(1)),
+            Node::Pure(Arg::Slot(1)),
+            Node::Raise(Arg::Slot(1)),
+            Node::Pure(Arg::Number(3)),
+            Node::Join(0, 1, NodeId(1), 1, NodeId(2), NodeId(3)),
+            Node::Start(0, NodeId(0), NodeId(4)),
+        ],
+    ),
+];
+
+#[test]
+fn makes_the_nodes_of_fibers(rt: HostRuntime) {
+    for &(text, nodes) in &FIBER_NODES {
+        assert!(rt; has_nodes(rt.alloc(), text, nodes));
+    }
+}
