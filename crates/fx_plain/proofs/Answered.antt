@@ -19,6 +19,7 @@ use Rattle.fx_plain.specs.Text.{queue_names, report_text}
 use Rattle.fx_plain.specs.Refusal.{refusal_text}
 use Rattle.fx_plain.specs.Input.{TakesPrefix, ReadsText, FailsToRead}
 use Rattle.fx_plain.specs.Answer.{status_of, IsAnswer, replayed, refused}
+use Rattle.fx_plain.proofs.FirstFault.{unless_memory, has_no_meaning}
 
 pub answer_replayed : (text : List ℕ) (picks : List Pick) (m : Meaning) (r : ReportView) (status : ℕ) (written : List ℕ)
     → IsScript text m → IsReplay (script_of m) picks r → status ≡ status_of r → written ≡ report_text (queue_names m) r
@@ -30,14 +31,10 @@ pub answer_refused : (text : List ℕ) (picks : List Pick) (f : TextFault) (writ
     → ((m : Meaning) → IsScript text m → (f ≡ record { kind = kind.Memory; at = 0 }) ⊎ (◌≡◌ {A = Result Meaning TextFault} (Ok m) (Err f)))
     → ((f ≡ record { kind = kind.Memory; at = 0 }) ⊎ (reading text ≡ Err f))
     → written ≡ refusal_text f → IsAnswer text picks 3 written
-answer_refused text picks f written ample only (inl e) w = absurd (ample (ap (λ (g : TextFault). g.kind) e))
-answer_refused text picks f written ample only (inr e) w = rw w (refused no_script e)
-  where
-    no_script : (m : Meaning) → IsScript text m → ⊥
-    no_script m s = elim (only m s) [ inl e ↦ ample (ap (λ (g : TextFault). g.kind) e) | inr e ↦ cc ]
+answer_refused text picks f written ample only read w = rw w (refused (has_no_meaning f ample only) (unless_memory f ample read))
 
 -- a text that is too long has that for its first fault
-read_long : (text : List ℕ) → 65536 < length text → reading text ≡ Err (record { kind = kind.Length; at = 65536 })
+pub read_long : (text : List ℕ) → 65536 < length text → reading text ≡ Err (record { kind = kind.Length; at = 65536 })
 read_long text h = let long : nat_lt 65536 (length text) ≡ true = lt-ltb _ _ h in rw long refl
 
 -- so all such texts have one answer

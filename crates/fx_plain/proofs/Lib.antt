@@ -35,4 +35,5 @@ pub mod QueueNames
 pub mod WorldClasses
 pub mod WaitSteps
 pub mod Taken
+pub mod FirstFault
 pub mod Answered

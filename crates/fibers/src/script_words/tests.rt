@@ -1,15 +1,15 @@
 use super::*;
-use fx_text::parse;
+use crate::command_fault::CommandFault;
+use crate::texts::script_in;
 use std::process::Abort;
 use std::test::Fail;
 
 /// Sees that the text is refused, and that this is said of it.
 fn assert_explains(rt: &impl Abort, alloc: Global, text: &str, words: &str) -> Result<(), Fail> {
-    let Err(fault) = parse(alloc, text.as_bytes()) else {
-        return Ok(assert!(rt; false, "{text} is a script"));
-    };
-    let told = explain(alloc, "-", text.as_bytes(), fault)?;
-    assert_eq!(rt; told.as_str(), words);
+    match script_in(alloc, "-", text.as_bytes()) {
+        Err(CommandFault::Refused(refusal)) => assert_eq!(rt; refusal.words.as_str(), words),
+        _ => assert!(rt; false, "{text} is not refused"),
+    }
     Ok(())
 }
 

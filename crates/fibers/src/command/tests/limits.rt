@@ -25,13 +25,15 @@ fn loop_of_a_million_turns_ends(rt: HostRuntime) -> Result<(), Fail> {
         "(main (for i 1000000 (cede)))",
         "(main (for i 1000 (for j 1000 (cede))))",
     ] {
-        let (status, printed) = replayed(rt.alloc(), script.as_bytes())?;
-        assert_eq!(rt;
-            printed.as_slice(),
-            b"fiber 0 succeeded 0\n".as_slice(),
+        assert!(rt;
+            prints(
+                rt.alloc(),
+                script.as_bytes(),
+                ENDED,
+                "fiber 0 succeeded 0\n"
+            ),
             "{script}"
         );
-        assert_eq!(rt; status, ENDED, "{script}");
     }
     Ok(())
 }
@@ -43,28 +45,23 @@ fn limit_of_open_parentheses_is_100(rt: HostRuntime) -> Result<(), Fail> {
         text.extend_from_slice(b" e (pure e))")?;
     }
     text.extend_from_slice(b")")?;
-    let (status, printed) = replayed(rt.alloc(), &text)?;
-    assert_eq!(rt; printed.as_slice(), b"fiber 0 succeeded 9\n".as_slice());
-    assert_eq!(rt; status, ENDED);
+    assert!(rt; prints(rt.alloc(), &text, ENDED, "fiber 0 succeeded 9\n"));
 
     let text = repeated(rt.alloc(), b"(main ", b"(handle ", 99, b"(raise 9)")?;
-    let (status, printed) = replayed(rt.alloc(), &text)?;
-    assert_eq!(rt; printed.as_slice(), b"refused 11 at 798\n".as_slice());
-    assert_eq!(rt; status, REFUSED);
+    assert!(rt; prints(rt.alloc(), &text, REFUSED, "refused 11 at 798\n"));
     Ok(())
 }
 
 #[test]
 fn limit_of_a_text_is_65536_bytes(rt: HostRuntime) -> Result<(), Fail> {
     let script = b"(main (pure 5))";
-    for (spaces, line) in [
-        (65_521, "fiber 0 succeeded 5\n"),
-        (65_522, "refused 1 at 65536\n"),
-        (70_000, "refused 1 at 65536\n"),
+    for (spaces, status, line) in [
+        (65_521, ENDED, "fiber 0 succeeded 5\n"),
+        (65_522, REFUSED, "refused 1 at 65536\n"),
+        (70_000, REFUSED, "refused 1 at 65536\n"),
     ] {
         let text = repeated(rt.alloc(), script, b" ", spaces, b"")?;
-        let (_, printed) = replayed(rt.alloc(), &text)?;
-        assert_eq!(rt; printed.as_slice(), line.as_bytes(), "{spaces} spaces");
+        assert!(rt; prints(rt.alloc(), &text, status, line), "{spaces} spaces");
     }
     Ok(())
 }
@@ -72,12 +69,12 @@ fn limit_of_a_text_is_65536_bytes(rt: HostRuntime) -> Result<(), Fail> {
 /// As much stack as a worker's thread has.
 const SMALL_STACK: usize = 2 * 1024 * 1024;
 
-/// Does a replay of this text print this line, and answer that all has ended?
-fn prints(alloc: Global, text: &[u8], line: &[u8]) -> bool {
-    let mut reader = text;
-    let mut printed = Vec::new(alloc);
-    let answer = replay_text(alloc, &mut reader, &[], &mut printed);
-    answer == Ok(ENDED) && printed.as_slice() == line
+/// Does a replay of this text print this line, and answer this status?
+fn prints(alloc: Global, text: &[u8], status: u8, line: &str) -> bool {
+    match replayed(alloc, text) {
+        Ok(ran) => ran.status == status && ran.out.as_slice() == line.as_bytes(),
+        Err(_) => false,
+    }
 }
 
 #[test]
@@ -87,7 +84,7 @@ fn seq_of_as_many_parts_as_a_text_holds_on_a_small_stack(rt: HostRuntime) -> Res
     assert!(rt; text.len() <= 65_536 && text.len() + 8 > 65_536);
     let replay = Builder::new().stack_size(SMALL_STACK).spawn(
         &rt,
-        move || prints(alloc, &text, b"fiber 0 succeeded 1\n"),
+        move || prints(alloc, &text, ENDED, "fiber 0 succeeded 1\n"),
     )?;
     assert!(rt; replay.join(&rt));
     Ok(())
@@ -116,7 +113,7 @@ fn using_of_3000_resources_on_a_small_stack(rt: HostRuntime) -> Result<(), Fail>
     assert!(rt; text.len() <= 65_536);
     let replay = Builder::new().stack_size(SMALL_STACK).spawn(
         &rt,
-        move || prints(alloc, &text, b"fiber 0 succeeded 1\n"),
+        move || prints(alloc, &text, ENDED, "fiber 0 succeeded 1\n"),
     )?;
     assert!(rt; replay.join(&rt));
     Ok(())
