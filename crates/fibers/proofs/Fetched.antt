@@ -67,7 +67,7 @@ no_schedule_of_prefix line text read = of_prefix (IsNoSchedule line) 2097152 tex
 pub of_text : (Holds : List ℕ → Type 0) (most : ℕ) (known : Option (List ℕ)) (read : List ℕ) → HoldsOfPrefix Holds most → IsPrefixOf most known read
     → Holds read → OfText known Holds
 of_text Holds most None read of p h = record { text = read; is = tt; holds = h }
-of_text Holds most (Some all) read of p h = record { text = all; is = refl; holds = of all read p h }
+of_text Holds most (Some all) read of p h = record { text = all; is = refl; holds = of all read p.first h }
 
 -- and so do the two answers of a reader
 pub if_fetched : {X : Type 0} (Says : X → List ℕ → Type 0) (most : ℕ) (known : Option (List ℕ)) (read : List ℕ) (r : Result X CommandFault)

@@ -9,8 +9,8 @@ use Rattle.fibers.specs.CommandFault.{IsUnreadOrRefusal}
 use Rattle.fibers.specs.Refused.{IsNoScript, IsNoSchedule}
 
 -- the first bytes of the text of which so much is known, as many as are wanted, or all
-abbrev pub IsPrefixOf : ℕ → Option (List ℕ) → List ℕ → Type 0
-IsPrefixOf most known read = IfSome known (λ all. read ≡ take most all)
+pub record IsPrefixOf (most : ℕ) (known : Option (List ℕ)) (read : List ℕ) : Type 0 where
+  pub first : IfSome known (λ all. read ≡ take most all)
 
 -- this holds of the text of which so much is known
 pub record OfText (known : Option (List ℕ)) (Holds : List ℕ → Type 0) : Type 0 where

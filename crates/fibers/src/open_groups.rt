@@ -17,32 +17,57 @@ const FIBER: &str = "the name of a fiber";
 
 const RESOURCE: &str = "a resource `(x T T)`";
 
-const JOINED: &str = "a name and a term `(x T)`";
+const JOINED: &str = "a group `(x T)`";
 
 const CLOSE: &str = "`)`";
 
-/// What stands after a `(` that is open: its word, if it has one, the first word after that, and how
-/// many parts there are after the first word.
+/// What a `(` opens.
+#[derive(Clone, Copy, PartialEq, Eq)]
+enum GroupKind {
+    Form,
+    /// The resources of a `using`.
+    Resources,
+    Resource,
+    /// How a `join` goes on after an outcome.
+    Joined,
+}
+
+/// What stands after a `(` that is open: its first word, the one after that if it is no part of another
+/// group, and how many parts there are after the first word.
 #[derive(Clone, Copy)]
 struct Group<'a> {
+    kind: GroupKind,
     word: Option<&'a [u8]>,
     name: Option<&'a [u8]>,
     parts: usize,
 }
 
 impl Group<'_> {
-    fn has_word(&self, word: &[u8]) -> bool {
-        self.word == Some(word)
+    fn is_form(&self, word: &[u8]) -> bool {
+        self.kind == GroupKind::Form && self.word == Some(word)
     }
 
-    /// Whether the part that is open runs in a new fiber.
+    /// What a `(` opens as the next part of this group.
+    fn kind_of_part(&self) -> GroupKind {
+        if self.kind == GroupKind::Resources {
+            GroupKind::Resource
+        } else if self.is_form(b"using") && self.parts == 0 {
+            GroupKind::Resources
+        } else if self.is_form(b"join") && (self.parts == 1 || self.parts == 2) {
+            GroupKind::Joined
+        } else {
+            GroupKind::Form
+        }
+    }
+
+    /// Whether the next part runs in a new fiber.
     fn starts_a_fiber(&self) -> bool {
-        self.has_word(b"race") || self.has_word(b"start") && self.parts == 1
+        self.is_form(b"race") || self.is_form(b"start") && self.parts == 1
     }
 
     /// Whether this is a mask whose poll has that name.
     fn is_mask_of(&self, poll: &[u8]) -> bool {
-        self.has_word(b"mask") && self.name == Some(poll)
+        self.is_form(b"mask") && self.name == Some(poll)
     }
 }
 
@@ -88,7 +113,12 @@ impl<'a> OpenGroups<'a> {
 
     fn add_byte(&mut self, byte: u8) -> Result<(), AllocError> {
         if byte == b'(' {
+            let kind = self
+                .groups
+                .last()
+                .map_or(GroupKind::Form, |group| group.kind_of_part());
             self.groups.push(Group {
+                kind,
                 word: None,
                 name: None,
                 parts: 0,
@@ -120,43 +150,27 @@ impl<'a> OpenGroups<'a> {
         is_of_another && self.groups.iter().any(|g| g.is_mask_of(poll))
     }
 
-    /// Whether the innermost group is no form: a resource of `using`, or how a `join` goes on.
-    fn is_part_of_a_form(&self) -> bool {
-        match self.groups.as_slice() {
-            [.., outer, _inner] => outer.word.is_none()
-                || outer.has_word(b"join") && outer.parts < 3,
-            _ => false,
-        }
-    }
-
-    /// The parts of the innermost group after its first word.
-    fn parts(&self, word: &[u8]) -> &'static [&'static str] {
-        if !self.is_part_of_a_form() {
-            return parts_of(word);
-        }
-        match self.groups.as_slice() {
-            [.., outer, _inner] if outer.word.is_none() => &[TERM, TERM],
-            _ => &[TERM],
-        }
-    }
-
     /// What is wanted at the place, in words.
     pub(crate) fn wanted(&self) -> &'static str {
         let Some(group) = self.groups.last() else {
             return "`(`";
         };
         let Some(word) = group.word else {
-            return if self.is_part_of_a_form() {
-                NAME
-            } else if group.parts == 0 {
-                RESOURCE
-            } else {
-                CLOSE
+            return match group.kind {
+                GroupKind::Form => "the word of a form",
+                GroupKind::Resources if group.parts == 0 => RESOURCE,
+                GroupKind::Resources => CLOSE,
+                GroupKind::Resource | GroupKind::Joined => NAME,
             };
         };
-        match self.parts(word).get(group.parts) {
+        let parts: &[&'static str] = match group.kind {
+            GroupKind::Form | GroupKind::Resources => parts_of(word),
+            GroupKind::Resource => &[TERM, TERM],
+            GroupKind::Joined => &[TERM],
+        };
+        match parts.get(group.parts) {
             Some(part) => part,
-            None if word == b"seq".as_slice() => "a term or `)`",
+            None if group.is_form(b"seq") => "a term or `)`",
             None => CLOSE,
         }
     }

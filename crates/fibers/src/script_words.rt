@@ -27,7 +27,7 @@ fn unknown(alloc: Global, before: &[u8], token: &[u8], shown: &str) -> Result<St
     let kind = open.wanted_kind();
     if kind == "poll" && open.is_poll_of_another_fiber(token) {
         return format!(in alloc;
-            "the mask of poll {shown} is of another fiber, and what stands here runs in a new one"
+            "the poll {shown} is another fiber's, since this part runs in a new fiber"
         );
     }
     format!(in alloc; "a {kind} is wanted here, and no {kind} {shown} is in scope")
