@@ -1,12 +1,4 @@
-pub mod Bytes
-pub mod Answered
-pub mod SimpleScripts
-pub mod Waits
-pub mod Gone
-pub mod OneEnding
-pub mod Computed
-pub mod Rows
-pub mod Endings
-pub mod LastEvents
-pub mod RunsAlone
-pub mod AllRuns
+mod Refused
+mod Performed
+mod Fetched
+mod CommandAnswer

@@ -1,8 +1,7 @@
-pub mod Fault
-pub mod Input
-pub mod Ending
-pub mod Text
-pub mod Answer
-pub mod Replay
-pub mod Alone
+pub mod FetchFault
+pub mod Refused
+pub mod CommandFault
+pub mod Fetched
+pub mod Performed
+pub mod CommandAnswer
 pub mod Place

@@ -1,6 +1,6 @@
 //! What is wanted at a place of a script, told by the parentheses that are open there.
-ghost use Rattle.std.specs.Prelude.{◌≤◌, length};
 
+use crate::explain::word_len;
 use std::alloc::{AllocError, Global};
 
 const TERM: &str = "a term";
@@ -11,33 +11,70 @@ const NUMBER: &str = "a number";
 
 const VALUE: &str = "a number or the name of a value";
 
-pub(crate) const POLL: &str = "the name of a poll";
+const POLL: &str = "the name of a poll";
+
+const FIBER: &str = "the name of a fiber";
 
 const RESOURCE: &str = "a resource `(x T T)`";
 
+const JOINED: &str = "a group `(x T)`";
+
 const CLOSE: &str = "`)`";
 
-/// What stands after a `(` that is open: its word, if it has one, and the parts after that.
+/// What a `(` opens.
+#[derive(Clone, Copy, PartialEq, Eq)]
+enum GroupKind {
+    Form,
+    /// The resources of a `using`.
+    Resources,
+    Resource,
+    /// How a `join` goes on after an outcome.
+    Joined,
+}
+
+/// What stands after a `(` that is open: its first word, the one after that if it is no part of another
+/// group, and how many parts there are after the first word.
 #[derive(Clone, Copy)]
 struct Group<'a> {
+    kind: GroupKind,
     word: Option<&'a [u8]>,
+    name: Option<&'a [u8]>,
     parts: usize,
+}
+
+impl Group<'_> {
+    fn is_form(&self, word: &[u8]) -> bool {
+        self.kind == GroupKind::Form && self.word == Some(word)
+    }
+
+    /// What a `(` opens as the next part of this group.
+    fn kind_of_part(&self) -> GroupKind {
+        if self.kind == GroupKind::Resources {
+            GroupKind::Resource
+        } else if self.is_form(b"using") && self.parts == 0 {
+            GroupKind::Resources
+        } else if self.is_form(b"join") && (self.parts == 1 || self.parts == 2) {
+            GroupKind::Joined
+        } else {
+            GroupKind::Form
+        }
+    }
+
+    /// Whether the next part runs in a new fiber.
+    fn starts_a_fiber(&self) -> bool {
+        self.is_form(b"race") || self.is_form(b"start") && self.parts == 1
+    }
+
+    /// Whether this is a mask whose poll has that name.
+    fn is_mask_of(&self, poll: &[u8]) -> bool {
+        self.is_form(b"mask") && self.name == Some(poll)
+    }
 }
 
 /// The groups that are open after some tokens, the outermost first.
 #[derive(Drop)]
 pub(crate) struct OpenGroups<'a> {
     groups: Vec<Group<'a>>,
-}
-
-/// How many bytes of a word stand at the front.
-pub(crate) fn word_len(bytes: &[u8]) -> usize
-    ensures { result ≤ length bytes.now }
-{
-    bytes
-        .iter()
-        .take_while(|b| b.is_ascii_lowercase() || b.is_ascii_digit())
-        .count()
 }
 
 impl<'a> OpenGroups<'a> {
@@ -66,6 +103,9 @@ impl<'a> OpenGroups<'a> {
             if group.word.is_none() && group.parts == 0 {
                 group.word = Some(word);
             } else {
+                if group.parts == 0 {
+                    group.name = Some(word);
+                }
                 group.parts = group.parts.saturating_add(1);
             }
         }
@@ -73,8 +113,14 @@ impl<'a> OpenGroups<'a> {
 
     fn add_byte(&mut self, byte: u8) -> Result<(), AllocError> {
         if byte == b'(' {
+            let kind = self
+                .groups
+                .last()
+                .map_or(GroupKind::Form, |group| group.kind_of_part());
             self.groups.push(Group {
+                kind,
                 word: None,
+                name: None,
                 parts: 0,
             })?;
         } else if byte == b')' {
@@ -91,12 +137,17 @@ impl<'a> OpenGroups<'a> {
         self.groups.len()
     }
 
-    /// Whether the innermost group is one of a list, as the resources of a `using` are.
-    fn is_in_a_list(&self) -> bool {
-        match self.groups.as_slice() {
-            [.., outer, _inner] => outer.word.is_none(),
-            _ => false,
+    /// Whether a mask has this poll, and what is open at the place runs in another fiber than the mask.
+    pub(crate) fn is_poll_of_another_fiber(&self, poll: &[u8]) -> bool {
+        let mut is_of_another = false;
+        for group in &self.groups {
+            is_of_another = if group.is_mask_of(poll) {
+                false
+            } else {
+                is_of_another || group.starts_a_fiber()
+            };
         }
+        is_of_another && self.groups.iter().any(|g| g.is_mask_of(poll))
     }
 
     /// What is wanted at the place, in words.
@@ -105,17 +156,31 @@ impl<'a> OpenGroups<'a> {
             return "`(`";
         };
         let Some(word) = group.word else {
-            return if group.parts == 0 { RESOURCE } else { CLOSE };
+            return match group.kind {
+                GroupKind::Form => "the word of a form",
+                GroupKind::Resources if group.parts == 0 => RESOURCE,
+                GroupKind::Resources => CLOSE,
+                GroupKind::Resource | GroupKind::Joined => NAME,
+            };
         };
-        let parts: &[&'static str] = if self.is_in_a_list() {
-            &[TERM, TERM]
-        } else {
-            parts_of(word)
+        let parts: &[&'static str] = match group.kind {
+            GroupKind::Form | GroupKind::Resources => parts_of(word),
+            GroupKind::Resource => &[TERM, TERM],
+            GroupKind::Joined => &[TERM],
         };
         match parts.get(group.parts) {
             Some(part) => part,
-            None if word == b"seq".as_slice() => "a term or `)`",
+            None if group.is_form(b"seq") => "a term or `)`",
             None => CLOSE,
+        }
+    }
+
+    /// The kind of the name that is wanted at the place.
+    pub(crate) fn wanted_kind(&self) -> &'static str {
+        match self.wanted() {
+            POLL => "poll",
+            FIBER => "fiber",
+            _ => "value",
         }
     }
 }
@@ -131,9 +196,13 @@ fn parts_of(word: &[u8]) -> &'static [&'static str] {
         b"for" => &[NAME, NUMBER, TERM],
         b"mask" => &[NAME, TERM],
         b"poll" => &[POLL, TERM],
-        b"oncancel" | b"guarantee" | b"forcer" => &[TERM, TERM],
+        b"oncancel" | b"guarantee" | b"forcer" | b"race" => &[TERM, TERM],
         b"bracket" => &[NAME, TERM, TERM, TERM],
         b"using" => &["the resources `((x T T)..)`", TERM],
+        b"start" => &[NAME, TERM, TERM],
+        b"join" => &[FIBER, JOINED, JOINED, TERM],
+        b"cancel" => &[FIBER],
+        b"first" => &[FIBER, FIBER],
         _ => &[],
     }
 }

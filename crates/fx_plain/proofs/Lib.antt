@@ -42,3 +42,6 @@ pub mod PlainMachineWay
 pub mod PlainMachineWork
 pub mod Endings
 pub mod PlainMachineReports
+pub mod Taken
+pub mod FirstFault
+pub mod Answered

@@ -11,3 +11,8 @@ pub mod World
 pub mod WorldClasses
 pub mod Replay
 pub mod PlainMachine
+pub mod Refusal
+pub mod Answer
+pub mod PlainFault
+pub mod Input
+pub mod TextReplay

@@ -53,20 +53,27 @@
 mod chosen_run;
 mod class;
 mod classes;
+mod input;
 pub mod laws;
 mod lines;
 mod number_set;
 mod out_fault;
 mod output;
 mod plain_machine;
+mod plain_fault;
 mod plain_port;
 mod plain_world;
+mod refusal;
+mod text_replay;
 mod write;
 
 pub use chosen_run::replay;
-pub use lines::push_fiber_line;
+pub use input::{MOST_OF_SCRIPT, read_text};
 pub use out_fault::OutFault;
 pub use output::write_text;
 pub use plain_port::PlainPort;
 pub use plain_world::PlainWorld;
+pub use plain_fault::PlainFault;
+pub use refusal::format_refusal;
+pub use text_replay::{BLOCKED, ENDED, REFUSED, replay_text, status_after};
 pub use write::{write_report, write_trace};

@@ -86,7 +86,11 @@ pub(crate) fn push_event_line(
 }
 
 /// Appends the line of a fiber that ended so, or that waits for good where there is no outcome.
-pub fn push_fiber_line(text: &mut String, id: u32, end: Option<Outcome>) -> Result<(), AllocError>
+pub(crate) fn push_fiber_line(
+    text: &mut String,
+    id: u32,
+    end: Option<Outcome>,
+) -> Result<(), AllocError>
     ensures { OnOk result (string_bytes text.new ≡ string_bytes text.old ++ halt_line id end) }
 {
     write!(text, "fiber {id} ")?;

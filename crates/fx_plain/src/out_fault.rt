@@ -1,6 +1,7 @@
 //! Why a text was not written whole.
 ghost use Rattle.std.specs.Prelude.{◌≡◌};
 
+use fx_term::Memory;
 use std::alloc::AllocError;
 use thiserror::Error;
 
@@ -35,6 +36,16 @@ impl From<AllocError> for OutFault {
     ghost from_gives = { λ _ fault. fault ≡ Memory };
 
     fn from(_refused: AllocError) -> OutFault {
+        OutFault::Memory
+    }
+}
+
+impl From<Memory> for OutFault {
+    ghost use Rattle.fx_plain.specs.declared.out_fault.OutFault.TheVariants.{Memory};
+
+    ghost from_gives = { λ _ fault. fault ≡ Memory };
+
+    fn from(_refused: Memory) -> OutFault {
         OutFault::Memory
     }
 }

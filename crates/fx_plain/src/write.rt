@@ -88,7 +88,11 @@ fn push_traces(
     Ok(())
 }
 
-fn format_report(alloc: Global, script: &Script, report: &Report) -> Result<String, AllocError>
+pub(crate) fn format_report(
+    alloc: Global,
+    script: &Script,
+    report: &Report,
+) -> Result<String, AllocError>
     requires { IsWritable (queue_names (meaning script.now)) report.now }
     ensures { IfOk result
         (λ text. string_bytes text ≡ report_text (queue_names (meaning script.now)) report.now) }

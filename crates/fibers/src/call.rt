@@ -1,0 +1,75 @@
+//! What the words after the program's name ask for.
+
+use crate::files::STANDARD_INPUT;
+
+/// What is done with a script.
+#[derive(Clone, Copy, PartialEq, Eq, Debug)]
+pub(crate) enum Command {
+    /// Its fibers and queues are counted.
+    Check,
+    /// It is replayed, and the report is written.
+    Replay,
+    /// It is replayed, and the traces are written.
+    Trace,
+}
+
+/// A call of the program.
+#[derive(Clone, Copy, PartialEq, Eq, Debug)]
+pub(crate) struct Call<'a> {
+    pub(crate) command: Command,
+    /// The name of the script's text.
+    pub(crate) script: &'a str,
+    /// That of the schedule's, which is empty where there is none.
+    pub(crate) schedule: Option<&'a str>,
+}
+
+impl<'a> Call<'a> {
+    ghost use Rattle.std.specs.Prelude.{◌≡◌, ◌≢◌, None, IfSome, codes};
+
+    /// The call that these words make, if they make one.
+    pub(crate) fn of(words: &'a [String]) -> Option<Call<'a>>
+        ensures { IfSome result (λ call. IfSome call.schedule (λ name. name.now ≢ codes "-")) }
+    {
+        let [word, names @ ..] = words else {
+            return Some(Call {
+                command: Command::Replay,
+                script: STANDARD_INPUT,
+                schedule: None,
+            });
+        };
+        match word.as_str() {
+            "check" => Call::without_schedule(Command::Check, names),
+            "replay" => Call::with_names(Command::Replay, names),
+            "trace" => Call::with_names(Command::Trace, names),
+            _ => None,
+        }
+    }
+
+    /// The call for a script of this name.
+    fn without_schedule(command: Command, names: &'a [String]) -> Option<Call<'a>>
+        ensures { IfSome result (λ call. call.schedule ≡ None) }
+    {
+        match names {
+            [script] => Some(Call {
+                command,
+                script: script.as_str(),
+                schedule: None,
+            }),
+            _ => None,
+        }
+    }
+
+    /// The call for a script of this name, and a schedule if there is a second name. That is a file.
+    fn with_names(command: Command, names: &'a [String]) -> Option<Call<'a>>
+        ensures { IfSome result (λ call. IfSome call.schedule (λ name. name.now ≢ codes "-")) }
+    {
+        match names {
+            [script, schedule] if schedule.as_str() != STANDARD_INPUT => Some(Call {
+                command,
+                script: script.as_str(),
+                schedule: Some(schedule.as_str()),
+            }),
+            _ => Call::without_schedule(command, names),
+        }
+    }
+}

@@ -1,0 +1,80 @@
+//! A standard output that fails.
+use super::*;
+
+/// Takes so many bytes, one at a time, and then answers an error.
+#[derive(Drop)]
+struct Full {
+    taken: Vec<u8>,
+    room: usize,
+}
+
+impl Write for Full {
+    fn write(&mut self, buf: &[u8]) -> io::Result<usize> {
+        let Some(first) = buf.first() else {
+            return Ok(0);
+        };
+        if self.taken.len() >= self.room {
+            return Err(io::Error::from(io::ErrorKind::Other));
+        }
+        self.taken.push(*first)?;
+        Ok(1)
+    }
+
+    fn flush(&mut self) -> io::Result<()> {
+        Ok(())
+    }
+}
+
+/// The words, the script F, what is printed where there is room, and the status then.
+type Row = (&'static str, &'static str, &'static str, u8);
+
+static PRINTED: [Row; 3] = [
+    ("replay F", "(main (foo))", "refused 5 at 7\n", REFUSED),
+    ("check F", "(main (cede))", "fibers 1 queues 0\n", ENDED),
+    (
+        "replay F",
+        "(main (pure 5))",
+        "fiber 0 succeeded 5\n",
+        ENDED,
+    ),
+];
+
+/// Sees that an output with so much room has a prefix of the text, and that this is told.
+fn assert_prefix(rt: &impl Abort, alloc: Global, row: &Row, room: usize) -> Result<(), Fail> {
+    let (line, script, printed, ended) = *row;
+    let words = words_of(alloc, line)?;
+    let texts = [("F", whole(script.as_bytes()))];
+    let mut out = Full {
+        taken: Vec::new(alloc),
+        room,
+    };
+    let mut err = Vec::new(alloc);
+    let status = command(
+        alloc,
+        &words,
+        &mut Texts { texts: &texts },
+        &mut out,
+        &mut err,
+    );
+    let has_room = room >= printed.len();
+    let is_told = err.as_slice() == b"fault write\n".as_slice();
+    let wanted = &printed.as_bytes()[..room.min(printed.len())];
+    // where words for people are told, they are those of a refusal
+    assert!(rt; is_told != has_room, "{script}, room for {room}");
+    assert_eq!(rt;
+        (status, out.taken.as_slice()),
+        (if has_room { ended } else { FAULT }, wanted),
+        "{script}, room for {room}"
+    );
+    Ok(())
+}
+
+#[test]
+fn output_that_fails_has_a_prefix_of_the_text(rt: HostRuntime) -> Result<(), Fail> {
+    for row in &PRINTED {
+        for room in 0..=row.2.len() {
+            assert_prefix(&rt, rt.alloc(), row, room)?;
+        }
+    }
+    Ok(())
+}

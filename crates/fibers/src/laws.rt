@@ -1,2 +1,0 @@
-//! Laws of the definitions that the contracts cite. A function here does nothing: its contract is the law.
-pub mod endings;
