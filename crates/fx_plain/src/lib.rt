@@ -1,7 +1,6 @@
 //! All fibers of a script on one thread: what the whole machine does, which of its runs a schedule
-//! chooses, and what is reported and printed of it. So far these are definitions and laws, the world that
-//! the fibers share, with their ports over it, and the writers of reports and traces; the code that makes
-//! such a run comes on top of them.
+//! chooses, and what is reported and printed of it. [`replay`] makes that run and gives its report, the
+//! writers print it, and [`replay_text`] goes from a script's bytes to the report's.
 //!
 //! The whole machine is
 //!
