@@ -1,12 +1,11 @@
 -- What makes an answer to a text, and what a replay writes of it.
-use Rattle.std.proofs.Common.{◌≡◌, ◌⊎◌, ℕ, ◌<◌, Option, Some, None, Result, Ok, Err, List, [], length, take, inl, inr}
-use Rattle.std.proofs.Common.{refl, sym, ◌∙◌, ap, subst, true, arith}
+use Rattle.std.proofs.Common.{◌≡◌, ◌⊎◌, ℕ, ◌<◌, Option, Some, None, Result, Ok, Err, List, length, take, inl, inr}
+use Rattle.std.proofs.Common.{refl, sym, ◌∙◌, subst, true, arith}
 use Rattle.std.specs.Prelude.{nat_lt}
 use Rattle.std.proofs.lemmas.Bool.{cases_lt, lt-ltb}
 use Rattle.std.proofs.lemmas.List.{take_all, length-take}
 use Rattle.fx_text.specs.declared.fault.TextFault.{TextFault}
 use Rattle.fx_text.specs.declared.fault.TextKind.TheVariants as kind
-use Rattle.fx_text.specs.Fault.{kind_number}
 use Rattle.fx_text.specs.Meaning.{Meaning}
 use Rattle.fx_text.specs.Reading.{reading}
 use Rattle.fx_text.specs.Grammar.{IsScript}

@@ -1,5 +1,5 @@
 -- The machine before any step stands for the whole machine before any step.
-use Rattle.std.proofs.Common.{◌≡◌, ℕ, zero, suc, ◌+◌, ◌-◌, ◌≤◌, Option, Some, None, option_map, List, [], ◌∷◌, ◌++◌, length, map, replicate, refl, sym, ◌∙◌, ap, subst, arith, inl, inr}
+use Rattle.std.proofs.Common.{◌≡◌, ℕ, zero, suc, ◌+◌, Option, Some, None, option_map, List, [], ◌∷◌, ◌++◌, map, replicate, refl, sym, ◌∙◌, ap, subst, arith, inl, inr}
 use Rattle.std.specs.Prelude.{slice_index_or}
 use Rattle.std.proofs.lemmas.Bool.{cases_lt}
 use Rattle.std.proofs.lemmas.List.{get_or_past, get_or-replicate, length-replicate, replicate_more}
@@ -12,7 +12,7 @@ use Rattle.fx_plain.specs.declared.plain_machine.Started.{Started}
 use Rattle.fx_plain.specs.declared.plain_machine.PlainMachine.{PlainMachine}
 use Rattle.fx_plain.specs.WholeMachine.{begun, opening}
 use Rattle.fx_plain.specs.Text.{NamesQueueBelow}
-use Rattle.fx_plain.specs.World.{HeldFiber, held_of, StandsFor, opening_world, opening_held}
+use Rattle.fx_plain.specs.World.{HeldFiber, held_of, opening_world, opening_held}
 use Rattle.fx_plain.specs.PlainMachine.{held, all_held, IsNumbered, StandsForRun}
 use Rattle.fx_plain.proofs.WorldLaws.{opening_stands}
 use Rattle.fx_plain.proofs.WorldClasses.{opening_tells}

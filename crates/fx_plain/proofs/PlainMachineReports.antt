@@ -1,5 +1,5 @@
 -- The report of a machine is that of the whole machine for which it stands.
-use Rattle.std.proofs.Common.{◌≡◌, ℕ, zero, suc, ◌+◌, ◌<◌, ◌≤◌, Bool, true, false, Option, Some, None, option_map, List, [], ◌∷◌, All, length, map, replicate, refl, sym, ◌∙◌, ap, subst, arith, inl, inr}
+use Rattle.std.proofs.Common.{◌≡◌, ℕ, zero, suc, ◌+◌, ◌<◌, ◌≤◌, Bool, false, Option, Some, None, option_map, List, [], ◌∷◌, All, length, map, replicate, refl, sym, ◌∙◌, ap, subst, arith}
 use Rattle.std.specs.Prelude.{slice_index_or, if◌then◌else◌}
 use Rattle.std.specs.List.{range_with_len, filter, filter_map, cons_option}
 use Rattle.std.proofs.lemmas.Option.{none-some, same_Some}
@@ -16,12 +16,12 @@ use Rattle.fx_fiber.specs.Report.{FiberReportView, ReportView}
 use Rattle.fx_text.specs.declared.pick.Pick.{Pick}
 use Rattle.fx_plain.specs.declared.plain_machine.Started.{Started}
 use Rattle.fx_plain.specs.declared.plain_machine.PlainMachine.{PlainMachine}
-use Rattle.fx_plain.specs.WholeMachine.{StartedFiber, WholeMachine, can_step_in}
+use Rattle.fx_plain.specs.WholeMachine.{StartedFiber, WholeMachine}
 use Rattle.fx_plain.specs.Chosen.{report_of_fiber, IsReportOf, IsReplay}
 use Rattle.fx_plain.specs.Text.{ends, NamesQueueBelow, IsWritableFiber, IsWritable}
 use Rattle.fx_plain.specs.World.{HeldFiber, held_of}
 use Rattle.fx_plain.specs.OnTheWay.{IsOnTheWay}
-use Rattle.fx_plain.specs.PlainMachine.{held, reported, all_reported, all_held, StandsForRun, StandsForSome, IsUnderWay, Rests}
+use Rattle.fx_plain.specs.PlainMachine.{held, reported, all_reported, all_held, StandsForRun, Rests}
 use Rattle.fx_plain.proofs.ComputedRuns.{report}
 use Rattle.fx_plain.proofs.ComputedReports.{report_is_report}
 use Rattle.fx_plain.proofs.Endings.{run_ends}
@@ -29,7 +29,7 @@ use Rattle.fx_plain.proofs.LawfulRuns.{IsKept}
 use Rattle.fx_plain.proofs.RunLaws.{run_keeps}
 use Rattle.fx_plain.proofs.OnTheWay.{way_ends}
 use Rattle.fx_plain.proofs.WorldClasses.{unable_cannot_step}
-use Rattle.fx_plain.proofs.PlainMachineSteps.{at_number, held_at, IsFiber, is_fiber}
+use Rattle.fx_plain.proofs.PlainMachineSteps.{at_number, held_at, is_fiber}
 
 -- a list by number, and what its elements give
 module _ {X Y : Type 0} (give : Option X → Option Y) where

@@ -1,9 +1,9 @@
 -- A step of a fiber of a machine that stands for a whole machine: the machine after it stands for the whole machine after it.
-use Rattle.std.proofs.Common.{◌≡◌, ℕ, suc, ◌+◌, ◌<◌, ◌≤◌, Bool, true, false, Option, Some, None, option_map, List, [], ◌∷◌, ◌++◌, All, length, map, refl, sym, ◌∙◌, ap, subst, inl, inr}
-use Rattle.std.specs.Prelude.{slice_index_or, slice_set}
-use Rattle.std.proofs.lemmas.Bool.{cases_eq, cases_lt}
+use Rattle.std.proofs.Common.{◌≡◌, ℕ, ◌<◌, true, Option, Some, None, option_map, List, [], ◌∷◌, ◌++◌, All, length, refl, sym, ◌∙◌, ap, subst, inl, inr}
+use Rattle.std.specs.Prelude.{slice_index_or}
+use Rattle.std.proofs.lemmas.Bool.{cases_eq}
 use Rattle.std.proofs.lemmas.Option.{none-some, same_Some}
-use Rattle.std.proofs.lemmas.List.{get_or_past, length-map}
+use Rattle.std.proofs.lemmas.List.{length-map}
 use Rattle.std.proofs.lemmas.List.Elements.{All-append, All-nil, All-push}
 use Rattle.std.proofs.Math.ListN.{get_or-map}
 use Rattle.fx_term.specs.declared.node.Node.{Node}
@@ -21,16 +21,15 @@ use Rattle.fx_fiber.proofs.Keeping.{events_append}
 use Rattle.fx_fiber.proofs.StepLabels.{IsProper, step_tells}
 use Rattle.fx_plain.specs.declared.plain_machine.Started.{Started}
 use Rattle.fx_plain.specs.declared.plain_machine.PlainMachine.{PlainMachine}
-use Rattle.fx_plain.specs.WholeMachine.{StartedFiber, WholeMachine, Move, Steps, with_at, fibers_after, opening, stepped, moved, FiberSteps, WholeMachineLeads}
+use Rattle.fx_plain.specs.WholeMachine.{StartedFiber, WholeMachine, Move, Steps, fibers_after, opening, stepped, moved, FiberSteps, WholeMachineLeads}
 use Rattle.fx_plain.specs.Chosen.{ChosenStep}
 use Rattle.fx_plain.specs.Text.{NamesQueueBelow}
 use Rattle.fx_plain.specs.declared.class.Class.{Class}
-use Rattle.fx_plain.specs.declared.class.Class.TheVariants.{Unstarted, Able, Waits, Over}
+use Rattle.fx_plain.specs.declared.class.Class.TheVariants.{Able}
 use Rattle.fx_plain.specs.ClassSets.{class_at, is_able}
-use Rattle.fx_plain.specs.World.{WorldView, IsOfNoQueue, world_after, HeldFiber, held_of, held_after, StandsFor}
-use Rattle.fx_plain.specs.WorldClasses.{TellsWhoSteps}
+use Rattle.fx_plain.specs.World.{WorldView, IsOfNoQueue, HeldFiber, held_of, StandsFor}
 use Rattle.fx_plain.specs.PlainCalls.{PortView, plain_calls}
-use Rattle.fx_plain.specs.PlainMachine.{held, all_held, IsNumbered, StandsForRun, Tries, steps, waits}
+use Rattle.fx_plain.specs.PlainMachine.{held, all_held, IsNumbered, StandsForRun, Tries, steps}
 use Rattle.fx_plain.proofs.Maps.{at_that, at_other}
 use Rattle.fx_plain.proofs.LawfulRuns.{IsKept}
 use Rattle.fx_plain.proofs.RunLaws.{run_keeps, start_finds}

@@ -3,7 +3,7 @@ use Rattle.std.proofs.Common.{◌≡◌, ◌⊎◌, ℕ, ◌+◌, ◌<◌, Bool,
 use Rattle.std.proofs.Common.{get_or-set_same, get_or-set_other, length-set}
 use Rattle.std.specs.Prelude.{if◌then◌else◌, option_and_then, slice_index_or, slice_set}
 use Rattle.std.proofs.lemmas.Bool.{cases_eq}
-use Rattle.std.proofs.lemmas.Option.{none-some, same_Some}
+use Rattle.std.proofs.lemmas.Option.{same_Some}
 use Rattle.std.proofs.lemmas.List.{length-map}
 use Rattle.std.proofs.lemmas.List.Sums.{sum_by-set}
 use Rattle.std.proofs.lemmas.List.Elements.{All-nil}
@@ -23,13 +23,13 @@ use Rattle.fx_fiber.specs.MakesStep.{is_yielding, AnswersSilently, Answers, Star
 use Rattle.fx_plain.specs.declared.class.Class.TheVariants as class
 use Rattle.fx_plain.specs.declared.plain_machine.Started.{Started}
 use Rattle.fx_plain.specs.declared.plain_machine.PlainMachine.{PlainMachine}
-use Rattle.fx_plain.specs.WholeMachine.{StartedFiber, WholeMachine, with_at, begun, fibers_after, can_step_in}
+use Rattle.fx_plain.specs.WholeMachine.{StartedFiber, WholeMachine, with_at, begun, fibers_after}
 use Rattle.fx_plain.specs.ClassSets.{class_at, is_able}
 use Rattle.fx_plain.specs.World.{WorldView, HeldFiber, held_of, StandsFor}
 use Rattle.fx_plain.specs.WorldClasses.{TellsWhoSteps}
 use Rattle.fx_plain.specs.Text.{NamesQueueBelow}
 use Rattle.fx_plain.specs.PlainCalls.{PortView, plain_calls}
-use Rattle.fx_plain.specs.PlainMachine.{held, all_held, IsNumbered, able_count, StandsForRun, Tries, steps, waits}
+use Rattle.fx_plain.specs.PlainMachine.{held, all_held, IsNumbered, able_count, StandsForRun, Tries, waits}
 use Rattle.fx_plain.proofs.Maps.{at_itself, at_that, at_other}
 use Rattle.fx_plain.proofs.WorldClasses.{unable_cannot_step}
 use Rattle.fx_plain.proofs.ClassSets.{class_at_set}
@@ -179,10 +179,10 @@ module _ {J : Type 0} (nodes : List Node) (s : ScriptView) (p : PlainMachine J) 
           let long = ap length same ∙ taken_long in
           let unstarted = none_started nodes (leaf_at (progress nodes x.fiber)) f m.fibers made.label answer none made.answers in
           let middle_is = λ (h : ℕ) (apart : h ≡ f → ⊥). laid_others long h apart
-              ∙ ap (λ (xs : List (Option (Started J))). slice_index_or xs h None) same ∙ taken_others h apart in
+          ∙ ap (λ (xs : List (Option (Started J))). slice_index_or xs h None) same ∙ taken_others h apart in
           step_is_tried nodes s p m so f x here is w' answer new made p' x' world parent fiber number beginning (laid_long long) (laid_there long)
           (λ h apart. ap (held_option nodes) (middle_is h apart) ∙ others_held h
-              ∙ sym (ap (λ (fibers : ℕ → Option StartedFiber). option_map held_of (fibers h)) unstarted))
+          ∙ sym (ap (λ (fibers : ℕ → Option StartedFiber). option_map held_of (fibers h)) unstarted))
           (λ h apart. subst (IsNumbered nodes h) (sym (middle_is h apart)) (so.numbered h)) able
 
       -- after a step that starts a child, which was laid down at its number

@@ -1,6 +1,5 @@
 -- A machine goes on its way by a pick, and after the last pick by steps of the least fiber.
-use Rattle.std.proofs.Common.{◌≡◌, ℕ, ◌<◌, ◌≤◌, true, false, Option, Some, None, List, [], ◌∷◌, ◌++◌, length, refl, sym, ◌∙◌, ap, arith, inl, inr}
-use Rattle.std.specs.Prelude.{slice_set}
+use Rattle.std.proofs.Common.{◌≡◌, ℕ, ◌<◌, ◌≤◌, true, false, List, [], ◌∷◌, ◌++◌, length, refl, ◌∙◌, ap, arith, inl, inr}
 use Rattle.std.proofs.lemmas.Bool.{cases_lt}
 use Rattle.std.proofs.lemmas.List.{set_past}
 use Rattle.fx_term.specs.declared.node.Node.{Node}
@@ -8,7 +7,7 @@ use Rattle.fx_term.specs.Script.{ScriptView, total}
 use Rattle.fx_text.specs.declared.pick.Pick.{Pick}
 use Rattle.fx_text.specs.declared.pick.Pick.TheVariants as pick
 use Rattle.fx_plain.specs.declared.plain_machine.PlainMachine.{PlainMachine}
-use Rattle.fx_plain.specs.WholeMachine.{WholeMachine, Move, Steps, Requests, opening, WholeMachineLeads, requested_from_outside}
+use Rattle.fx_plain.specs.WholeMachine.{WholeMachine, Move, Requests, opening, WholeMachineLeads, requested_from_outside}
 use Rattle.fx_plain.specs.Classes.{class_requested}
 use Rattle.fx_plain.specs.ClassSets.{class_at, is_able}
 use Rattle.fx_plain.specs.World.{WorldView, after_request_from_outside}
@@ -78,8 +77,11 @@ module _ {J : Type 0} (nodes : List Node) (s : ScriptView) where
     pub requested_pick : (all left : List Pick) → IsUnderWay nodes s all (pick.Cancel f ∷ left) p → IsUnderWay nodes s all left p'
     requested_pick all left u = elim (cases_lt f (total s)) [
       | inl lt ↦
-          (record { machine = requested_from_outside f u.machine; stands = requested_stands u.machine u.stands lt;
-          way = after_request s all u.machine f left u.way lt })
+          (record {
+            machine = requested_from_outside f u.machine;
+            stands = requested_stands u.machine u.stands lt;
+            way = after_request s all u.machine f left u.way lt;
+          })
       | inr le ↦ (record { machine = u.machine; stands = past_stands u.machine u.stands le; way = after_skipped_request s all u.machine f left u.way le })
     ]
 

@@ -1,5 +1,5 @@
 -- What a reader gives, piece by piece.
-use Rattle.std.proofs.Common.{◌≡◌, ℕ, ◌+◌, ◌-◌, ◌<◌, ◌≤◌, ◌≢◌, Option, Some, None, List, [], ◌++◌, length, take, drop}
+use Rattle.std.proofs.Common.{◌≡◌, ℕ, ◌+◌, ◌-◌, ◌<◌, ◌≤◌, ◌≢◌, Option, Some, None, List, [], ◌++◌, length}
 use Rattle.std.proofs.Common.{refl, sym, arith, append_assoc, length-append}
 use Rattle.std.specs.Io.KnownBytes.{Consumes, Keeps, IsAtEnd}
 use Rattle.std.proofs.lemmas.List.{take_all, append-nil, take_at}

@@ -1,5 +1,5 @@
 -- All fibers of a script as code holds them, and the whole machine that they and their world stand for.
-use Rattle.std.specs.Prelude.{◌≡◌, ℕ, ◌+◌, ◌*◌, ◌<◌, true, false, if◌then◌else◌, Option, Some, None, option_map, List, [], ◌∷◌, All, length, map, slice_index_or}
+use Rattle.std.specs.Prelude.{◌≡◌, ℕ, ◌<◌, false, if◌then◌else◌, Option, Some, None, option_map, List, All, map, slice_index_or}
 use Rattle.std.specs.List.{filter_map, sum_by}
 use Rattle.fx_term.specs.declared.node.Node.{Node}
 use Rattle.fx_term.specs.Script.{ScriptView}

@@ -102,14 +102,17 @@ impl PlainWorld {
     fn is_from_outside(&self, fiber: u32) -> bool
         ensures { result ≡ slice_index_or self.now.from_outside fiber false }
     {
-        self.from_outside.get(fiber as usize).copied().unwrap_or(false)
+        self.from_outside
+            .get(fiber as usize)
+            .copied()
+            .unwrap_or(false)
     }
 
     /// The numbers that were requested from outside, ascending.
     pub(crate) fn outside(&self, alloc: Global) -> Result<Vec<u32>, Memory>
         ensures { IfOk result (λ numbers. numbers.items
             ≡ filter (λ f. slice_index_or self.now.from_outside f false)
-                (range_with_len 0 (length self.now.classes))) }
+            (range_with_len 0 (length self.now.classes))) }
     {
         let mut numbers = Vec::new(alloc);
         for fiber in 0..self.total() {

@@ -1,26 +1,24 @@
-use Rattle.std.proofs.Common.{◌≡◌, ◌≤◌, ◌∙◌, ◌+◌, ℕ, List, [], ◌∷◌, drop, length, map, sym, ap, arith}
+use Rattle.std.proofs.Common.{◌≡◌, ◌∙◌, ◌+◌, ℕ, List, [], drop, length, map, sym, arith}
 use Rattle.std.specs.Prelude.{string_bytes}
 use Rattle.std.proofs.lemmas.List.{drop_more, drop_all, length-map}
 use Rattle.std.proofs.lemmas.Result.{IfOk-weaker}
 use Rattle.fx_fiber.specs.Report.{ReportView}
 use Rattle.fx_text.specs.View.{meaning}
-use Rattle.fx_text.specs.declared.pick.Pick.{Pick}
 use Rattle.fx_text.specs.declared.pick.Pick.TheVariants as pick
 use Rattle.fx_text.specs.declared.script.QueueDecl.{QueueDecl}
 use Rattle.fx_plain.specs.Chosen.{IsReplay}
 use Rattle.fx_plain.specs.Replay.{script_of}
 use Rattle.fx_plain.specs.Text.{queue_names, IsWritable}
-use Rattle.fx_plain.specs.PlainMachine.{StandsForSome, IsUnderWay}
+use Rattle.fx_plain.specs.PlainMachine.{IsUnderWay}
 use Rattle.fx_plain.proofs.chosen_run.replay_named.Goals as goal
 
 pub loop-pick-preserved : goal.loop-pick-preserved
 loop-pick-preserved g c =
     let picks = c.args.picks.now in
-    let i = c.loop-pick.pick-index in
-    (
+    let i = c.loop-pick.pick-index in (
       c.in_ok-take_pick.ensures.stands,
       c.in_ok-take_pick.ensures.way (script_of (meaning c.args.script.now)) picks (drop (i + 1) picks)
-      (rw (drop_more picks i (pick.Step 0) c.loop-pick-test.true) at c.loop-pick.invariant.1),
+          (rw (drop_more picks i (pick.Step 0) c.loop-pick-test.true) at c.loop-pick.invariant.1),
     )
 
 pub returns-clause-replayed : goal.returns-clause-replayed
@@ -49,4 +47,3 @@ returns-clause-writable g c =
     length-map named (λ (q : List ℕ × ℕ). q.0) ∙ length-map queues _ ∙ sym c.args.script.now.queues.ok.0 ∙ sym c.len.ensures in
     IfOk-weaker c.into_report.result _ (IsWritable names)
     (λ (report : ReportView). λ writable. writable names many (s, last.machine, last.stands)) c.into_report.ensures.writable
-

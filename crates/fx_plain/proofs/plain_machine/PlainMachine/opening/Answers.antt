@@ -1,7 +1,6 @@
-use Rattle.std.proofs.Common.{◌≡◌, ◌∙◌, ◌-◌, ◌+◌, ◌∷◌, List, ℕ, suc, length, Some, None, replicate, refl, sym, ap, arith}
+use Rattle.std.proofs.Common.{◌≡◌, ◌∙◌, ◌-◌, List, suc, length, None, replicate, refl, sym, ap, arith}
 use Rattle.std.proofs.lemmas.List.{length-replicate}
 use Rattle.fx_term.specs.Need.{need}
-use Rattle.fx_term.specs.Meaning.{root_term}
 use Rattle.fx_text.specs.View.{meaning}
 use Rattle.fx_fiber.specs.Origin.{origin_of, main_begin_of}
 use Rattle.fx_fiber.specs.Fiber.{progress}

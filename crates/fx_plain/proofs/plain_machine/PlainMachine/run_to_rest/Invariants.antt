@@ -1,4 +1,4 @@
-use Rattle.std.proofs.Common.{◌≡◌, List, []}
+use Rattle.std.proofs.Common.{List, []}
 use Rattle.fx_term.specs.Script.{ScriptView}
 use Rattle.fx_text.specs.declared.pick.Pick.{Pick}
 use Rattle.fx_plain.specs.PlainMachine.{StandsForSome, IsUnderWay}

@@ -1,4 +1,4 @@
-use Rattle.std.proofs.Common.{◌≡◌, ◌∙◌, refl, sym}
+use Rattle.std.proofs.Common.{◌∙◌, sym}
 use Rattle.fx_plain.proofs.PlainMachineWay.{tried_pick, skipped_pick, some_stands, requested_pick, tried_some}
 use Rattle.fx_plain.proofs.plain_machine.PlainMachine.take_pick.Goals as goal
 

@@ -1,8 +1,5 @@
-use Rattle.std.proofs.Common.{◌≡◌, ◌≤◌, ◌+◌, refl, sym, ◌∙◌, arith, ap}
-use Rattle.fx_term.specs.Need.{need, most_need}
-use Rattle.fx_term.specs.Meaning.{root_term}
+use Rattle.std.proofs.Common.{◌≤◌, ◌+◌, sym, arith, ap}
 use Rattle.fx_text.specs.View.{meaning}
-use Rattle.fx_fiber.specs.Origin.{main_begin_of}
 use Rattle.fx_term.specs.declared.begin.Begin.{Begin}
 use Rattle.fx_plain.specs.Replay.{script_of}
 use Rattle.fx_plain.proofs.plain_world.PlainWorld.new.Goals as goal
