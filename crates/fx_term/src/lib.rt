@@ -31,9 +31,7 @@ mod queue_event;
 mod registers;
 
 pub use begin::Begin;
-pub use code::{
-    Code, CodeBrand, CodeFault, MOST_NEED, MOST_TURNS, need_of_node, turns_of_loop,
-};
+pub use code::{Code, CodeBrand, CodeFault, MOST_NEED, MOST_TURNS, need_of_node, turns_of_loop};
 pub use done::Done;
 pub use event::Event;
 pub use item::Item;
