@@ -5,7 +5,6 @@ use Rattle.fx_text.specs.declared.pick.Pick.{Pick}
 use Rattle.fx_text.specs.Meaning.{Meaning}
 use Rattle.fx_plain.specs.declared.out_fault.OutFault.{OutFault}
 use Rattle.fx_plain.specs.declared.out_fault.OutFault.TheVariants as out
-use Rattle.fx_plain.specs.Output.{WritesPrefix}
 use Rattle.fx_plain.proofs.Written.{keeps_same}
 use Rattle.fibers.specs.declared.call.Command.{Command}
 use Rattle.fibers.specs.declared.command_fault.Refusal.{Refusal}
@@ -14,8 +13,8 @@ use Rattle.fibers.specs.declared.command_fault.CommandFault.TheVariants.{Refused
 use Rattle.fibers.specs.CommandFault.{fault_of_writing}
 use Rattle.fibers.specs.Fetched.{FetchesScript, FetchesSchedule, FetchesNoScript, FetchesNoSchedule}
 use Rattle.fibers.specs.Performed.{Performs}
-use Rattle.fibers.specs.CommandAnswer.{performed, no_script, no_schedule, known_schedule, AnswersTo, WritesAnswer, WritesAnswerPart, Leaves}
-use Rattle.fibers.specs.CommandAnswer.{TellsRefusal, told, Runs, answered, unreadable, no_memory}
+use Rattle.fibers.specs.CommandAnswer.{performed, no_script, no_schedule, known_schedule, WritesAnswer, Leaves}
+use Rattle.fibers.specs.CommandAnswer.{TellsRefusal, told, Runs, answered}
 use Rattle.fibers.specs.CommandAnswer.TellsRefusal.{not_taken as line_not_taken}
 use Rattle.fibers.specs.CommandAnswer.Runs.{not_taken}
 
