@@ -50,7 +50,7 @@ fn cancel_waits_for_the_end_of_the_other_fiber(rt: HostRuntime) -> Result<(), Fa
     assert_runs(&rt, rt.alloc(), &CANCELED)
 }
 
-static RACES: [Row; 2] = [
+static RACES: [Row; 4] = [
     (
         "replay F",
         "(main (race (never) (pure 8)))",
@@ -65,6 +65,21 @@ static RACES: [Row; 2] = [
         BLOCKED,
         "fiber 0 blocked\nfiber 1 canceled\nfiber 2 canceled\n",
     ),
+    // canceled while it waits for its two fibers, and before its first step
+    (
+        "replay F S",
+        "(main (start h (race (never) (never)) (seq (cancel h) (pure 1))))",
+        "0 1 1 1 1",
+        ENDED,
+        "fiber 0 succeeded 1\nfiber 1 canceled\nfiber 2 canceled\nfiber 3 canceled\n",
+    ),
+    (
+        "replay F",
+        "(main (start h (race (never) (never)) (seq (cancel h) (pure 1))))",
+        "",
+        ENDED,
+        "fiber 0 succeeded 1\nfiber 1 canceled\n",
+    ),
 ];
 
 #[test]
@@ -78,7 +93,7 @@ macro_rules! joins {
     };
 }
 
-static SCHEDULES: [Row; 7] = [
+static SCHEDULES: [Row; 8] = [
     (
         "replay F S",
         "(main (never))",
@@ -99,6 +114,13 @@ static SCHEDULES: [Row; 7] = [
         "c1",
         ENDED,
         "0 start 1\n0 joined 1 canceled\n0 ended succeeded 2\n1 seen\n1 cancelled\n1 ended canceled\n",
+    ),
+    (
+        "replay F S",
+        joins!(),
+        "0 1 1 c1",
+        ENDED,
+        "fiber 0 succeeded 1\nfiber 1 succeeded 1\n",
     ),
     (
         "replay F S",
