@@ -38,7 +38,8 @@ pub main_work_fits : {queues : ℕ} (nodes : List Node) → IsCode queues nodes 
 main_work_fits nodes code = subst (λ (b : Origin). work_left (Runs b.term) < 2 ^ 63) (sym (main_begins nodes)) (let few = code_work_fits code in omega arith)
 
 -- its names are bound, and it has no number of a fiber
-pub main_scoped : (is_given : ℕ → Bool) {queues : ℕ} (nodes : List Node) → IsCode queues nodes → IsScopedOver is_given (origin_of nodes (main_begin_of nodes)).term
+pub main_scoped : (is_given : ℕ → Bool) {queues : ℕ} (nodes : List Node) → IsCode queues nodes
+    → IsScopedOver is_given (origin_of nodes (main_begin_of nodes)).term
 main_scoped is_given nodes code = subst (λ (b : Origin). IsScopedOver is_given b.term) (sym (main_begins nodes)) (code_is_scoped is_given nodes code)
 
 -- its range has room for all that it can start

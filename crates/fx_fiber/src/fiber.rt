@@ -83,7 +83,8 @@ impl<P: Port> Fiber<P> {
         ensures trace { IfOk result (λ fiber. fiber.trace ≡ []) }
         ensures counts { IfOk result
             (λ fiber. fiber.counts ≡ first_counts (main_origin (root_term code.now.nodes))) }
-        ensures progress { IfOk result (λ fiber. progress code.now.nodes fiber ≡ Runs (root_term code.now.nodes)) }
+        ensures progress { IfOk result
+            (λ fiber. progress code.now.nodes fiber ≡ Runs (root_term code.now.nodes)) }
     {
         let begin = main_begin(alloc, code);
         let bare = Bare::beginning(alloc, 0, &begin)?;
@@ -166,7 +167,8 @@ impl<P: Port> Fiber<P> {
         requires going { has_ended (progress P.code self.old) ≡ false }
         ensures ok { IfOk result (λ answer. DoesStep P.calls P.code
             self.old shared.old answer self.new shared.new) }
-        ensures err { OnErr result (IsUnchanged P.code self.old self.new × (shared.new ≡ shared.old)) }
+        ensures err { OnErr result
+            (IsUnchanged P.code self.old self.new × (shared.new ≡ shared.old)) }
         ensures number { P.number self.new.port ≡ P.number self.old.port }
         ensures beginning { P.beginning self.new.port ≡ P.beginning self.old.port }
     {

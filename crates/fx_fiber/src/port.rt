@@ -84,7 +84,8 @@ pub trait Port: Sized {
         ensures child_fresh { IfOk result (λ child. agrees child []) }
         ensures number { number self.new ≡ number self.old }
         ensures beginning { beginning self.new ≡ beginning self.old }
-        ensures rest { IfOk result (λ child. rest self.new ≡ range_after begin.now (rest self.old)) }
+        ensures rest { IfOk result
+            (λ child. rest self.new ≡ range_after begin.now (rest self.old)) }
         ensures finished { has_finished self.new ≡ has_finished self.old }
         ensures deed { IfOk result (λ child. (deeds : List Deed)
             → agrees self.old deeds → agrees self.new (deeds ++ Started id begin.now ∷ [])) }

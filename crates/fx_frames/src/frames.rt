@@ -56,7 +56,8 @@ impl Frames {
     pub fn pop(&mut self) -> Option<Frame>
         ensures taken { MatchOption result ((self.old ≡ []) × (self.new ≡ []))
             (λ frame. self.old ≡ frame ∷ self.new) }
-        ensures rest { (frame : Frame) (outer : List Frame) → self.old ≡ frame ∷ outer → self.new ≡ outer }
+        ensures rest { (frame : Frame) (outer : List Frame)
+            → self.old ≡ frame ∷ outer → self.new ≡ outer }
     {
         self.items.pop()
     }
@@ -64,7 +65,8 @@ impl Frames {
     /// Puts a context in place of the innermost, for which there is room.
     pub fn replace(&mut self, frame: Frame)
         requires { (inner : Frame) × (outer : List Frame) × (self.old ≡ inner ∷ outer) }
-        ensures { (inner : Frame) (outer : List Frame) → self.old ≡ inner ∷ outer → self.new ≡ frame ∷ outer }
+        ensures { (inner : Frame) (outer : List Frame)
+            → self.old ≡ inner ∷ outer → self.new ≡ frame ∷ outer }
     {
         let items = &mut self.items;
         let _ = items.pop();

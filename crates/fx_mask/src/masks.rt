@@ -35,7 +35,11 @@ impl Model for Masks {
 
     ghost Value = { MasksView };
 
-    ghost view = { λ m. record { regions = closings_of m.members.items; entries = m.entries; opened = m.opened } };
+    ghost view = { λ m. record {
+      regions = closings_of m.members.items;
+      entries = m.entries;
+      opened = m.opened;
+    } };
 
     ghost invariant = { λ m. vec_len m.members + m.opened ≤ vec_capacity m.members };
 }
@@ -110,9 +114,10 @@ impl Masks {
 
     /// Opens the region where it is the innermost, and answers whether it was.
     pub fn open(&mut self, region: Region) -> bool
-        ensures innermost { (outer : List Closing) → self.old.regions ≡ closing.Region region.0 ∷ outer
-            → IsTrue result }
-        ensures opened { MatchBool result (IsOpened region.0 self.old self.new) (self.new ≡ self.old) }
+        ensures innermost { (outer : List Closing)
+            → self.old.regions ≡ closing.Region region.0 ∷ outer → IsTrue result }
+        ensures opened { MatchBool result (IsOpened region.0 self.old self.new)
+            (self.new ≡ self.old) }
         ensures regions { self.new.regions ≡ without_region region.0 self.old.regions }
     {
         if self.members.last().copied() != Some(Member::Region(region)) {

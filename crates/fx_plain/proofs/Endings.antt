@@ -33,7 +33,8 @@ none_in_rest (suc n) (_ ∷ es) e = none_in_rest n es e
 ended_ends : (trace : List Event) (o : Outcome) → EndsWith trace o → ends trace ≡ true
 ended_ends trace o w =
     let last = event.Ended o ∷ [] in
-    let long : length trace - 1 ≡ length w.before = (let e : length trace ≡ length w.before + 1 = ap length w.is ∙ length-append w.before last in omega arith) in
+    let long : length trace - 1 ≡ length w.before =
+    (let e : length trace ≡ length w.before + 1 = ap length w.is ∙ length-append w.before last in omega arith) in
     ap (λ (n : ℕ). list_any is_end (drop n trace)) long ∙ ap (λ (es : List Event). list_any is_end (drop (length w.before) es)) w.is
     ∙ ap (list_any is_end) (drop-append_seam w.before last)
 

@@ -52,7 +52,8 @@ module _ {X Y : Type 0} (give : Option X → Option Y) where
 same_filter : (p q : ℕ → Bool) (a n : ℕ) → ((k : ℕ) → a ≤ k → k < a + n → p k ≡ q k) → filter p (range_with_len a n) ≡ filter q (range_with_len a n)
 same_filter p q a zero e = refl
 same_filter p q a (suc n) e =
-    rw (e a (omega arith) (omega arith)) (ap (λ (ks : List ℕ). if q a then a ∷ ks else ks) (same_filter p q (a + 1) n (λ k low high. e k (omega arith) (omega arith))))
+    rw (e a (omega arith) (omega arith)) (ap (λ (ks : List ℕ). if q a then a ∷ ks else ks)
+    (same_filter p q (a + 1) n (λ k low high. e k (omega arith) (omega arith))))
 
 nothing_in : (queues : ℕ → List Item) (a n : ℕ) → ((q : ℕ) → queues q ≡ []) → replicate n [] ≡ map queues (range_with_len a n)
 nothing_in queues a zero e = refl

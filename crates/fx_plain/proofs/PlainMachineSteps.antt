@@ -146,7 +146,9 @@ module _ {J : Type 0} (nodes : List Node) where
           new.port w' own_number calls
 
       pub child_is_free : (g : ℕ) (b : Origin) → l ≡ Starts g b → (m.fibers g ≡ None) × (g < total s)
-      child_is_free g b starts = let found = start_finds s so.moves m f g b after so.run (subst (λ (k : Label). FiberSteps s m f k after) starts step_made) in (found.free, found.below)
+      child_is_free g b starts =
+          let found = start_finds s so.moves m f g b after so.run (subst (λ (k : Label). FiberSteps s m f k after) starts step_made) in
+          (found.free, found.below)
 
       module _ (p' : PlainMachine J) (x' : Started J) (world : p'.world ≡ w') (parent : x'.parent ≡ x.parent) (fiber : x'.fiber ≡ new)
           (number : new.port.number ≡ x.fiber.port.number) (beginning : new.port.beginning ≡ x.fiber.port.beginning)
@@ -209,7 +211,8 @@ module _ {J : Type 0} (nodes : List Node) where
           run = leads_one_more s (opening s) so.moves m f l after so.run step_made;
           stands = stands;
           tells = rw (world ∙ world_is nodes f l answer x.fiber.port new.port p.world w' own_number made.calls_are.told)
-              (classes.step_tells s p.world m so.tells f y new.counts (progress nodes new) (able_class (class_at p.world.classes f) able) below_total so.stands.outcomes_long l
+              (classes.step_tells s p.world m so.tells f y new.counts (progress nodes new) (able_class (class_at p.world.classes f) able) below_total
+              so.stands.outcomes_long l
               (λ g b starts. (child_is_free g b starts).1) st);
           numbered = all_numbered;
         }

@@ -201,7 +201,8 @@ module _ {J : Type 0} (nodes : List Node) (s : ScriptView) (p : PlainMachine J) 
           child_is : held nodes child ≡ held_of (begun (Some f) b)
           child_is =
               same_made its_parent (ap (λ (v : FiberView PortView). origin_of nodes v.port.beginning) its_fiber ∙ start.begins)
-              (ap (λ (v : FiberView PortView). v.trace) its_fiber ∙ start.first.trace) (ap (λ (v : FiberView PortView). v.counts) its_fiber ∙ start.first.counts)
+              (ap (λ (v : FiberView PortView). v.trace) its_fiber ∙ start.first.trace)
+              (ap (λ (v : FiberView PortView). v.counts) its_fiber ∙ start.first.counts)
               (ap (progress nodes) its_fiber ∙ start.first.progress_is)
 
           child_numbered : IsNumbered nodes g (Some child)
@@ -239,7 +240,8 @@ module _ {J : Type 0} (nodes : List Node) (s : ScriptView) (p : PlainMachine J) 
 
           others_numbered : (h : ℕ) → (h ≡ f → ⊥) → IsNumbered nodes h (at_number nodes p' h)
           others_numbered h apart = elim (cases_eq h g) [
-            | inl same ↦ subst (IsNumbered nodes h) (sym (child_there h apart same)) (subst (λ (k : ℕ). IsNumbered nodes k (Some child)) (sym same) child_numbered)
+            | inl same ↦
+                subst (IsNumbered nodes h) (sym (child_there h apart same)) (subst (λ (k : ℕ). IsNumbered nodes k (Some child)) (sym same) child_numbered)
             | inr ne ↦ subst (IsNumbered nodes h) (sym (rest_there h apart ne)) (so.numbered h)
           ]
 

@@ -55,8 +55,8 @@ pub terms_push : (nodes : List Node) (roots : List NodeId) (root : NodeId)
 terms_push nodes roots root = map-append (λ (r : NodeId). term_of nodes r.0) roots (root ∷ [])
 
 -- at first the last one stands alone
-pub joins_none : (old : Reader) (first : NodeId) (others front : List NodeId) (last : NodeId) → others ≡ front ++ last ∷ [] → AreMade old.nodes.items old.needs.items
-    → AllBelow (length old.nodes.items) (ids (first ∷ others))
+pub joins_none : (old : Reader) (first : NodeId) (others front : List NodeId) (last : NodeId) → others ≡ front ++ last ∷ []
+    → AreMade old.nodes.items old.needs.items → AllBelow (length old.nodes.items) (ids (first ∷ others))
     → JoinsLast old old first others (first ∷ front) last
 joins_none old first others front last e made below =
     let split = below_front (length old.nodes.items) (ids front) (last.0 ∷ []) (subst (λ (l : List ℕ). AllBelow (length old.nodes.items) l) (ap ids e

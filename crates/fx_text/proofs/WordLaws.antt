@@ -72,7 +72,8 @@ number_spelled (d ∷ ds) n e = by_all (list_all is_digit (d ∷ ds)) refl e
 
     by_small : (b : Bool) → nat_le v most_number ≡ b → list_all is_digit (d ∷ ds) ≡ true
         → cond {A = Result ℕ TextKind} b (Ok v) (Err kind.Number) ≡ Ok n → IsNumber (d ∷ ds) n
-    by_small true small all e = record { some = omega arith; all = all; value = ok_same e; small = let v = ok_same e in let s = leb-true _ _ small in omega arith }
+    by_small true small all e =
+        record { some = omega arith; all = all; value = ok_same e; small = let v = ok_same e in let s = leb-true _ _ small in omega arith }
     by_small false small all e = absurd cc
 
     by_fits : (b : Bool) → list_all is_digit (d ∷ ds) ≡ true → small_number (cond b (Number v) Misnumber) ≡ Ok n → IsNumber (d ∷ ds) n

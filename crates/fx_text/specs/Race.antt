@@ -16,8 +16,8 @@ cancel_both s = Let None (Cancel (Slot s.left)) (Cancel (Slot s.right))
 abbrev pub outcome_of : RaceSlots → ℕ → Term
 outcome_of s f = Join (Slot f) s.number (Pure (Slot s.number)) s.number (Raise (Slot s.number)) (Let None Canceled Never)
 
--- What is done where fiber a has ended first. If it succeeded or erred, b is canceled and that is the outcome; if it was canceled, the outcome is that of b, and
--- a request that comes meanwhile cancels both
+-- What is done where fiber a has ended first. If it succeeded or erred, b is canceled and that is the outcome; if it was canceled, the outcome is that of b,
+-- and a request that comes meanwhile cancels both
 abbrev pub decided : RaceSlots → ℕ → ℕ → Term
 decided s a b = Join (Slot a) s.number (Let None (Cancel (Slot b)) (Pure (Slot s.number))) s.number (Let None (Cancel (Slot b)) (Raise (Slot s.number)))
     (OnCancel (Poll (Slot s.mask) (outcome_of s b)) (cancel_both s))

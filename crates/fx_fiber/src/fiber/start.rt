@@ -33,7 +33,8 @@ pub(crate) fn start<P: Port>(
     requires going { P.has_finished port.old ≡ false }
     requires room { vec_len bare.old.trace < vec_capacity bare.old.trace }
     ensures started { IfOk result (λ child. MakesStart P.calls P.code bare.old.machine port.old
-        shared.old bare.old.trace.items child bare.new.machine port.new shared.new bare.new.trace.items) }
+        shared.old bare.old.trace.items child bare.new.machine port.new shared.new
+        bare.new.trace.items) }
     ensures kept { IfOk result (λ child. IsKept P.code (P.beginning port.new) (P.agrees port.new)
         (P.has_finished port.new) (P.rest port.new) bare.new.trace.items bare.new.machine) }
     ensures same { OnErr result (IsSame P.code bare.old.machine bare.new.machine) }

@@ -12,7 +12,8 @@ ghost use Rattle.fx_fiber.specs.PairedMasks.{Mark, Closes, Seals, marks, IsPaire
 /// closes the place. The masks of a path are opened so exactly where the place is open.
 pub fn cancellation_acts_where_masks_are_opened()
     ensures run { (b : Origin) (labels : List Label) (d : Counts) (q : Progress)
-        → (run : IsRun b labels d q) → CancelsWhereOpened (first_counts b) (Runs b.term) labels d q run }
+        → (run : IsRun b labels d q)
+        → CancelsWhereOpened (first_counts b) (Runs b.term) labels d q run }
     ensures place { (t : Term) → (is_open t ≡ true) ↔ IsPaired (marks t) }
 {}
 

@@ -7,7 +7,8 @@ use fx_term::{Node, NodeId};
 
 /// The context that is entered at this node, and the part that stands in it. A leaf has none.
 pub(crate) fn entry_of(id: NodeId, node: &Node) -> Option<(Frame, NodeId)>
-    ensures { MatchOption result (IsLeafNode (Some node.now)) (λ entry. IsEntryOf id node.now entry.0 entry.1) }
+    ensures { MatchOption result (IsLeafNode (Some node.now))
+        (λ entry. IsEntryOf id node.now entry.0 entry.1) }
 {
     match *node {
         Node::Let(name, first, second) => Some((Frame::Let(name, second), first)),

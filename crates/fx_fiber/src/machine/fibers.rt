@@ -25,7 +25,8 @@ impl Machine {
     pub fn fiber_of(&self, slot: u32) -> u32
         requires bound { slot < length self.now.registers }
         requires fits { slice_index self.now.registers slot < 2 ^ 32 }
-        ensures { fill_arg (length self.now.registers) self.now.registers (arg.Slot slot) ≡ arg.Number result }
+        ensures { fill_arg (length self.now.registers) self.now.registers (arg.Slot slot)
+            ≡ arg.Number result }
     {
         self.registers.number_of(Arg::Slot(slot)) as u32
     }

@@ -21,7 +21,8 @@ impl Machine {
     pub fn cancelled(&mut self) -> Result<Made, Memory>
         ghost nodes: { List Node }
         requires { IsInterrupted nodes self.old Interruption.Cancellation }
-        ensures ok { IfOk result (λ made. Interrupts nodes self.old Interruption.Cancellation made self.new) }
+        ensures ok { IfOk result
+            (λ made. Interrupts nodes self.old Interruption.Cancellation made self.new) }
         ensures err { OnErr result (IsSame nodes self.old self.new) }
     {
         self.masks.seal()?;

@@ -33,7 +33,8 @@ fn check_parents(nodes: &[Node], taken: &[bool]) -> Result<(), CodeFault>
     requires forest { IsForest nodes.now }
     requires marks { AreMarks (all_children nodes.now) taken.now }
     requires each_node { length taken.now ≡ length nodes.now }
-    ensures each { OnOk result ((id : ℕ) → id + 1 < length nodes.now → Contains (all_children nodes.now) id) }
+    ensures each { OnOk result ((id : ℕ) → id + 1 < length nodes.now
+        → Contains (all_children nodes.now) id) }
     ensures fault { IfErr result (IsFault nodes.now) }
 {
     for id in 0..nodes.len() - 1 {

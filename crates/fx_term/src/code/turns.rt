@@ -12,7 +12,8 @@ pub const MOST_TURNS: u32 = 1_000_000;
 /// where they are more than [`MOST_TURNS`]. A count of 0 is taken as 1, so that the part's own loops
 /// are tested too.
 pub fn turns_of_loop(turns: u32, count: u64) -> Option<u32>
-    ensures few { IfSome result (λ inside. inside ≡ turns_of_loop turns count × inside ≤ most_turns) }
+    ensures few { IfSome result
+        (λ inside. inside ≡ turns_of_loop turns count × inside ≤ most_turns) }
     ensures too_many { result ≡ None → most_turns < turns_of_loop turns count }
 {
     let inside = u64::from(turns).checked_mul(count.max(1))?;

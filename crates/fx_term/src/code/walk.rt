@@ -49,7 +49,8 @@ fn push_part(
     parent: Pending,
 ) -> Result<(), CodeFault>
     requires { HasFewInside parent.turns part.count }
-    ensures pushed { OnOk result (stack.new.items ≡ stack.old.items ++ under path.now parent part ∷ []) }
+    ensures pushed { OnOk result
+        (stack.new.items ≡ stack.old.items ++ under path.now parent part ∷ []) }
     ensures memory { IfErr result (λ fault. fault ≡ CodeFault.Memory) }
 {
     stack.push(Pending {

@@ -12,5 +12,6 @@ pub fn reading_is_the_grammar()
 
 /// Reading a schedule gives exactly what its grammar has, so a schedule has one list of picks.
 pub fn schedule_reading_is_the_grammar()
-    ensures { (text : List ℕ) (ps : List Pick) → IsSchedule text ps ↔ (schedule_reading text ≡ Ok ps) }
+    ensures { (text : List ℕ) (ps : List Pick)
+        → IsSchedule text ps ↔ (schedule_reading text ≡ Ok ps) }
 {}

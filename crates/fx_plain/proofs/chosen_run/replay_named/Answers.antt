@@ -29,7 +29,8 @@ returns-clause-replayed g c =
     let named = map (λ (q : QueueDecl). (string_bytes q.name, q.cap)) queues in
     let ended : IsUnderWay g.J.CodeBrand.nodes s picks [] c.loop-pick.machine =
     rw (drop_all c.loop-pick.pick-index picks (let end = c.loop-pick-test.false in omega arith)) at c.loop-pick.invariant.1 in
-    let many : length s.capacities ≡ c.len.result = length-map named (λ (q : List ℕ × ℕ). q.1) ∙ length-map queues _ ∙ sym c.args.script.now.queues.ok.0 ∙ sym c.len.ensures in
+    let many : length s.capacities ≡ c.len.result =
+    length-map named (λ (q : List ℕ × ℕ). q.1) ∙ length-map queues _ ∙ sym c.args.script.now.queues.ok.0 ∙ sym c.len.ensures in
     IfOk-weaker c.into_report.result _ (IsReplay s picks)
     (λ (report : ReportView). λ replays. replays s picks many (c.in_ok-run_to_rest.ensures.way s picks ended)) c.into_report.ensures.replay
 

@@ -179,7 +179,8 @@ using-returns t c =
 pub join-returns : goal.join-returns
 join-returns t c = record {
   read = join_means _ c.args.self.now _ _ _ _ c.args.fiber c.in_ok-succeeded.succeeded c.in_ok-errored.errored c.in_ok-canceled.canceled _
-      c.len-slot.result _ _ _ _ _ (omega (arith, c.len-slot.ensures, c.args.self.now.names.ok.0)) c.in_ok-succeeded.ensures c.in_ok-errored.ensures c.in_ok-canceled.ensures
+      c.len-slot.result _ _ _ _ _ (omega (arith, c.len-slot.ensures, c.args.self.now.names.ok.0))
+      c.in_ok-succeeded.ensures c.in_ok-errored.ensures c.in_ok-canceled.ensures
       c.in_ok-rest.ensures.read c.in_ok-add.ensures;
   went = node_went _ _ _ _ _ _ _ _ _ (through_more _ _ _ _ _ _ _ _ (through_more _ _ _ _ _ _ _ _ (through_one _ _ _ _ _
       c.in_ok-succeeded.ensures.went) c.in_ok-errored.ensures.went) c.in_ok-canceled.ensures.went) c.in_ok-rest.ensures.shorter c.in_ok-add.ensures;

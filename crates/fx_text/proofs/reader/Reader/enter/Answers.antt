@@ -62,7 +62,8 @@ returns-in_ok-push-in-RaceRight-2 c =
     (sym c.in-RaceRight.is) (record {
       scope = scope_outside new.items old.place _ all
           ∙ ap elsewhere (scope_nameless one.items new.items fiber kind.Fiber old.place
-          (omega (arith, ap length first, length-append old.names.items (poll ∷ []))) second c.nameless-in-RaceRight-2.ensures.name c.nameless-in-RaceRight-2.ensures.kind
+          (omega (arith, ap length first, length-append old.names.items (poll ∷ []))) second
+          c.nameless-in-RaceRight-2.ensures.name c.nameless-in-RaceRight-2.ensures.kind
           ∙ ap (λ (p : Scope). under kind.Fiber [] p) (scope_nameless old.names.items one.items poll kind.Poll old.place le first
           c.nameless-in-RaceRight.ensures.name c.nameless-in-RaceRight.ensures.kind));
       names = ap (take (length old.names.items)) pushed ∙ take-append_seam old.names.items (poll ∷ fiber ∷ []);
