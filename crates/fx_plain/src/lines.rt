@@ -79,7 +79,7 @@ pub(crate) fn push_event_line(
     requires { NamesQueueBelow (length queues.now) event }
     ensures { OnOk result
         (string_bytes text.new
-            ≡ string_bytes text.old ++ event_line (names_of queues.now) id event) }
+        ≡ string_bytes text.old ++ event_line (names_of queues.now) id event) }
 {
     write!(text, "{id} ")?;
     push_event(text, queues, event)?;
