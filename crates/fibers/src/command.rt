@@ -77,9 +77,11 @@ fn schedule_of<'a, F: Files>(
     files: &mut F,
     name: Option<&'a str>,
 ) -> Result<Vec<Pick>, CommandFault<'a>>
-    ensures found { let known = known_schedule (F.holds files.old) (option_map (λ n. n.now) name.entry) in
+    ensures found { let known =
+        known_schedule (F.holds files.old) (option_map (λ n. n.now) name.entry) in
         IfOk result (λ picks. FetchesSchedule known picks.items) }
-    ensures none { let known = known_schedule (F.holds files.old) (option_map (λ n. n.now) name.entry) in
+    ensures none { let known =
+        known_schedule (F.holds files.old) (option_map (λ n. n.now) name.entry) in
         IfErr result (λ fault. FetchesNoSchedule known fault) }
 {
     let Some(name) = name else {
