@@ -61,3 +61,6 @@ pub mod Starts
 pub mod AllWork
 pub mod LeavesBelow
 pub mod WaitsBelow
+pub mod Appended
+pub mod Takes
+pub mod OneOrder
