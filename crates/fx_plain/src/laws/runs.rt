@@ -6,6 +6,7 @@ ghost use Rattle.fx_fiber.specs.Origin.{Origin};
 ghost use Rattle.fx_fiber.specs.Work.{work};
 ghost use Rattle.fx_fiber.specs.Report.{ReportView};
 ghost use Rattle.fx_fiber.specs.LawfulReport.{IsLawfulReport};
+ghost use Rattle.fx_fiber.specs.Causes.{IsLawfulInOneOrder};
 ghost use Rattle.fx_text.specs.declared.pick.Pick.{Pick};
 ghost use Rattle.fx_plain.specs.WholeMachine.{WholeMachine, Move, opening, can_step_in, FiberSteps, IsWholeMachineRun, steps_in, FindsItsNumber};
 ghost use Rattle.fx_plain.specs.Chosen.{IsChosen, IsReplay};
@@ -15,6 +16,15 @@ ghost use Rattle.fx_plain.specs.Chosen.{IsChosen, IsReplay};
 pub fn replay_is_lawful()
     ensures { (s : ScriptView) (ps : List Pick) (r : ReportView) → IsReplay s ps r
         → IsLawfulReport s (λ f. true) r }
+{}
+
+/// The events of all fibers of that report have one order, by runs and histories that make it lawful: it
+/// keeps each fiber's own order, and has each take after the put of what was taken, each join, await and
+/// first of two after the outcome that was learnt, each request seen after some request, unless that came
+/// from outside, and each fiber's first event after its start.
+pub fn replay_has_one_order()
+    ensures { (s : ScriptView) (ps : List Pick) (r : ReportView) → IsReplay s ps r
+        → IsLawfulInOneOrder s (λ f. true) r }
 {}
 
 /// A run that picks choose is a run of the whole machine.
