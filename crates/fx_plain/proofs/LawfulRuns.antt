@@ -19,11 +19,14 @@ use Rattle.fx_text.specs.declared.pick.Pick.{Pick}
 use Rattle.fx_term.specs.declared.item.Item.{Item}
 use Rattle.fx_term.specs.Queue.{queue_events}
 use Rattle.fx_fiber.specs.Outside.{outcome_at, Outside, can_step}
+use Rattle.fx_term.specs.Forms.{IsCore}
 use Rattle.fx_term.specs.Script.{ScriptView, total}
 use Rattle.fx_fiber.specs.Report.{FiberReportView, ReportView, fiber_in, parent_of_report, parent_in, trace_of_report, trace_in, outcome_shown, is_request_for}
 use Rattle.fx_fiber.specs.Report.{is_requested_in, final_outside}
 use Rattle.fx_fiber.specs.LawfulReport.{starts_of, is_parent, HasStarters, HasRun, HasRuns, BeginsAs, HasOrigins, HasHistory, IsLearnt, IsSeenRightly}
 use Rattle.fx_fiber.specs.LawfulReport.{IsLawfulReport}
+use Rattle.fx_fiber.specs.Headline.{KeepsWhatIsPromised}
+use Rattle.fx_fiber.proofs.HeadlineLaws.{ended_report_holds}
 use Rattle.fx_plain.specs.WholeMachine.{StartedFiber, WholeMachine, Move, opening, outcome_of_fiber, outcome_of, outside_of, can_step_fiber, can_step_in}
 use Rattle.fx_plain.specs.WholeMachine.{moved, FiberSteps, requested_from_outside}
 use Rattle.fx_plain.specs.Chosen.{IsChosen, step, no_step, request, no_request, least, rests, report_of_fiber, IsReportOf, IsReplay}
@@ -306,3 +309,8 @@ module _ (s : ScriptView) (m : WholeMachine) (r : ReportView) (rep : IsReportOf 
 -- the report of the run that picks choose is lawful, where every number may be requested from outside
 pub replay_is_lawful : (s : ScriptView) (ps : List Pick) (r : ReportView) → IsReplay s ps r → IsLawfulReport s (λ f. true) r
 replay_is_lawful s ps r h = report_is_lawful s h.last r h.report (chosen_keeps s h.chosen (opening_is_kept s)) (chosen_rests s h.chosen)
+
+-- where its fibers have all ended it holds what is promised
+pub replay_keeps_promises : (s : ScriptView) (ps : List Pick) (r : ReportView) → IsCore s.term → IsReplay s ps r → KeepsWhatIsPromised s (λ f. true) r
+replay_keeps_promises s ps r core h =
+    let lawful = replay_is_lawful s ps r h in record { lawful = lawful; promised = ended_report_holds s (λ f. true) r core lawful }

@@ -2,6 +2,7 @@
 ghost use Rattle.std.specs.Prelude.{◌≡◌, true, IfOk};
 ghost use Rattle.fx_fiber.specs.LawfulReport.{IsLawfulReport};
 ghost use Rattle.fx_fiber.specs.Causes.{IsLawfulInOneOrder};
+ghost use Rattle.fx_fiber.specs.Headline.{KeepsWhatIsPromised};
 ghost use Rattle.fx_text.specs.View.{meaning};
 ghost use Rattle.fx_plain.specs.Chosen.{IsReplay};
 ghost use Rattle.fx_plain.specs.Replay.{script_of};
@@ -25,6 +26,8 @@ fn replay_named<J: CodeBrand>(
         (λ report. IsReplay (script_of (meaning script.now)) picks.now report) }
     ensures writable { IfOk result
         (λ report. IsWritable (queue_names (meaning script.now)) report) }
+    ensures promised { IfOk result
+        (λ report. KeepsWhatIsPromised (script_of (meaning script.now)) (λ f. true) report) }
 {
     let mut machine: PlainMachine<J> = PlainMachine::opening(alloc, script)?;
     for pick in picks {
@@ -44,6 +47,8 @@ pub fn replay(alloc: Global, script: &Script, picks: &[Pick]) -> Result<Report, 
         (λ report. IsLawfulReport (script_of (meaning script.now)) (λ f. true) report) }
     ensures causes { IfOk result
         (λ report. IsLawfulInOneOrder (script_of (meaning script.now)) (λ f. true) report) }
+    ensures promised { IfOk result
+        (λ report. KeepsWhatIsPromised (script_of (meaning script.now)) (λ f. true) report) }
     ensures writable { IfOk result
         (λ report. IsWritable (queue_names (meaning script.now)) report) }
 {
