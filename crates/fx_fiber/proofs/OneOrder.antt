@@ -1,5 +1,5 @@
 -- One order of all events goes on when a fiber shows one event more.
-use Rattle.std.proofs.Common.{◌≡◌, ℕ, ◌+◌, ◌<◌, ◌≤◌, Some, List, [], ◌∷◌, ◌++◌, length, refl, sym, ◌∙◌, ap, subst, arith, ◌⊎◌, inl, inr}
+use Rattle.std.proofs.Common.{◌≡◌, ℕ, ◌+◌, ◌<◌, ◌≤◌, Some, List, [], ◌∷◌, ◌++◌, length, sym, ◌∙◌, ap, subst, arith, ◌⊎◌, inl, inr}
 use Rattle.std.specs.Prelude.{slice_get, take}
 use Rattle.std.proofs.lemmas.Bool.{cases_eq}
 use Rattle.std.proofs.lemmas.Option.{slice_get_within}
@@ -8,7 +8,7 @@ use Rattle.fx_term.specs.declared.event.Event.{Event}
 use Rattle.fx_term.specs.declared.event.Event.TheVariants as event
 use Rattle.fx_term.specs.Queue.{QueueState}
 use Rattle.fx_fiber.specs.Row.{Label}
-use Rattle.fx_fiber.specs.Causes.{TakesWhatWasPut, LearnsOfEnd, Needs, taken_element, end_of_other, start, IsRequestedBefore, IsOneOrder}
+use Rattle.fx_fiber.specs.Causes.{Needs, taken_element, end_of_other, start, IsRequestedBefore, IsOneOrder}
 use Rattle.fx_fiber.proofs.Appended.{still_at, stood_or_new}
 
 -- lists by number, of which that of f has grown, by one element at most

@@ -1,5 +1,5 @@
 -- What a fiber took out of a queue is counted by what its trace got there, and was put by a fiber before.
-use Rattle.std.proofs.Common.{◌≡◌, ℕ, zero, suc, ◌+◌, ◌<◌, Bool, true, false, Option, Some, None, List, [], ◌∷◌, ◌++◌, length, map, refl, sym, ◌∙◌, ap, subst}
+use Rattle.std.proofs.Common.{◌≡◌, ℕ, zero, suc, ◌+◌, ◌<◌, Bool, true, false, Option, Some, None, List, [], ◌∷◌, ◌++◌, length, refl, sym, ◌∙◌, ap, subst}
 use Rattle.std.proofs.Common.{arith, inl, inr, append_assoc, append-nil}
 use Rattle.std.specs.Prelude.{◌==◌, if◌then◌else◌, slice_get, take, option_map}
 use Rattle.std.specs.List.{filter, filter_map, cons_option}
@@ -12,11 +12,11 @@ use Rattle.fx_term.specs.declared.event.Event.TheVariants as event
 use Rattle.fx_term.specs.declared.item.Item.{Item}
 use Rattle.fx_term.specs.declared.queue_event.QueueEvent.{QueueEvent}
 use Rattle.fx_term.specs.declared.queue_event.QueueEvent.TheVariants.{Put, Got}
-use Rattle.fx_term.specs.Queue.{cut, Taking, QueueState, empty_queue, items_of, with_taken, after_event, replayed_from, replayed, items_taken, queue_events}
+use Rattle.fx_term.specs.Queue.{cut, Taking, QueueState, empty_queue, after_event, replayed_from, replayed, items_taken, queue_events}
 use Rattle.fx_term.specs.Queue.{values_put, numbered}
 use Rattle.fx_term.proofs.QueueLaws.{get_parts, put_is, first_of_legal, replay_accounts, elements_are_offers}
 use Rattle.fx_fiber.specs.Causes.{values_got, takings_of, taking_of}
-use Rattle.fx_fiber.proofs.Appended.{still_at, stood_at, StandsIn, filter_stood, filter_keeps}
+use Rattle.fx_fiber.proofs.Appended.{still_at, stood_at, filter_stood, filter_keeps}
 
 -- the value that fiber f takes in an event
 abbrev got_by : ℕ → QueueEvent → Option ℕ

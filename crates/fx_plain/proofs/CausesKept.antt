@@ -1,7 +1,7 @@
 -- A step of the whole machine comes after what it stands on: so its moves are one order of all events.
-use Rattle.std.proofs.Common.{◌≡◌, ℕ, zero, suc, ◌+◌, ◌<◌, ◌≤◌, Bool, true, false, Option, Some, None, List, [], ◌∷◌, ◌++◌, All, length, refl, sym, ◌∙◌, ap, subst}
+use Rattle.std.proofs.Common.{◌≡◌, ℕ, suc, ◌<◌, ◌≤◌, true, Option, Some, None, List, [], ◌∷◌, ◌++◌, length, refl, sym, ◌∙◌, ap, subst}
 use Rattle.std.proofs.Common.{arith, inl, inr}
-use Rattle.std.specs.Prelude.{◌==◌, slice_get, take}
+use Rattle.std.specs.Prelude.{slice_get, take}
 use Rattle.std.specs.List.{list_any}
 use Rattle.std.proofs.lemmas.Bool.{cases_eq, eqb-true, or_cases}
 use Rattle.std.proofs.lemmas.Option.{none-some, same_Some, slice_get_within}
@@ -9,31 +9,30 @@ use Rattle.std.proofs.lemmas.List.{take_all}
 use Rattle.fx_term.specs.declared.outcome.Outcome.{Outcome}
 use Rattle.fx_term.specs.declared.event.Event.{Event}
 use Rattle.fx_term.specs.declared.event.Event.TheVariants as event
-use Rattle.fx_term.specs.declared.queue_event.QueueEvent.{QueueEvent}
-use Rattle.fx_term.specs.Script.{ScriptView, total}
+use Rattle.fx_term.specs.Script.{ScriptView}
 use Rattle.fx_term.specs.Queue.{cut, QueueState, empty_queue, Taking, replayed_from, replayed, queue_events, values_put}
 use Rattle.fx_term.proofs.QueueLaws.{replayed_append}
 use Rattle.fx_fiber.specs.Row.{Counts, Label, Silent, Shows, Learns, Starts}
 use Rattle.fx_fiber.specs.Origin.{Origin}
-use Rattle.fx_fiber.specs.Step.{Progress, HasEnded, Step}
+use Rattle.fx_fiber.specs.Step.{Progress, Step}
 use Rattle.fx_fiber.specs.Run.{events}
 use Rattle.fx_fiber.specs.Outside.{outcome_at}
 use Rattle.fx_fiber.specs.Report.{is_request_for}
-use Rattle.fx_fiber.specs.Causes.{values_got, taking_of, takings_of, shown, TakesWhatWasPut, LearnsOfEnd, Needs, taken_element, end_of_other, start}
+use Rattle.fx_fiber.specs.Causes.{values_got, taking_of, shown, TakesWhatWasPut, LearnsOfEnd, Needs, taken_element, end_of_other, start}
 use Rattle.fx_fiber.proofs.Keeping.{events_append}
 use Rattle.fx_fiber.proofs.OutcomeLaws.{no_step_after_end}
-use Rattle.fx_fiber.proofs.ShownLabels.{shown_events, shown_length, shown_append, one_shown, shown_holds}
+use Rattle.fx_fiber.proofs.ShownLabels.{shown_length, shown_append, one_shown, shown_holds}
 use Rattle.fx_fiber.proofs.StepLabels.{IsProper, step_tells}
 use Rattle.fx_fiber.proofs.Takes.{takes_counted, taken_before, fewer_before, taken_was_put}
 use Rattle.fx_fiber.proofs.OneOrder.{GrowsAt, Stands, stood, comes, stands, take_stays, old_or_new, HasOrder, StoodBefore, both, cause, IsRequestedIn, SeenAfter}
-use Rattle.fx_fiber.proofs.OneOrder.{seen, sees, order_grows, order_told}
-use Rattle.fx_plain.specs.WholeMachine.{StartedFiber, WholeMachine, with_at, opening, IsAnswered, moved, requested_from_outside}
+use Rattle.fx_fiber.proofs.OneOrder.{seen, sees, order_grows}
+use Rattle.fx_plain.specs.WholeMachine.{StartedFiber, WholeMachine, with_at, opening, IsAnswered, moved}
 use Rattle.fx_plain.proofs.Maps.{at_itself, at_other}
 use Rattle.fx_plain.proofs.WholeMachineSteps.{still_itself}
 use Rattle.fx_plain.proofs.RangesKept.{HasRanges, opened_at, fresh, child_is_another}
 use Rattle.fx_plain.proofs.FamilyKept.{labels_of_fiber, labels_of}
 use Rattle.fx_plain.proofs.HistoriesKept.{capacity_of, HasHistories, labels_of_other}
-use Rattle.fx_plain.proofs.RunsKept.{IsSo, AreSo, AskedBy, HasRequests}
+use Rattle.fx_plain.proofs.RunsKept.{IsSo, AreSo, HasRequests}
 
 abbrev pub trace_of : WholeMachine → ℕ → List Event
 trace_of m f = events (labels_of m f)

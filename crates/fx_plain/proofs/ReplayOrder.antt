@@ -1,11 +1,11 @@
 -- The events of a replay have one order, in which causes come first.
-use Rattle.std.proofs.Common.{◌≡◌, ℕ, Bool, true, false, Contains, List, sym, ◌∙◌, ap, subst, ◌<◌}
+use Rattle.std.proofs.Common.{◌≡◌, ℕ, true, false, Contains, List, sym, ◌∙◌, ◌<◌}
 use mathlib.Core.Path.{fun_ext}
 use Rattle.fx_term.specs.declared.event.Event.{Event}
 use Rattle.fx_term.specs.Script.{ScriptView, total}
 use Rattle.fx_term.specs.Queue.{QueueState}
 use Rattle.fx_fiber.specs.Row.{Label}
-use Rattle.fx_fiber.specs.Report.{ReportView, trace_in}
+use Rattle.fx_fiber.specs.Report.{ReportView}
 use Rattle.fx_fiber.specs.LawfulReport.{IsLawfulReport}
 use Rattle.fx_fiber.specs.Causes.{LeavesQueue, CausesComeFirst, IsLawfulInOneOrder, IsOneOrder}
 use Rattle.fx_fiber.proofs.OneOrder.{order_told}
@@ -14,7 +14,7 @@ use Rattle.fx_plain.specs.WholeMachine.{WholeMachine, Move, opening, can_step_in
 use Rattle.fx_plain.specs.Chosen.{IsChosen, step, no_step, request, no_request, least, rests, IsReportOf, IsReplay}
 use Rattle.fx_plain.proofs.Keys.{passing_contained}
 use Rattle.fx_plain.proofs.FamilyKept.{labels_of}
-use Rattle.fx_plain.proofs.HistoriesKept.{HasHistories, histories_grow}
+use Rattle.fx_plain.proofs.HistoriesKept.{histories_grow}
 use Rattle.fx_plain.proofs.LawfulRuns.{IsKept, opening_is_kept, moved_keeps, request_keeps, chosen_rests, trace_same, report_is_lawful, labels_told, queues_told}
 use Rattle.fx_plain.proofs.WholeMachineSteps.{with_true}
 use Rattle.fx_plain.proofs.CausesKept.{trace_of, AreLeft, AreFromOutside, IsInOrder, opening_is_in_order, order_kept}
