@@ -64,3 +64,4 @@ pub mod WaitsBelow
 pub mod Appended
 pub mod Takes
 pub mod OneOrder
+pub mod CausesFound

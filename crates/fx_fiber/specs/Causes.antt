@@ -1,5 +1,5 @@
 -- What an event stands on, and one order of all events of a report.
-use Rattle.std.specs.Prelude.{◌≡◌, ℕ, ◌<◌, ◌==◌, Bool, if◌then◌else◌, Option, Some, None, List, [], ◌∷◌, length, slice_get, take, Contains}
+use Rattle.std.specs.Prelude.{◌≡◌, ◌≢◌, ℕ, ◌<◌, ◌==◌, Bool, if◌then◌else◌, Option, Some, None, List, [], ◌∷◌, length, slice_get, take, Contains}
 use Rattle.std.specs.List.{filter, filter_map}
 use Rattle.fx_term.specs.declared.outcome.Outcome.{Outcome}
 use Rattle.fx_term.specs.declared.event.Event.{Event}
@@ -7,7 +7,7 @@ use Rattle.fx_term.specs.declared.event.Event.TheVariants as event
 use Rattle.fx_term.specs.Script.{ScriptView}
 use Rattle.fx_term.specs.Queue.{QueueState, Taking, values_put}
 use Rattle.fx_fiber.specs.Row.{Label, Silent, Learns}
-use Rattle.fx_fiber.specs.Report.{ReportView, trace_in}
+use Rattle.fx_fiber.specs.Report.{FiberReportView, ReportView, fiber_in, trace_in}
 use Rattle.fx_fiber.specs.LawfulReport.{HasHistory, IsLawfulReport}
 
 abbrev pub value_got : ℕ → Event → Option ℕ
@@ -61,6 +61,13 @@ pub data Needs (trace : ℕ → List Event) (labels : ℕ → List Label) (IsLef
   end_of_other : LearnsOfEnd trace labels f i g j → Needs trace labels IsLeft f i g j
   start : i ≡ 0 → slice_get (trace g) j ≡ Some (event.Start f) → Needs trace labels IsLeft f i g j
 
+-- an event that learns of an end: a join, an await, and the first of two
+abbrev pub IsLearning : Event → Type 0
+IsLearning (event.Joined g o) = Unit {0}
+IsLearning (event.Awaited g) = Unit {0}
+IsLearning (event.First n) = Unit {0}
+IsLearning _ = ⊥
+
 -- fiber f has an event i
 abbrev pub IsEvent : (ℕ → List Event) → ℕ → ℕ → Type 0
 IsEvent trace f i = i < length (trace f)
@@ -91,6 +98,14 @@ module _ (s : ScriptView) (may : ℕ → Bool) (r : ReportView) (lawful : IsLawf
     pub capacity : ℕ
     pub at : slice_get s.capacities q ≡ Some capacity
     pub is : state ≡ end_of_queue (lawful.histories q capacity at)
+
+  -- what an event stands on is in the report: the put of what is taken out of a queue of the script, the end that is learnt, and the start of a fiber
+  pub record FindsItsCauses : Type 0 where
+    pub puts : (f i q n capacity : ℕ) → slice_get s.capacities q ≡ Some capacity → slice_get (trace_in r f) i ≡ Some (event.Got q n)
+        → (g : ℕ) × (j : ℕ) × TakesWhatWasPut (trace_in r) LeavesQueue f i g j
+    pub ends : (f i : ℕ) (e : Event) → slice_get (trace_in r f) i ≡ Some e → IsLearning e
+        → (g : ℕ) × (j : ℕ) × LearnsOfEnd (trace_in r) lawful.runs.labels f i g j
+    pub starts : (f : ℕ) (x : FiberReportView) → fiber_in r f ≡ Some x → f ≢ 0 → (g : ℕ) × (j : ℕ) × (slice_get (trace_in r g) j ≡ Some (event.Start f))
 
   -- One order of all events of the report
   pub record CausesComeFirst : Type 0 where
