@@ -59,3 +59,7 @@ pub mod Starts
 pub mod AllWork
 pub mod LeavesBelow
 pub mod WaitsBelow
+pub mod Appended
+pub mod Takes
+pub mod OneOrder
+pub mod CausesFound

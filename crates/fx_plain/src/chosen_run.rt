@@ -1,6 +1,8 @@
 //! Replays a script: makes the run of its fibers that a schedule chooses.
 ghost use Rattle.std.specs.Prelude.{◌≡◌, true, IfOk};
 ghost use Rattle.fx_fiber.specs.LawfulReport.{IsLawfulReport};
+ghost use Rattle.fx_fiber.specs.Causes.{IsLawfulInOneOrder};
+ghost use Rattle.fx_fiber.specs.Headline.{KeepsWhatIsPromised};
 ghost use Rattle.fx_text.specs.View.{meaning};
 ghost use Rattle.fx_plain.specs.Chosen.{IsReplay};
 ghost use Rattle.fx_plain.specs.Replay.{script_of};
@@ -24,6 +26,8 @@ fn replay_named<J: CodeBrand>(
         (λ report. IsReplay (script_of (meaning script.now)) picks.now report) }
     ensures writable { IfOk result
         (λ report. IsWritable (queue_names (meaning script.now)) report) }
+    ensures promised { IfOk result
+        (λ report. KeepsWhatIsPromised (script_of (meaning script.now)) (λ f. true) report) }
 {
     let mut machine: PlainMachine<J> = PlainMachine::opening(alloc, script)?;
     for pick in picks {
@@ -41,6 +45,10 @@ pub fn replay(alloc: Global, script: &Script, picks: &[Pick]) -> Result<Report, 
         (λ report. IsReplay (script_of (meaning script.now)) picks.now report) }
     ensures lawful { IfOk result
         (λ report. IsLawfulReport (script_of (meaning script.now)) (λ f. true) report) }
+    ensures causes { IfOk result
+        (λ report. IsLawfulInOneOrder (script_of (meaning script.now)) (λ f. true) report) }
+    ensures promised { IfOk result
+        (λ report. KeepsWhatIsPromised (script_of (meaning script.now)) (λ f. true) report) }
     ensures writable { IfOk result
         (λ report. IsWritable (queue_names (meaning script.now)) report) }
 {

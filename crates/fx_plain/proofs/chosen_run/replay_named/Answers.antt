@@ -1,8 +1,10 @@
-use Rattle.std.proofs.Common.{◌≡◌, ◌∙◌, ◌+◌, ℕ, List, [], drop, length, map, sym, arith}
+use Rattle.std.proofs.Common.{◌≡◌, ◌∙◌, ◌+◌, ℕ, List, [], drop, length, map, true, sym, arith}
 use Rattle.std.specs.Prelude.{string_bytes}
 use Rattle.std.proofs.lemmas.List.{drop_more, drop_all, length-map}
 use Rattle.std.proofs.lemmas.Result.{IfOk-weaker}
+use Rattle.fx_term.proofs.CoreTerms.{code_is_core}
 use Rattle.fx_fiber.specs.Report.{ReportView}
+use Rattle.fx_fiber.specs.Headline.{KeepsWhatIsPromised}
 use Rattle.fx_text.specs.View.{meaning}
 use Rattle.fx_text.specs.declared.pick.Pick.TheVariants as pick
 use Rattle.fx_text.specs.declared.script.QueueDecl.{QueueDecl}
@@ -10,6 +12,7 @@ use Rattle.fx_plain.specs.Chosen.{IsReplay}
 use Rattle.fx_plain.specs.Replay.{script_of}
 use Rattle.fx_plain.specs.Text.{queue_names, IsWritable}
 use Rattle.fx_plain.specs.PlainMachine.{IsUnderWay}
+use Rattle.fx_plain.proofs.LawfulRuns.{replay_keeps_promises}
 use Rattle.fx_plain.proofs.chosen_run.replay_named.Goals as goal
 
 pub loop-pick-preserved : goal.loop-pick-preserved
@@ -33,6 +36,13 @@ returns-clause-replayed g c =
     length-map named (λ (q : List ℕ × ℕ). q.1) ∙ length-map queues _ ∙ sym c.args.script.now.queues.ok.0 ∙ sym c.len.ensures in
     IfOk-weaker c.into_report.result _ (IsReplay s picks)
     (λ (report : ReportView). λ replays. replays s picks many (c.in_ok-run_to_rest.ensures.way s picks ended)) c.into_report.ensures.replay
+
+pub returns-clause-promised : goal.returns-clause-promised
+returns-clause-promised g c =
+    let s = script_of (meaning c.args.script.now) in
+    let core = code_is_core c.args.script.now.code.nodes c.in_ok-machine.ensures.code in
+    IfOk-weaker c.into_report.result (IsReplay s c.args.picks.now) (KeepsWhatIsPromised s (λ f. true))
+    (λ (report : ReportView). λ replays. replay_keeps_promises s c.args.picks.now report core replays) (returns-clause-replayed g c)
 
 pub returns-clause-writable : goal.returns-clause-writable
 returns-clause-writable g c =
