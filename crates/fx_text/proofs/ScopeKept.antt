@@ -52,6 +52,7 @@ use Rattle.fx_text.specs.declared.form.Form.{Form}
 use Rattle.fx_text.specs.declared.form.Form.TheVariants as form
 use Rattle.fx_text.specs.Token.{Token, Open, Close, Number, Name, Stray, Misnumber, End}
 use Rattle.fx_text.specs.Scope.{Scope, Bound, top, under, bound_elsewhere, elsewhere, left_of_race, right_of_race, repeated, slot, same_kind, slot_of}
+use Rattle.fx_text.specs.Queues.{names_of}
 use Rattle.fx_text.specs.Group.{Group, OfTerm, OfResource, OfResources, OfOutcome, Resource, Content, under_all, scope_after}
 use Rattle.fx_text.specs.declared.reader.races.RaceSlots.{RaceSlots}
 use Rattle.fx_text.specs.Race.{race_slots, cancel_both, outcome_of, decided, deciding, race}
@@ -571,5 +572,5 @@ spelled_fits g P room (groups k p go) ks x (groups_more d) h =
     spelled_fits g P room (group k p λ a. groups k (scope_after k a p) λ others. go (a ∷ others)) ks x d (λ a first others each. h (a ∷ others) (first, each))
 
 -- the term of a script stands in no binder's scope and in no loop
-pub script_fits : (text : List ℕ) (m : Meaning) → IsScript text m → StandsAt top m.term
-script_fits text m s = spelled_fits OfTerm (StandsAt top) 99 _ s.tokens m.term s.main (λ t h. h)
+pub script_fits : (text : List ℕ) (m : Meaning) → IsScript text m → StandsAt (top (names_of m.queues)) m.term
+script_fits text m s = spelled_fits OfTerm (StandsAt (top (names_of m.queues))) 99 _ s.tokens m.term s.main (λ t h. h)

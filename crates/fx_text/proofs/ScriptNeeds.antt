@@ -12,6 +12,7 @@ use Rattle.fx_text.specs.Limits.{most_open}
 use Rattle.fx_text.specs.declared.reader.races.RaceSlots.{RaceSlots}
 use Rattle.fx_text.specs.Scope.{Scope, top, slot}
 use Rattle.fx_text.specs.Race.{race_slots, cancel_both, outcome_of, decided, deciding, race}
+use Rattle.fx_text.specs.Queues.{names_of}
 use Rattle.fx_text.specs.Group.{Group, OfTerm, OfResource, OfResources, OfOutcome, Resource, Content, needs_few}
 use Rattle.fx_text.specs.Shape.{Shape, ends, word, value, count, name, binder, group, groups, seq, using, shape, content, main_shape}
 use Rattle.fx_text.specs.Meaning.{Meaning}
@@ -102,8 +103,8 @@ spelled_few (groups_end more) few m = spelled_few more few (m [] tt)
 spelled_few (groups_more more) few m = spelled_few more few (λ a first others each. m (a ∷ others) (first, each))
 
 -- the term of main is a form that was tested
-main_few : (t : Term) (room : ℕ) (ks : List Token) → Spells OfTerm room main_shape ks t → NeedsFew t
-main_few t room ks (group_so left a inner rest e within tested ends_so whole) = spelled_few within tested (content_few OfTerm top)
+main_few : (queues : List (List ℕ)) (t : Term) (room : ℕ) (ks : List Token) → Spells OfTerm room (main_shape queues) ks t → NeedsFew t
+main_few queues t room ks (group_so left a inner rest e within tested ends_so whole) = spelled_few within tested (content_few OfTerm (top queues))
 
 pub script_needs_few : (text : List ℕ) (m : Meaning) → IsScript text m → NeedsFew m.term
-script_needs_few text m s = main_few m.term most_open s.tokens s.main
+script_needs_few text m s = main_few (names_of m.queues) m.term most_open s.tokens s.main

@@ -107,6 +107,6 @@ content OfResource p = binder p λ x. term p λ a. term (under kind.Value x p) �
 content OfOutcome p = binder p λ x. term (under kind.Value x p) λ t. ends t
 content OfResources p = group OfResource p λ r. groups OfResource (under kind.Value r.name p) λ rs. ends (r ∷ rs)
 
--- main, which is its term
-abbrev pub main_shape : Shape OfTerm
-main_shape = term top λ t. ends t
+-- main, which is its term, in the scope of the names of these queues
+abbrev pub main_shape : List (List ℕ) → Shape OfTerm
+main_shape queues = term (top queues) λ t. ends t

@@ -1,7 +1,7 @@
 //! The parts of a form that are one token.
 ghost use Rattle.std.specs.Prelude.{ℕ, ◌≡◌, ◌+◌, ◌<◌, ◌≤◌, ◌^◌, List, length, nat_le, IfOk};
 ghost use Rattle.fx_term.specs.Turns.{most_turns, turns_of_loop};
-ghost use Rattle.fx_text.specs.Reading.{kind_of, opening_at, closing_at, value_at, count_at, name_at, binder_at, form_at, main_word_at, too_deep};
+ghost use Rattle.fx_text.specs.Reading.{kind_of, opening_at, closing_at, value_at, count_at, name_at, binder_at, form_at, too_deep};
 ghost use Rattle.fx_text.specs.Part.{is_closing};
 ghost use Rattle.fx_text.specs.Token.{next};
 ghost use Rattle.fx_text.specs.TokenView.{view_token};
@@ -151,8 +151,8 @@ pub(crate) fn name<'a>(
 /// A name that is not in scope.
 #[tactic(auto, unfolding(crate::specs::Reading::binder_at))]
 pub(crate) fn binder<'a>(
-    names: &[Bound<'a>],
-    place: Place<'a>,
+    names: &[Bound<'_>],
+    place: Place<'_>,
     bytes: &'a [u8],
 ) -> Result<(&'a [u8], &'a [u8]), ReadError>
     ensures read { Gives (λ x. (x.0.now, x.1.now)) result
@@ -183,24 +183,6 @@ pub(crate) fn form(bytes: &[u8]) -> Result<(Form, &[u8]), ReadError>
             None => Err(refused(TextKind::Form, lexeme)),
             Some(form) => Ok((form, lexeme.rest)),
         },
-        _ => Err(refused(TextKind::Form, lexeme)),
-    }
-}
-
-/// The word `main`.
-#[tactic(auto, unfolding(crate::specs::Reading::main_word_at))]
-pub(crate) fn main_word(bytes: &[u8]) -> Result<&[u8], ReadError>
-    ensures read { Gives (λ x. (tt, x.now)) result (main_word_at bytes.now) }
-    ensures shorter { IfOk result (λ x. length x.now < length bytes.now) }
-{
-    let lexeme = next(bytes);
-    match lexeme.token {
-        Token::Name(name) => {
-            if name == b"main".as_slice() {
-                return Ok(lexeme.rest);
-            }
-            Err(refused(TextKind::Form, lexeme))
-        }
         _ => Err(refused(TextKind::Form, lexeme)),
     }
 }
