@@ -1,5 +1,5 @@
 -- A step keeps what a fiber's type says.
-use Rattle.std.proofs.Common.{◌≡◌, ◌+◌, ◌^◌, ◌<◌, ◌≤◌, Bool, true, false, Option, List, [], ◌∷◌, ◌++◌, refl, sym, ◌∙◌, ap, arith, append_assoc, append-nil}
+use Rattle.std.proofs.Common.{◌≡◌, ℕ, ◌+◌, ◌^◌, ◌<◌, ◌≤◌, Bool, true, false, Option, List, [], ◌∷◌, ◌++◌, refl, sym, ◌∙◌, ap, arith, append_assoc, append-nil}
 use Rattle.fx_term.specs.declared.node.Node.{Node}
 use Rattle.fx_term.specs.declared.begin.Begin.{Begin}
 use Rattle.fx_term.specs.declared.event.Event.{Event}
@@ -19,6 +19,7 @@ use Rattle.fx_fiber.specs.Machine.{progress_of, counts_of}
 use Rattle.fx_fiber.specs.Sound.{IsSoundMachine}
 use Rattle.fx_fiber.specs.Bare.{IsFirstMachine}
 use Rattle.fx_fiber.specs.Work.{work_left}
+use Rattle.fx_fiber.specs.PutsLeft.{puts_of, puts_with}
 use Rattle.fx_fiber.specs.Methods.{Steps, IsSame, label_of, deeds_made, Advances}
 use Rattle.fx_fiber.specs.Calls.{PortCalls, Range, range_of, first_range}
 use Rattle.fx_fiber.specs.MakesStep.{Answers}
@@ -52,19 +53,24 @@ deeds_more : (nodes : List Node) (ls : List Label) (ds : List Deed) (l : Label) 
 deeds_more nodes [] ds l es h k = (es, [], k, refl, rw h (sym (append-nil es)))
 deeds_more nodes (m ∷ ls) ds l es h k = (h.0, h.1 ++ es, h.2, deeds_more nodes ls h.1 l es h.3 k, rw h.4 (append_assoc h.0 h.1 es))
 
+puts_more : (l : Label) (puts : ℕ) → puts_with l puts ≡ puts + puts_of l
+puts_more (Shows (event.Put q n)) puts = omega arith
+puts_more _ puts = omega arith
+
 -- the numbers that a step takes in a range that fits a word are numbers of fibers
 pub taken_fit : {c d : Counts} {p q : Progress} {l : Label} → Step c p l d q → c.next + need_left p ≤ c.end → c.end < 2 ^ 32
     → GivesTaken is_fiber_number c d
 taken_fit step room word f low high = let n = step_need step in lt-ltb f (2 ^ 32) (omega arith)
 
 module _ (nodes : List Node) (begin begin' : Begin) (agrees agrees' : List Deed → Type 0) (finished finished' : Bool) (rest rest' : Range)
-    (trace trace' : List Event) (s s' : Machine) (same_begin : begin' ≡ begin) where
+    (puts puts' : ℕ) (trace trace' : List Event) (s s' : Machine) (same_begin : begin' ≡ begin) where
   -- a step whose event is added to the trace, and whose deeds are added to those of the port
-  pub kept_step : (l : Label) (es : List Deed) → AreDeedsOf nodes l es → IsKept nodes begin agrees finished rest trace s → Steps nodes s l s'
+  pub kept_step : (l : Label) (es : List Deed) → AreDeedsOf nodes l es → IsKept nodes begin agrees finished rest puts trace s → Steps nodes s l s'
       → IsSoundMachine nodes s' → trace' ≡ trace ++ events (l ∷ [])
       → ((ds : List Deed) → agrees ds → agrees' (ds ++ es)) → finished' ≡ shows_end l → rest' ≡ range_of (counts_of s')
-      → IsKept nodes begin' agrees' finished' rest' trace' s'
-  kept_step l es are k step sound t go f numbers = record {
+      → puts' ≡ puts_with l puts
+      → IsKept nodes begin' agrees' finished' rest' puts' trace' s'
+  kept_step l es are k step sound t go f numbers counted = record {
     sound = sound;
     lawful = record {
       labels = k.lawful.labels ++ l ∷ [];
@@ -74,7 +80,7 @@ module _ (nodes : List Node) (begin begin' : Begin) (agrees agrees' : List Deed 
       are_deeds = deeds_more nodes k.lawful.labels k.lawful.deeds l es k.lawful.are_deeds are;
       agreed = go k.lawful.deeds k.lawful.agreed;
     };
-    countable = let p = step_work step in let q = k.countable in omega arith;
+    countable = let p = step_work step in let q = k.countable in let r = counted ∙ puts_more l puts in omega arith;
     scoped = (step_over is_fiber_number step (taken_fit step k.room k.word) k.scoped).0;
     room = let n = step_need step in let e = (step_tells step).end in let r = k.room in omega arith;
     word = let e = (step_tells step).end in let w = k.word in omega arith;
@@ -83,9 +89,10 @@ module _ (nodes : List Node) (begin begin' : Begin) (agrees agrees' : List Deed 
   }
 
   -- a fiber that has come no further
-  pub kept_same : IsKept nodes begin agrees finished rest trace s → IsSame nodes s s' → IsSoundMachine nodes s' → trace' ≡ trace
-      → ((ds : List Deed) → agrees ds → agrees' ds) → finished' ≡ finished → rest' ≡ rest → IsKept nodes begin' agrees' finished' rest' trace' s'
-  kept_same k same sound t go f r = record {
+  pub kept_same : IsKept nodes begin agrees finished rest puts trace s → IsSame nodes s s' → IsSoundMachine nodes s' → trace' ≡ trace
+      → ((ds : List Deed) → agrees ds → agrees' ds) → finished' ≡ finished → rest' ≡ rest → puts' ≡ puts
+      → IsKept nodes begin' agrees' finished' rest' puts' trace' s'
+  kept_same k same sound t go f r counted = record {
     sound = sound;
     lawful = record {
       labels = k.lawful.labels;
@@ -98,7 +105,7 @@ module _ (nodes : List Node) (begin begin' : Begin) (agrees agrees' : List Deed 
     countable =
         let masks : s'.masks.entries ≡ s.masks.entries = ap (λ (c : Counts). c.masks) same.counts in
         let acquired : s'.acquired ≡ s.acquired = ap (λ (c : Counts). c.acquired) same.counts in
-        rw (masks, acquired, same.progress) k.countable;
+        rw (masks, acquired, counted, same.progress) k.countable;
     scoped = rw same.progress k.scoped;
     room =
         let next : s'.next ≡ s.next = ap (λ (c : Counts). c.next) same.counts in
@@ -116,11 +123,11 @@ are_deeds_made nodes (made.Learns f o e) on = refl
 are_deeds_made nodes _ on = refl
 
 -- a fiber before its first step
-pub kept_at_first : (nodes : List Node) (begin : Begin) (agrees : List Deed → Type 0) (finished : Bool) (rest : Range) (trace : List Event)
+pub kept_at_first : (nodes : List Node) (begin : Begin) (agrees : List Deed → Type 0) (finished : Bool) (rest : Range) (puts : ℕ) (trace : List Event)
     (s : Machine) → work_left (Runs (origin_of nodes begin).term) < 2 ^ 63 → IsScopedOver is_fiber_number (origin_of nodes begin).term
-    → HasRoom (origin_of nodes begin) → begin.end < 2 ^ 32 → agrees [] → finished ≡ false → rest ≡ first_range begin → trace ≡ []
-    → IsFirstMachine nodes begin s → IsKept nodes begin agrees finished rest trace s
-kept_at_first nodes begin agrees finished rest trace s few over room word a f r t first = record {
+    → HasRoom (origin_of nodes begin) → begin.end < 2 ^ 32 → agrees [] → finished ≡ false → rest ≡ first_range begin → puts ≡ 0 → trace ≡ []
+    → IsFirstMachine nodes begin s → IsKept nodes begin agrees finished rest puts trace s
+kept_at_first nodes begin agrees finished rest puts trace s few over room word a f r none t first = record {
   sound = first.sound;
   lawful = record {
     labels = [];
@@ -133,7 +140,7 @@ kept_at_first nodes begin agrees finished rest trace s few over room word a f r 
   countable =
       let masks : s.masks.entries ≡ 0 = ap (λ (c : Counts). c.masks) first.counts in
       let acquired : s.acquired ≡ 0 = ap (λ (c : Counts). c.acquired) first.counts in
-      rw (masks, acquired, first.progress) (omega arith);
+      rw (masks, acquired, none, first.progress) (omega arith);
   scoped = rw first.progress over;
   room =
       let next : s.next ≡ begin.next = ap (λ (c : Counts). c.next) first.counts in
@@ -153,26 +160,28 @@ made_keeps_range made.Yielded step = step_keeps_range step refl
 made_keeps_range made.Waits step = step_keeps_range step refl
 made_keeps_range (made.Starts h a b) step = step_keeps_range step refl
 
-module _ {P S : Type 0} (nodes : List Node) (begin begin' : Begin) (calls : PortCalls P S) (agrees : P → List Deed → Type 0) (p p' : P) (sh sh' : S)
-    (finished finished' : Bool) (rest rest' : Range) (trace trace' : List Event) (s s' : Machine) where
+module _ {P S : Type 0} (nodes : List Node) (begin begin' : Begin) (calls : PortCalls P S) (agrees : P → List Deed → Type 0) (puts : P → ℕ) (p p' : P)
+    (sh sh' : S) (finished finished' : Bool) (rest rest' : Range) (trace trace' : List Event) (s s' : Machine) where
   -- a step that was not the last keeps the fiber
-  pub kept_going : (m : Made) → begin' ≡ begin → IsKept nodes begin (agrees p) finished rest trace s → has_ended (progress_of nodes s) ≡ false
-      → Advances calls agrees nodes s p sh m s' p' sh' → Steps nodes s (label_of m) s'
+  pub kept_going : (m : Made) → begin' ≡ begin → IsKept nodes begin (agrees p) finished rest (puts p) trace s → has_ended (progress_of nodes s) ≡ false
+      → Advances calls agrees puts nodes s p sh m s' p' sh' → Steps nodes s (label_of m) s'
       → finished' ≡ finished → rest' ≡ rest → shows_end (label_of m) ≡ false → trace' ≡ trace ++ events (label_of m ∷ [])
-      → IsKept nodes begin' (agrees p') finished' rest' trace' s'
+      → IsKept nodes begin' (agrees p') finished' rest' (puts p') trace' s'
   kept_going m b kept going a step f r on t =
-      kept_step nodes begin begin' (agrees p) (agrees p') finished finished' rest rest' trace trace' s s' b (label_of m) (deeds_made m)
+      kept_step nodes begin begin' (agrees p) (agrees p') finished finished' rest rest' (puts p) (puts p') trace trace' s s' b (label_of m) (deeds_made m)
       (are_deeds_made nodes m on) kept step a.sound t a.agreed (f ∙ kept.ended ∙ going ∙ sym on) (r ∙ kept.numbers ∙ sym (made_keeps_range m step))
+      a.counted
 
   -- so does the last one
-  pub kept_ended : (o : Outcome) (p'' : P) → begin' ≡ begin → IsKept nodes begin (agrees p) finished rest trace s
-      → Advances calls agrees nodes s p sh (made.Shows (event.Ended o)) s' p' sh' → finished' ≡ true → rest' ≡ rest
+  pub kept_ended : (o : Outcome) (p'' : P) → begin' ≡ begin → IsKept nodes begin (agrees p) finished rest (puts p) trace s
+      → Advances calls agrees puts nodes s p sh (made.Shows (event.Ended o)) s' p' sh' → finished' ≡ true → rest' ≡ rest → puts p'' ≡ puts p'
       → ((ds : List Deed) → agrees p' ds → agrees p'' (ds ++ Ended o ∷ [])) → trace' ≡ trace ++ event.Ended o ∷ []
-      → IsKept nodes begin' (agrees p'') finished' rest' trace' s'
-  kept_ended o p'' b kept a f r tells t =
-      kept_step nodes begin begin' (agrees p) (agrees p'') finished finished' rest rest' trace trace' s s' b (Shows (event.Ended o))
+      → IsKept nodes begin' (agrees p'') finished' rest' (puts p'') trace' s'
+  kept_ended o p'' b kept a f r counted tells t =
+      kept_step nodes begin begin' (agrees p) (agrees p'') finished finished' rest rest' (puts p) (puts p'') trace trace' s s' b (Shows (event.Ended o))
       (Ended o ∷ []) refl kept a.rule a.sound t
       (λ ds h. tells ds (rw a.asks.1.0 h)) f (r ∙ kept.numbers ∙ sym (made_keeps_range (made.Shows (event.Ended o)) a.rule))
+      (counted ∙ a.counted)
 
 -- the trace after one more event
 pub one_more : (old room new : List Event) (e : Event) → room ≡ old → new ≡ room ++ e ∷ [] → new ≡ old ++ e ∷ []

@@ -23,12 +23,14 @@ use Rattle.fx_fiber.specs.Machine.{masks_inside, loop_of, within, running, unwin
 use Rattle.fx_fiber.specs.Sound.{closed_outside, AreClosedBy, IsLoopIn, IsSoundMachine}
 use Rattle.fx_fiber.specs.Methods.{IsEntryOf, IsEvaluating}
 use Rattle.fx_fiber.specs.Fiber.{is_fiber_number}
-use Rattle.fx_fiber.specs.Scopes.{IsProgressScopedOver}
+use Rattle.fx_fiber.specs.Scopes.{IsClosedTerm, IsProgressScopedOver}
 use Rattle.fx_fiber.specs.LeafBelow.{IsDownTo, is_open_inside, IsLeafBelow, term_at}
 use Rattle.fx_fiber.specs.declared.machine.leaf_below.LeafBelow.{LeafBelow}
 use Rattle.fx_fiber.proofs.Contexts.{leaf_within, closed_within, open_within, must_within, clean_up_is_closed}
 use Rattle.fx_fiber.proofs.Rules.{IsLeafTerm, result_term}
 use Rattle.fx_fiber.proofs.Fibers.{join_within, join_fits, left_within, right_within, left_fits, right_fits}
+use Rattle.fx_fiber.proofs.Leaves.{leaf_here}
+use Rattle.fx_fiber.proofs.ScopedRuns.{leaf_at_over}
 use Rattle.fx_fiber.proofs.Nodes.{leaf_of_node, loop_term, progress_is, entered_sound, entered_same, inside_entries}
 
 -- what is open inside a context is read off what its masks close
@@ -188,3 +190,13 @@ module _ (nodes : List Node) (s : Machine) (leaf : LeafBelow) (below : IsLeafBel
         let both : (slice_index t.registers f < 2 ^ 32) × (slice_index t.registers g < 2 ^ 32) =
         (left_fits nodes t below.id f g at over_below, right_fits nodes t below.id f g at over_below) in
         rw below.down.registers at both
+
+-- each name of the leaf below is bound in it
+pub closed_below : (nodes : List Node) (s : Machine) (leaf : LeafBelow) → IsLeafBelow nodes s leaf
+    → IsProgressScopedOver is_fiber_number (progress_of nodes s) → IsClosedTerm (term_at nodes s.registers leaf.node)
+closed_below nodes s leaf below over =
+    let t = below.down.inside in
+    let over_there : IsProgressScopedOver is_fiber_number (progress_of nodes t) = rw below.down.same.progress over in
+    let at : IsEvaluating nodes t below.id leaf.node = record { sound = below.down.same.sound; focus = below.down.focus; node = below.node } in
+    let here = leaf_at_over is_fiber_number (progress_of nodes t) _ (leaf_here nodes t below.id leaf.node at below.is_leaf) over_there in
+    rw below.down.registers at here.0

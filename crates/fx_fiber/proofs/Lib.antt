@@ -16,6 +16,7 @@ pub mod Ends
 pub mod Looks
 pub mod Calls
 pub mod Fibers
+pub mod QueueLeaves
 pub mod Advances
 pub mod Ranges
 pub mod Beginnings

@@ -87,6 +87,10 @@ module _ {P S : Type 0} (calls : PortCalls P S) where
   calls_of_asks nodes due leaf (made.Learns f o e) answer p p' s s' own on a = record { looked = a.0; left_first = a.1.0; told = a.1.1 }
   calls_of_asks nodes due leaf (made.Shows event.Seen) answer p p' s s' own on a = record { looked = tt; left_first = tt; told = a }
   calls_of_asks nodes due leaf (made.Shows (event.Request f)) answer p p' s s' own on a = record { looked = a.0; left_first = tt; told = a.1 }
+  calls_of_asks nodes due leaf (made.Shows (event.Put q n)) answer p p' s s' own on a = record { looked = a.0; left_first = tt; told = a.1 }
+  calls_of_asks nodes due leaf (made.Shows (event.Got q n)) answer p p' s s' own on a = record { looked = a.0; left_first = tt; told = a.1 }
+  calls_of_asks nodes due leaf (made.Shows (event.Refused q)) answer p p' s s' own on a = record { looked = a.0; left_first = tt; told = a.1 }
+  calls_of_asks nodes due leaf (made.Shows (event.Empty q)) answer p p' s s' own on a = record { looked = a.0; left_first = tt; told = a.1 }
   calls_of_asks nodes due leaf (made.Shows event.Cancelled) answer p p' s s' own on a = record { looked = a.0; left_first = tt; told = a.1 }
   calls_of_asks nodes due leaf (made.Shows event.SelfRequest) answer p p' s s' own on a = record { looked = a.0; left_first = tt; told = a.1 }
   calls_of_asks nodes due leaf (made.Shows (event.Acquired k)) answer p p' s s' own on a = record { looked = a.0; left_first = tt; told = a.1 }

@@ -96,8 +96,8 @@ module _ (nodes : List Node) (s : Machine) (id : NodeId) (h : ℕ) (a b : NodeId
       pub part_scoped : s.end < 2 ^ 32 → IsProgressScopedOver is_fiber_number (progress_of nodes s) → IsScopedOver is_fiber_number part
       part_scoped word over = (step_over is_fiber_number start_step (taken_fit start_step room word) over).1
 
-    pub part_works : s.masks.entries + s.acquired + work_left (progress_of nodes s) < 2 ^ 63 → 1 + work part < 2 ^ 63
-    part_works few = let p = step_leaves_less start_step in let q = unknown_small s.known in omega arith
+    pub part_works : (puts : ℕ) → s.masks.entries + s.acquired + puts + work_left (progress_of nodes s) < 2 ^ 63 → 1 + work part < 2 ^ 63
+    part_works puts few = let p = step_leaves_less start_step in let q = unknown_small s.known in omega arith
 
     -- so it makes the rule
     pub start_makes : (n : ℕ) (t : Machine) → n ≡ need part

@@ -13,6 +13,7 @@ use Rattle.fx_fiber.specs.Row as row
 use Rattle.fx_fiber.specs.Step.{Progress, Runs, Unwinds, CleansUp, HasEnded, Step}
 use Rattle.fx_fiber.specs.Step as step
 use Rattle.fx_fiber.specs.Run.{IsUnrequested, Leads}
+use Rattle.fx_fiber.specs.PutsLeft.{puts_of}
 use Rattle.fx_fiber.specs.Work.{work, clean_up_work, work_left}
 use Rattle.fx_fiber.proofs.Paths.{along_path}
 
@@ -104,12 +105,12 @@ leads_lower c d p q (l ∷ ls) r u =
     let rest = leads_lower r.0 d r.1 q ls r.3 (All-tail IsUnrequested l ls u) in
     omega arith
 
--- a step enters one mask or acquires one resource at most, so both together and the work that is left are never more than before
-row_counts : {k : Bool} {c d : Counts} {l : Label} {t t' : Term} → Row k c t l d t' → d.masks + d.acquired ≤ 1 + c.masks + c.acquired
+-- a step enters one mask, acquires one resource or puts one element at most, so these together and the work that is left are never more than before
+row_counts : {k : Bool} {c d : Counts} {l : Label} {t t' : Term} → Row k c t l d t' → d.masks + d.acquired + puts_of l ≤ 1 + c.masks + c.acquired
 row_counts (row.inside f e g r) = row_counts r
 row_counts _ = omega arith
 
-pub step_work : {c d : Counts} {p q : Progress} {l : Label} → Step c p l d q → d.masks + d.acquired + work_left q ≤ c.masks + c.acquired + work_left p
+pub step_work : {c d : Counts} {p q : Progress} {l : Label} → Step c p l d q → d.masks + d.acquired + puts_of l + work_left q ≤ c.masks + c.acquired + work_left p
 step_work (step.cancelled {t = t} m) = let e = clean_ups_lower t in omega arith
 step_work {c} {d} {l = l} (step.row {t = t} {t' = t'} m r) = let e = row_lowers _ c d l t t' r in let f = row_counts r in omega arith
 step_work {c} {d} {l = l} (step.cleans {t = t} {t' = t'} r) = let e = row_lowers _ c d l t t' r in let f = row_counts r in omega arith

@@ -1,7 +1,9 @@
--- What contracts know of a port: a relation for each call, and the numbers that are left for fibers.
-use Rattle.std.specs.Prelude.{◌≡◌, ℕ, ◌+◌, ◌≤◌, Bool, Option}
+-- What contracts know of a port: a relation for each call, the numbers that are left for fibers, and how many elements it has put.
+use Rattle.std.specs.Prelude.{◌≡◌, ℕ, suc, ◌+◌, ◌≤◌, Bool, Option}
 use Rattle.fx_term.specs.declared.begin.Begin.{Begin}
 use Rattle.fx_term.specs.declared.outcome.Outcome.{Outcome}
+use Rattle.fx_term.specs.declared.offered.Offered.{Offered}
+use Rattle.fx_term.specs.declared.offered.Offered.TheVariants.{Done, Full}
 use Rattle.fx_fiber.specs.Row.{Counts}
 
 -- for each call the port and the outside before it, what it is given, its answer, and both after it; the answer of a start is the port of the child
@@ -9,6 +11,8 @@ pub record PortCalls (P S : Type 0) : Type 1 where
   pub looks : P → S → Bool → P → S → Type 0
   pub requests : P → S → ℕ → P → S → Type 0
   pub peeks : P → S → ℕ → Option Outcome → P → S → Type 0
+  pub offers : P → S → ℕ → ℕ → Offered → P → S → Type 0
+  pub takes : P → S → ℕ → Option ℕ → P → S → Type 0
   pub starts : P → S → ℕ → Begin → P → P → S → Type 0
   pub finishes : P → S → Outcome → P → S → Type 0
 
@@ -35,3 +39,13 @@ pub record HasRange (left : Range) (id : ℕ) (begin : Begin) : Type 0 where
 -- those that are left after the child's range
 abbrev pub range_after : Begin → Range → Range
 range_after begin left = record { next = begin.end; end = left.end }
+
+-- how many elements were put after an offer with this answer
+abbrev pub puts_after : Offered → ℕ → ℕ
+puts_after Done n = suc n
+puts_after Full n = n
+
+-- that, unless the element was put
+abbrev pub IsUnlessPut : Offered → Type 0 → Type 0
+IsUnlessPut Done A = Unit {0}
+IsUnlessPut Full A = A

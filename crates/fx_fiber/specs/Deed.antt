@@ -3,6 +3,8 @@ use Rattle.std.specs.Prelude.{◌≡◌, ℕ, List, [], ◌∷◌, ◌++◌}
 use Rattle.fx_term.specs.declared.node.Node.{Node}
 use Rattle.fx_term.specs.declared.begin.Begin.{Begin}
 use Rattle.fx_term.specs.declared.outcome.Outcome.{Outcome}
+use Rattle.fx_term.specs.declared.offered.Offered.{Offered}
+use Rattle.fx_term.specs.declared.offered.Offered.TheVariants.{Done, Full}
 use Rattle.fx_term.specs.declared.event.Event.{Event}
 use Rattle.fx_term.specs.declared.event.Event.TheVariants as event
 use Rattle.fx_fiber.specs.Row.{Label, Silent, Shows, Learns, Starts}
@@ -20,6 +22,11 @@ pub data Deed : Type 0 where
   FoundEmpty : ℕ → Deed
   FoundEnded : ℕ → Outcome → Deed
   Ended : Outcome → Deed
+
+-- the deed of an offer of this value to a queue, with this answer
+abbrev pub deed_of_offer : ℕ → ℕ → Offered → Deed
+deed_of_offer q n Done = Put q n
+deed_of_offer q n Full = FoundFull q
 
 -- the deeds of a step that shows this event
 abbrev pub deeds_of_event : Event → List Deed

@@ -66,13 +66,13 @@ pub record IsLawful (nodes : List Node) (begin : Begin) (agrees : List Deed → 
 abbrev pub is_fiber_number : ℕ → Bool
 is_fiber_number f = nat_lt f (2 ^ 32)
 
--- what a fiber's parts keep: they are sound, lawful, its masks and resources can be counted, its names are bound and those of fibers stand for numbers of
+-- what a fiber's parts keep: they are sound, lawful, its masks, resources and puts can be counted, its names are bound and those of fibers stand for numbers of
 -- fibers, its range has room for all that it can start, and its port knows whether it has ended, and the numbers that are left
-pub record IsKept (nodes : List Node) (begin : Begin) (agrees : List Deed → Type 0) (finished : Bool) (rest : Range) (trace : List Event)
-    (s : Machine) : Type 0 where
+pub record IsKept (nodes : List Node) (begin : Begin) (agrees : List Deed → Type 0) (finished : Bool) (rest : Range) (puts : ℕ)
+    (trace : List Event) (s : Machine) : Type 0 where
   pub sound : IsSoundMachine nodes s
   pub lawful : IsLawful nodes begin agrees trace (counts_of s) (progress_of nodes s)
-  pub countable : s.masks.entries + s.acquired + work_left (progress_of nodes s) < 2 ^ 63
+  pub countable : s.masks.entries + s.acquired + puts + work_left (progress_of nodes s) < 2 ^ 63
   pub scoped : IsProgressScopedOver is_fiber_number (progress_of nodes s)
   pub room : s.next + need_left (progress_of nodes s) ≤ s.end
   pub word : s.end < 2 ^ 32

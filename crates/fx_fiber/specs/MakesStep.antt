@@ -12,7 +12,8 @@ use Rattle.fx_fiber.specs.Run.{events}
 use Rattle.fx_fiber.specs.Origin.{Origin, origin_of}
 use Rattle.fx_fiber.specs.Calls.{PortCalls}
 use Rattle.fx_fiber.specs.declared.source.Source.{Source}
-use Rattle.fx_fiber.specs.Waiting.{wait_at, IsRefused}
+use Rattle.fx_fiber.specs.Waiting.{wait_at, value_offered, IsRefused}
+use Rattle.fx_term.specs.declared.offered.Offered.TheVariants.{Done, Full}
 use Rattle.fx_fiber.specs.declared.stepped.Stepped.{Stepped}
 use Rattle.fx_fiber.specs.declared.stepped.Stepped.TheVariants.{Went, Child, Waits, Gave, Ended}
 use Rattle.fx_fiber.specs.Fiber.{FiberView, progress, IsUnchanged, IsAtFirst}
@@ -63,26 +64,26 @@ module _ {P S : Type 0} (calls : PortCalls P S) where
     pub begins : origin_of nodes begin ≡ b
     pub told : calls.starts p s f begin child p' s'
 
-  -- the call that a step with this label and answer tells of; none puts into a queue or takes of one yet
-  abbrev pub Tells : List Node → Label → Stepped P S → P → S → P → S → Type 0
-  Tells nodes (Shows event.Seen) answer p s p' s' = calls.looks p s true p' s'
-  Tells nodes (Shows (event.Request f)) answer p s p' s' = calls.requests p s f p' s'
-  Tells nodes (Shows (event.Ended o)) answer p s p' s' = calls.finishes p s o p' s'
-  Tells nodes (Learns f o e) answer p s p' s' = calls.peeks p s f (Some o) p' s'
-  Tells nodes (Starts f b) (Child child) p s p' s' = StartsChild nodes f b child.port p s p' s'
-  Tells nodes (Starts f b) answer p s p' s' = ⊥
-  Tells nodes (Shows (event.Put q n)) answer p s p' s' = ⊥
-  Tells nodes (Shows (event.Got q n)) answer p s p' s' = ⊥
-  Tells nodes (Shows (event.Refused q)) answer p s p' s' = ⊥
-  Tells nodes (Shows (event.Empty q)) answer p s p' s' = ⊥
-  Tells nodes _ answer p s p' s' = (p' ≡ p) × (s' ≡ s)
+  -- the call that a step at this leaf with this label and answer tells of
+  abbrev pub Tells : List Node → Option Term → Label → Stepped P S → P → S → P → S → Type 0
+  Tells nodes leaf (Shows event.Seen) answer p s p' s' = calls.looks p s true p' s'
+  Tells nodes leaf (Shows (event.Request f)) answer p s p' s' = calls.requests p s f p' s'
+  Tells nodes leaf (Shows (event.Ended o)) answer p s p' s' = calls.finishes p s o p' s'
+  Tells nodes leaf (Learns f o e) answer p s p' s' = calls.peeks p s f (Some o) p' s'
+  Tells nodes leaf (Starts f b) (Child child) p s p' s' = StartsChild nodes f b child.port p s p' s'
+  Tells nodes leaf (Starts f b) answer p s p' s' = ⊥
+  Tells nodes leaf (Shows (event.Put q n)) answer p s p' s' = calls.offers p s q n Done p' s'
+  Tells nodes leaf (Shows (event.Got q n)) answer p s p' s' = calls.takes p s q (Some n) p' s'
+  Tells nodes leaf (Shows (event.Refused q)) answer p s p' s' = calls.offers p s q (value_offered leaf) Full p' s'
+  Tells nodes leaf (Shows (event.Empty q)) answer p s p' s' = calls.takes p s q None p' s'
+  Tells nodes leaf _ answer p s p' s' = (p' ≡ p) × (s' ≡ s)
 
   -- the calls of a step: the look that is due, what it asked for in vain, and the call that it tells of
   pub record Calls (nodes : List Node) (due : Bool) (leaf : Option Term) (label : Label) (answer : Stepped P S) (p : P) (s : S) (p' : P) (s' : S)
       : Type 0 where
     pub looked : LooksBefore due label p s
     pub left_first : PeeksLeft label leaf p s
-    pub told : Tells nodes label answer p s p' s'
+    pub told : Tells nodes leaf label answer p s p' s'
 
   -- exactly one rule, with its event in the trace, its answer, and its calls
   pub record MakesStep (nodes : List Node) (old : FiberView P) (shared : S) (answer : Stepped P S) (new : FiberView P) (shared' : S) : Type 0 where
@@ -98,7 +99,7 @@ module _ {P S : Type 0} (calls : PortCalls P S) where
     pub waits : option_and_then wait_at (leaf_at (progress nodes old)) ≡ Some wait
     pub free : must_cancel_at old.counts.known (progress nodes old) ≡ false
     pub looked : LooksInVain (looks_first old.counts.known (progress nodes old)) old.port shared
-    pub refused : IsRefused calls wait old.port shared
+    pub refused : IsRefused calls (value_offered (leaf_at (progress nodes old))) wait old.port shared
     pub unchanged : IsUnchanged nodes old new
     pub shared_is : shared' ≡ shared
 

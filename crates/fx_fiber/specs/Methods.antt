@@ -8,6 +8,7 @@ use Rattle.fx_term.specs.declared.node.Node.{Node}
 use Rattle.fx_term.specs.declared.node.Node.TheVariants as node
 use Rattle.fx_term.specs.declared.done.Done.{Done}
 use Rattle.fx_term.specs.declared.event.Event.TheVariants as event
+use Rattle.fx_term.specs.declared.offered.Offered.TheVariants as offered
 use Rattle.fx_term.specs.declared.outcome.Outcome.{Outcome}
 use Rattle.fx_term.specs.declared.outcome.Outcome.TheVariants.{Succeeded, Errored}
 use Rattle.fx_term.specs.declared.outcome.Outcome.TheVariants as outcome
@@ -21,8 +22,9 @@ use Rattle.fx_fiber.specs.Row.{Label, Silent, Shows, Learns}
 use Rattle.fx_fiber.specs.Step.{leaf_at, must_cancel_at, Step}
 use Rattle.fx_fiber.specs.Deed.{Deed, FoundEnded, deeds_of_event}
 use Rattle.fx_fiber.specs.declared.source.Source.{Source}
-use Rattle.fx_fiber.specs.Waiting.{wait_at, IsRefused}
+use Rattle.fx_fiber.specs.Waiting.{wait_at, value_offered, IsRefused}
 use Rattle.fx_fiber.specs.Calls.{PortCalls}
+use Rattle.fx_fiber.specs.PutsLeft.{puts_with}
 use Rattle.fx_fiber.specs.MakesStep.{is_yielding, looks_first, LooksInVain, PeeksLeft}
 use Rattle.fx_fiber.specs.declared.machine.focus.Focus.{Focus}
 use Rattle.fx_fiber.specs.declared.machine.focus.Focus.TheVariants.{Eval, Return, Turn, Await, Ended}
@@ -120,6 +122,11 @@ abbrev pub IsJoin : Node → Type 0
 IsJoin (node.Join f x a e b d) = Unit {0}
 IsJoin n = ⊥
 
+-- a `trytake`
+abbrev pub IsTryTake : Node → Type 0
+IsTryTake (node.TryTake q x a b) = Unit {0}
+IsTryTake n = ⊥
+
 -- a machine that goes on after this outcome: with one of these parts, and the number of the outcome by this name
 abbrev pub joined_machine : Outcome → ℕ → NodeId → NodeId → NodeId → Machine → Machine
 joined_machine (Succeeded n) x a b d s = record s { registers = with_number (Some x) n s.registers; focus = Eval a }
@@ -192,6 +199,10 @@ IsLeafNode (Some (node.Start h a b)) = Unit {0}
 IsLeafNode (Some (node.Join f x a e b d)) = Unit {0}
 IsLeafNode (Some (node.Cancel f)) = Unit {0}
 IsLeafNode (Some (node.First f g)) = Unit {0}
+IsLeafNode (Some (node.Offer q v)) = Unit {0}
+IsLeafNode (Some (node.TryOffer q v)) = Unit {0}
+IsLeafNode (Some (node.Take q)) = Unit {0}
+IsLeafNode (Some (node.TryTake q x a b)) = Unit {0}
 IsLeafNode (Some (node.Let x a b)) = ⊥
 IsLeafNode (Some (node.Handle a x b)) = ⊥
 IsLeafNode (Some (node.OnCancel a f)) = ⊥
@@ -205,6 +216,10 @@ IsLocalLeaf (node.Start h a b) = ⊥
 IsLocalLeaf (node.Join f x a e b d) = ⊥
 IsLocalLeaf (node.Cancel f) = ⊥
 IsLocalLeaf (node.First f g) = ⊥
+IsLocalLeaf (node.Offer q v) = ⊥
+IsLocalLeaf (node.TryOffer q v) = ⊥
+IsLocalLeaf (node.Take q) = ⊥
+IsLocalLeaf (node.TryTake q x a b) = ⊥
 IsLocalLeaf n = IsLeafNode (Some n)
 
 -- all contexts are entered, and what closes the place is what these close: a fiber that awaits another is sealed itself
@@ -246,6 +261,10 @@ IsRuleMade made.Waits = Unit {0}
 IsRuleMade (made.Learns f o e) = Unit {0}
 IsRuleMade (made.Starts h a b) = Unit {0}
 IsRuleMade (made.Shows (event.Request f)) = Unit {0}
+IsRuleMade (made.Shows (event.Put q n)) = Unit {0}
+IsRuleMade (made.Shows (event.Got q n)) = Unit {0}
+IsRuleMade (made.Shows (event.Refused q)) = Unit {0}
+IsRuleMade (made.Shows (event.Empty q)) = Unit {0}
 IsRuleMade m = IsLocal m
 
 -- what is made in a step of a fiber: that, cancellation, or a request that is seen
@@ -281,10 +300,15 @@ pub record IsInterrupted (nodes : List Node) (s : Machine) (i : Interruption) : 
   pub due : must_cancel_machine nodes s ≡ is_cancellation i
 
 module _ {P S : Type 0} (calls : PortCalls P S) where
-  -- what the rule of this leaf asks of the port: to request a cancellation, for an outcome, or in vain for what it waits for
+  -- what the rule of this leaf asks of the port: to request a cancellation, for an outcome, to put or to take an element, or in vain for what it waits for
   abbrev pub Told : Option Term → Made → P → S → P → S → Type 0
-  Told leaf made.Waits p s p' s' = ((w : Source) → option_and_then wait_at leaf ≡ Some w → IsRefused calls w p s) × (p' ≡ p) × (s' ≡ s)
+  Told leaf made.Waits p s p' s' = ((w : Source) → option_and_then wait_at leaf ≡ Some w → IsRefused calls (value_offered leaf) w p s) × (p' ≡ p)
+      × (s' ≡ s)
   Told leaf (made.Shows (event.Request f)) p s p' s' = calls.requests p s f p' s'
+  Told leaf (made.Shows (event.Put q n)) p s p' s' = calls.offers p s q n offered.Done p' s'
+  Told leaf (made.Shows (event.Got q n)) p s p' s' = calls.takes p s q (Some n) p' s'
+  Told leaf (made.Shows (event.Refused q)) p s p' s' = calls.offers p s q (value_offered leaf) offered.Full p' s'
+  Told leaf (made.Shows (event.Empty q)) p s p' s' = calls.takes p s q None p' s'
   Told leaf (made.Learns f o e) p s p' s' = PeeksLeft calls (Learns f o e) leaf p s × calls.peeks p s f (Some o) p' s'
   Told leaf _ p s p' s' = (p' ≡ p) × (s' ≡ s)
 
@@ -301,19 +325,21 @@ module _ {P S : Type 0} (calls : PortCalls P S) where
   ComesFirst opened due None p s p' s' = (due ≡ false) × LooksInVain calls opened p s × (p' ≡ p) × (s' ≡ s)
 
   -- the rule of a place was made, with what it asks of the port, or the fiber waits
-  pub record MakesCall (agrees : P → List Deed → Type 0) (nodes : List Node) (s : Machine) (p : P) (sh : S) (m : Made) (s' : Machine) (p' : P)
-      (sh' : S) : Type 0 where
+  pub record MakesCall (agrees : P → List Deed → Type 0) (puts : P → ℕ) (nodes : List Node) (s : Machine) (p : P) (sh : S) (m : Made) (s' : Machine)
+      (p' : P) (sh' : S) : Type 0 where
     pub sound : IsSoundMachine nodes s'
     pub rule : Makes nodes s m s'
     pub own : IsRuleMade m
     pub told : Told (leaf_at (progress_of nodes s)) m p sh p' sh'
     pub agreed : (deeds : List Deed) → agrees p deeds → agrees p' (deeds ++ deeds_made m)
+    pub counted : puts p' ≡ puts_with (label_of m) (puts p)
 
   -- what a fiber makes in a step before its end is told, and what it asks for it
-  pub record Advances (agrees : P → List Deed → Type 0) (nodes : List Node) (s : Machine) (p : P) (sh : S) (m : Made) (s' : Machine) (p' : P)
-      (sh' : S) : Type 0 where
+  pub record Advances (agrees : P → List Deed → Type 0) (puts : P → ℕ) (nodes : List Node) (s : Machine) (p : P) (sh : S) (m : Made) (s' : Machine)
+      (p' : P) (sh' : S) : Type 0 where
     pub sound : IsSoundMachine nodes s'
     pub rule : Makes nodes s m s'
     pub own : IsOwnMade m
     pub asks : Asks (looks_first s.known (progress_of nodes s)) (leaf_at (progress_of nodes s)) m p sh p' sh'
     pub agreed : (deeds : List Deed) → agrees p deeds → agrees p' (deeds ++ deeds_made m)
+    pub counted : puts p' ≡ puts_with (label_of m) (puts p)

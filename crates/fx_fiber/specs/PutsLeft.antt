@@ -1,5 +1,5 @@
 -- How many elements a fiber can still put.
-use Rattle.std.specs.Prelude.{ℕ, ◌+◌, ◌-◌, ◌*◌, max, List, [], ◌∷◌}
+use Rattle.std.specs.Prelude.{ℕ, suc, ◌+◌, ◌-◌, ◌*◌, max, List, [], ◌∷◌}
 use Rattle.fx_term.specs.declared.event.Event.TheVariants as event
 use Rattle.fx_term.specs.Term.{Term, Let, Handle, If, For, Mask, Poll, OnCancel, Bracket, Start, Join, Offer, TryOffer, TryTake, Masked, Opened, InUse}
 use Rattle.fx_term.specs.Term.{InRelease, Loop}
@@ -45,6 +45,11 @@ puts_left (HasEnded o) = 0
 abbrev pub puts_of : Label → ℕ
 puts_of (Shows (event.Put q n)) = 1
 puts_of _ = 0
+
+-- how many it has put after a step with this label
+abbrev pub puts_with : Label → ℕ → ℕ
+puts_with (Shows (event.Put q n)) puts = suc puts
+puts_with _ puts = puts
 
 abbrev pub puts_made : List Label → ℕ
 puts_made [] = 0

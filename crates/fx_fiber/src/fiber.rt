@@ -49,7 +49,7 @@ impl<P: Port> Model for Fiber<P> {
 
     ghost invariant = { λ f. (P.number f.port ≡ f.bare.value.id)
         × IsKept P.code (P.beginning f.port) (P.agrees f.port) (P.has_finished f.port)
-        (P.rest f.port) f.bare.value.trace.items f.bare.value.machine };
+        (P.rest f.port) (P.puts f.port) f.bare.value.trace.items f.bare.value.machine };
 }
 
 impl<P: Port> Fiber<P> {
@@ -78,6 +78,7 @@ impl<P: Port> Fiber<P> {
         requires beginning { P.beginning port ≡ main_begin_of code.now.nodes }
         requires rest { P.rest port ≡ first_range (main_begin_of code.now.nodes) }
         requires going { P.has_finished port ≡ false }
+        requires puts { P.puts port ≡ 0 }
         requires fresh { P.agrees port [] }
         ensures port { IfOk result (λ fiber. fiber.port ≡ port) }
         ensures trace { IfOk result (λ fiber. fiber.trace ≡ []) }
@@ -100,6 +101,7 @@ impl<P: Port> Fiber<P> {
         requires word { (P.beginning port).end < 2 ^ 32 }
         requires rest { P.rest port ≡ first_range (P.beginning port) }
         requires going { P.has_finished port ≡ false }
+        requires puts { P.puts port ≡ 0 }
         requires fresh { P.agrees port [] }
         ensures port { result.port ≡ port }
         ensures first { IsAtFirst P.code (origin_of P.code (P.beginning port)) result }

@@ -11,7 +11,7 @@ use Rattle.fx_fiber.specs.Origin.{main_origin}
 use Rattle.fx_plain.specs.declared.plain_machine.Started.{Started}
 use Rattle.fx_plain.specs.declared.plain_machine.PlainMachine.{PlainMachine}
 use Rattle.fx_plain.specs.WholeMachine.{begun, opening}
-use Rattle.fx_plain.specs.Text.{NamesQueueBelow}
+use Rattle.fx_term.specs.QueuesNamed.{NamesQueueBelow}
 use Rattle.fx_plain.specs.World.{HeldFiber, held_of, opening_world, opening_held}
 use Rattle.fx_plain.specs.PlainMachine.{held, all_held, IsNumbered, StandsForRun}
 use Rattle.fx_plain.proofs.WorldLaws.{opening_stands}

@@ -18,7 +18,8 @@ use Rattle.fx_plain.specs.declared.plain_machine.Started.{Started}
 use Rattle.fx_plain.specs.declared.plain_machine.PlainMachine.{PlainMachine}
 use Rattle.fx_plain.specs.WholeMachine.{StartedFiber, WholeMachine}
 use Rattle.fx_plain.specs.Chosen.{report_of_fiber, IsReportOf, IsReplay}
-use Rattle.fx_plain.specs.Text.{ends, NamesQueueBelow, IsWritableFiber, IsWritable}
+use Rattle.fx_plain.specs.Text.{ends, IsWritableFiber, IsWritable}
+use Rattle.fx_term.specs.QueuesNamed.{NamesQueueBelow}
 use Rattle.fx_plain.specs.World.{HeldFiber, held_of}
 use Rattle.fx_plain.specs.OnTheWay.{IsOnTheWay}
 use Rattle.fx_plain.specs.PlainMachine.{held, reported, all_reported, all_held, StandsForRun, Rests}

@@ -23,7 +23,7 @@ use Rattle.fx_plain.specs.declared.plain_machine.Started.{Started}
 use Rattle.fx_plain.specs.declared.plain_machine.PlainMachine.{PlainMachine}
 use Rattle.fx_plain.specs.WholeMachine.{StartedFiber, WholeMachine, Move, Steps, fibers_after, opening, stepped, moved, FiberSteps, WholeMachineLeads}
 use Rattle.fx_plain.specs.Chosen.{ChosenStep}
-use Rattle.fx_plain.specs.Text.{NamesQueueBelow}
+use Rattle.fx_term.specs.QueuesNamed.{NamesQueueBelow}
 use Rattle.fx_plain.specs.declared.class.Class.{Class}
 use Rattle.fx_plain.specs.declared.class.Class.TheVariants.{Able}
 use Rattle.fx_plain.specs.ClassSets.{class_at, is_able}

@@ -17,7 +17,7 @@ use Rattle.fx_plain.specs.ClassSets.{class_at, is_able}
 use Rattle.fx_plain.specs.World.{HeldFiber, StandsFor}
 use Rattle.fx_plain.specs.WorldClasses.{TellsWhoSteps}
 use Rattle.fx_plain.specs.OnTheWay.{IsOnTheWay}
-use Rattle.fx_plain.specs.Text.{NamesQueueBelow}
+use Rattle.fx_term.specs.QueuesNamed.{NamesQueueBelow}
 
 -- how many are able
 abbrev pub able_count : List Class → ℕ

@@ -9,6 +9,7 @@ use Rattle.fx_term.specs.declared.item.Item.{Item}
 use Rattle.fx_text.specs.declared.queues.QueueDecl.{QueueDecl}
 use Rattle.fx_text.specs.Meaning.{Meaning}
 use Rattle.fx_fiber.specs.Report.{FiberReportView, ReportView}
+use Rattle.fx_term.specs.QueuesNamed.{NamesQueueBelow}
 
 abbrev pub line_end : List ℕ
 line_end = 10 ∷ []
@@ -97,14 +98,6 @@ trace_lines names x = flat_map (event_line names x.id) x.trace
 -- the text of the traces of a report
 abbrev pub trace_text : List (List ℕ) → ReportView → List ℕ
 trace_text names r = flat_map (trace_lines names) r.fibers
-
--- a queue that the event names is one of the first so many
-abbrev pub NamesQueueBelow : ℕ → Event → Type 0
-NamesQueueBelow n (event.Put q v) = q < n
-NamesQueueBelow n (event.Got q v) = q < n
-NamesQueueBelow n (event.Refused q) = q < n
-NamesQueueBelow n (event.Empty q) = q < n
-NamesQueueBelow n _ = Unit {0}
 
 -- the last event of a trace is the end of its fiber
 abbrev pub is_end : Event → Bool

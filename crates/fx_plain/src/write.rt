@@ -4,7 +4,8 @@ ghost use Rattle.std.specs.List.{flat_map};
 ghost use Rattle.std.specs.Io.KnownBytes.{Appends};
 ghost use Rattle.fx_text.specs.View.{meaning};
 ghost use Rattle.fx_plain.specs.Output.{FailsToWrite};
-ghost use Rattle.fx_plain.specs.Text.{names_of, queue_names, NamesQueueBelow, IsWritableFiber, IsWritable};
+ghost use Rattle.fx_plain.specs.Text.{names_of, queue_names, IsWritableFiber, IsWritable};
+ghost use Rattle.fx_term.specs.QueuesNamed.{NamesQueueBelow};
 ghost use Rattle.fx_plain.specs.Text.{ends, state_text, halt_text, fiber_line, queue_lines, trace_lines};
 ghost use Rattle.fx_plain.specs.Text.{report_text, trace_text};
 

@@ -11,7 +11,7 @@ use Rattle.fx_term.specs.Tree.{all_children, IsForest, IsOneTree}
 use Rattle.fx_term.specs.Need.{need}
 use Rattle.fx_term.specs.Meaning.{term_of}
 use Rattle.fx_term.specs.Walk.{Spot, spots}
-use Rattle.fx_term.specs.WellPlaced.{HasRightSlots, HasRightKinds, IsWithinLimits, IsWellPlaced}
+use Rattle.fx_term.specs.WellPlaced.{HasRightNumbers, HasRightKinds, IsWithinLimits, IsWellPlaced}
 use Rattle.fx_term.specs.Code.{IsFault, node_id, no_node, too_many, stray, orphan, slot, kind, limit}
 use Rattle.fx_term.proofs.AllParts.{all_middle}
 use Rattle.fx_term.proofs.TreeLaws.{length_positive, forest_take}
@@ -49,100 +49,100 @@ data Test : Type 0 where
 abbrev tests : List Test
 tests = OfCount ∷ OfChildren ∷ OfParents ∷ OfPlaces ∷ []
 
-abbrev Passes : List Node → Test → Type 0
-Passes nodes OfCount = (0 < length nodes) × (length nodes < 2 ^ 32)
-Passes nodes OfChildren = IsForest nodes
-Passes nodes OfParents = IsOneTree nodes
-Passes nodes OfPlaces = All (IsWellPlaced nodes) (spots nodes)
+abbrev Passes : ℕ → List Node → Test → Type 0
+Passes queues nodes OfCount = (0 < length nodes) × (length nodes < 2 ^ 32)
+Passes queues nodes OfChildren = IsForest nodes
+Passes queues nodes OfParents = IsOneTree nodes
+Passes queues nodes OfPlaces = All (IsWellPlaced queues nodes) (spots nodes)
 
 -- the tests at one spot
-data IsSpotFault (nodes : List Node) (s : Spot) : CodeFault → Type 0 where
-  of_slots : (HasRightSlots (length s.kinds) (slice_get nodes s.id) → ⊥) → IsSpotFault nodes s (Slot (node_id s.id))
-  of_kinds : HasRightSlots (length s.kinds) (slice_get nodes s.id)
-      → (HasRightKinds s.kinds (slice_get nodes s.id) → ⊥) → IsSpotFault nodes s (Kind (node_id s.id))
-  of_limits : HasRightSlots (length s.kinds) (slice_get nodes s.id) → HasRightKinds s.kinds (slice_get nodes s.id)
-      → (IsWithinLimits s.turns (need (term_of nodes s.id)) (slice_get nodes s.id) → ⊥) → IsSpotFault nodes s (Limit (node_id s.id))
+data IsSpotFault (queues : ℕ) (nodes : List Node) (s : Spot) : CodeFault → Type 0 where
+  of_numbers : (HasRightNumbers queues (length s.kinds) (slice_get nodes s.id) → ⊥) → IsSpotFault queues nodes s (Slot (node_id s.id))
+  of_kinds : HasRightNumbers queues (length s.kinds) (slice_get nodes s.id)
+      → (HasRightKinds s.kinds (slice_get nodes s.id) → ⊥) → IsSpotFault queues nodes s (Kind (node_id s.id))
+  of_limits : HasRightNumbers queues (length s.kinds) (slice_get nodes s.id) → HasRightKinds s.kinds (slice_get nodes s.id)
+      → (IsWithinLimits s.turns (need (term_of nodes s.id)) (slice_get nodes s.id) → ⊥) → IsSpotFault queues nodes s (Limit (node_id s.id))
 
-not_placed : (nodes : List Node) (s : Spot) (f : CodeFault) → IsSpotFault nodes s f → IsWellPlaced nodes s → ⊥
-not_placed nodes s f (of_slots at) placed = at placed.slots
-not_placed nodes s f (of_kinds right at) placed = at placed.kinds
-not_placed nodes s f (of_limits right of_kind at) placed = at placed.limits
+not_placed : (queues : ℕ) (nodes : List Node) (s : Spot) (f : CodeFault) → IsSpotFault queues nodes s f → IsWellPlaced queues nodes s → ⊥
+not_placed queues nodes s f (of_numbers at) placed = at placed.numbers
+not_placed queues nodes s f (of_kinds right at) placed = at placed.kinds
+not_placed queues nodes s f (of_limits right of_kind at) placed = at placed.limits
 
-one_at_spot : (nodes : List Node) (s : Spot) (f g : CodeFault) → IsSpotFault nodes s f → IsSpotFault nodes s g → f ≡ g
-one_at_spot nodes s f g (of_slots at) (of_slots also) = refl
-one_at_spot nodes s f g (of_slots at) (of_kinds right also) = absurd (at right)
-one_at_spot nodes s f g (of_slots at) (of_limits right of_kind also) = absurd (at right)
-one_at_spot nodes s f g (of_kinds right at) (of_slots also) = absurd (also right)
-one_at_spot nodes s f g (of_kinds right at) (of_kinds right2 also) = refl
-one_at_spot nodes s f g (of_kinds right at) (of_limits right2 of_kind also) = absurd (at of_kind)
-one_at_spot nodes s f g (of_limits right of_kind at) (of_slots also) = absurd (also right)
-one_at_spot nodes s f g (of_limits right of_kind at) (of_kinds right2 also) = absurd (also of_kind)
-one_at_spot nodes s f g (of_limits right of_kind at) (of_limits right2 of_kind2 also) = refl
+one_at_spot : (queues : ℕ) (nodes : List Node) (s : Spot) (f g : CodeFault) → IsSpotFault queues nodes s f → IsSpotFault queues nodes s g → f ≡ g
+one_at_spot queues nodes s f g (of_numbers at) (of_numbers also) = refl
+one_at_spot queues nodes s f g (of_numbers at) (of_kinds right also) = absurd (at right)
+one_at_spot queues nodes s f g (of_numbers at) (of_limits right of_kind also) = absurd (at right)
+one_at_spot queues nodes s f g (of_kinds right at) (of_numbers also) = absurd (also right)
+one_at_spot queues nodes s f g (of_kinds right at) (of_kinds right2 also) = refl
+one_at_spot queues nodes s f g (of_kinds right at) (of_limits right2 of_kind also) = absurd (at of_kind)
+one_at_spot queues nodes s f g (of_limits right of_kind at) (of_numbers also) = absurd (also right)
+one_at_spot queues nodes s f g (of_limits right of_kind at) (of_kinds right2 also) = absurd (also of_kind)
+one_at_spot queues nodes s f g (of_limits right of_kind at) (of_limits right2 of_kind2 also) = refl
 
 -- what a test answers where it is the first that fails
-data Answers (nodes : List Node) : Test → CodeFault → Type 0 where
-  by_count : Answers nodes OfCount (Child (node_id 0))
-  by_children : (id : ℕ) → IsForest (take id nodes) → (IsForest (take (suc id) nodes) → ⊥) → Answers nodes OfChildren (Child (node_id id))
+data Answers (queues : ℕ) (nodes : List Node) : Test → CodeFault → Type 0 where
+  by_count : Answers queues nodes OfCount (Child (node_id 0))
+  by_children : (id : ℕ) → IsForest (take id nodes) → (IsForest (take (suc id) nodes) → ⊥) → Answers queues nodes OfChildren (Child (node_id id))
   by_parents : (id : ℕ) → ((k : ℕ) → k < id → Contains (all_children nodes) k) → (Contains (all_children nodes) id → ⊥)
-      → Answers nodes OfParents (Child (node_id id))
-  by_places : (before after : List Spot) (s : Spot) (f : CodeFault) → spots nodes ≡ before ++ s ∷ after → All (IsWellPlaced nodes) before
-      → IsSpotFault nodes s f → Answers nodes OfPlaces f
+      → Answers queues nodes OfParents (Child (node_id id))
+  by_places : (before after : List Spot) (s : Spot) (f : CodeFault) → spots nodes ≡ before ++ s ∷ after → All (IsWellPlaced queues nodes) before
+      → IsSpotFault queues nodes s f → Answers queues nodes OfPlaces f
 
-one_answer : (nodes : List Node) (t : Test) (f g : CodeFault) → Answers nodes t f → Answers nodes t g → f ≡ g
-one_answer nodes t f g by_count by_count = refl
-one_answer nodes t f g (by_children i front at) (by_children j also at2) = child_same i j (same_stray nodes j i at2 front) (same_stray nodes i j at also)
-one_answer nodes t f g (by_parents i front at) (by_parents j also at2) =
+one_answer : (queues : ℕ) (nodes : List Node) (t : Test) (f g : CodeFault) → Answers queues nodes t f → Answers queues nodes t g → f ≡ g
+one_answer queues nodes t f g by_count by_count = refl
+one_answer queues nodes t f g (by_children i front at) (by_children j also at2) = child_same i j (same_stray nodes j i at2 front) (same_stray nodes i j at also)
+one_answer queues nodes t f g (by_parents i front at) (by_parents j also at2) =
     child_same i j (same_orphan (all_children nodes) j i at2 front) (same_orphan (all_children nodes) i j at also)
-one_answer nodes t f g (by_places before after s f2 split placed at) (by_places sooner later r g2 split2 placed2 at2) =
-    let same = same_first (IsWellPlaced nodes) before after s sooner later r (sym split ∙ split2) placed placed2 (not_placed nodes s f at)
-    (not_placed nodes r g at2) in
-    one_at_spot nodes s f g at (subst (λ (q : Spot). IsSpotFault nodes q g) (sym same) at2)
+one_answer queues nodes t f g (by_places before after s f2 split placed at) (by_places sooner later r g2 split2 placed2 at2) =
+    let same = same_first (IsWellPlaced queues nodes) before after s sooner later r (sym split ∙ split2) placed placed2 (not_placed queues nodes s f at)
+    (not_placed queues nodes r g at2) in
+    one_at_spot queues nodes s f g at (subst (λ (q : Spot). IsSpotFault queues nodes q g) (sym same) at2)
 
 -- a fault is the answer of the first test that fails
-record IsAnswered (nodes : List Node) (f : CodeFault) : Type 0 where
+record IsAnswered (queues : ℕ) (nodes : List Node) (f : CodeFault) : Type 0 where
   test : Test
   before : List Test
   after : List Test
   split : tests ≡ before ++ test ∷ after
-  passed : All (Passes nodes) before
-  fails : Passes nodes test → ⊥
-  answer : Answers nodes test f
+  passed : All (Passes queues nodes) before
+  fails : Passes queues nodes test → ⊥
+  answer : Answers queues nodes test f
 
-module _ (nodes : List Node) where
-  passes_count : 0 < length nodes → length nodes < 2 ^ 32 → All (Passes nodes) (OfCount ∷ [])
-  passes_count some fits = All-cons (Passes nodes) OfCount [] (some, fits) (All-nil (Passes nodes))
+module _ (queues : ℕ) (nodes : List Node) where
+  passes_count : 0 < length nodes → length nodes < 2 ^ 32 → All (Passes queues nodes) (OfCount ∷ [])
+  passes_count some fits = All-cons (Passes queues nodes) OfCount [] (some, fits) (All-nil (Passes queues nodes))
 
-  passes_children : 0 < length nodes → length nodes < 2 ^ 32 → IsForest nodes → All (Passes nodes) (OfCount ∷ OfChildren ∷ [])
-  passes_children some fits forest = All-push (Passes nodes) (OfCount ∷ []) OfChildren (passes_count some fits) forest
+  passes_children : 0 < length nodes → length nodes < 2 ^ 32 → IsForest nodes → All (Passes queues nodes) (OfCount ∷ OfChildren ∷ [])
+  passes_children some fits forest = All-push (Passes queues nodes) (OfCount ∷ []) OfChildren (passes_count some fits) forest
 
-  passes_parents : length nodes < 2 ^ 32 → IsOneTree nodes → All (Passes nodes) (OfCount ∷ OfChildren ∷ OfParents ∷ [])
+  passes_parents : length nodes < 2 ^ 32 → IsOneTree nodes → All (Passes queues nodes) (OfCount ∷ OfChildren ∷ OfParents ∷ [])
   passes_parents fits tree =
-      All-push (Passes nodes) (OfCount ∷ OfChildren ∷ []) OfParents (passes_children (length_positive nodes tree.some_node) fits tree.forest) tree
+      All-push (Passes queues nodes) (OfCount ∷ OfChildren ∷ []) OfParents (passes_children (length_positive nodes tree.some_node) fits tree.forest) tree
 
-  count_answered : (Passes nodes OfCount → ⊥) → IsAnswered nodes (Child (node_id 0))
+  count_answered : (Passes queues nodes OfCount → ⊥) → IsAnswered queues nodes (Child (node_id 0))
   count_answered fails = record {
     test = OfCount;
     before = [];
     after = OfChildren ∷ OfParents ∷ OfPlaces ∷ [];
     split = refl;
-    passed = All-nil (Passes nodes);
+    passed = All-nil (Passes queues nodes);
     fails = fails;
     answer = by_count;
   }
 
   spot_answered : (before after : List Spot) (s : Spot) (f : CodeFault) → length nodes < 2 ^ 32 → IsOneTree nodes → spots nodes ≡ before ++ s ∷ after
-      → All (IsWellPlaced nodes) before → IsSpotFault nodes s f → IsAnswered nodes f
+      → All (IsWellPlaced queues nodes) before → IsSpotFault queues nodes s f → IsAnswered queues nodes f
   spot_answered before after s f fits tree split placed at = record {
     test = OfPlaces;
     before = OfCount ∷ OfChildren ∷ OfParents ∷ [];
     after = [];
     split = refl;
     passed = passes_parents fits tree;
-    fails = λ all. not_placed nodes s f at (all_middle (IsWellPlaced nodes) before s after (subst (All (IsWellPlaced nodes)) split all));
+    fails = λ all. not_placed queues nodes s f at (all_middle (IsWellPlaced queues nodes) before s after (subst (All (IsWellPlaced queues nodes)) split all));
     answer = by_places before after s f split placed at;
   }
 
-  answered : (f : CodeFault) → IsFault nodes f → IsAnswered nodes f
+  answered : (f : CodeFault) → IsFault queues nodes f → IsAnswered queues nodes f
   answered f (no_node e) = count_answered (λ count. absurd (omega arith))
   answered f (too_many m) = count_answered (λ count. absurd (omega arith))
   answered f (stray {id} fits within front at) = record {
@@ -163,14 +163,14 @@ module _ (nodes : List Node) where
     fails = λ tree. at (tree.each id within);
     answer = by_parents id before at;
   }
-  answered f (slot before after s fits tree split placed at) = spot_answered before after s f fits tree split placed (of_slots at)
+  answered f (slot before after s fits tree split placed at) = spot_answered before after s f fits tree split placed (of_numbers at)
   answered f (kind before after s fits tree split placed right at) = spot_answered before after s f fits tree split placed (of_kinds right at)
   answered f (limit before after s fits tree split placed right of_kind at) = spot_answered before after s f fits tree split placed (of_limits right of_kind at)
 
 -- a list of nodes has one fault at most
-pub one_fault : (nodes : List Node) (f g : CodeFault) → IsFault nodes f → IsFault nodes g → f ≡ g
-one_fault nodes f g first second =
-    let a = answered nodes f first in
-    let b = answered nodes g second in
-    let same = same_first (Passes nodes) a.before a.after a.test b.before b.after b.test (sym a.split ∙ b.split) a.passed b.passed a.fails b.fails in
-    one_answer nodes a.test f g a.answer (subst (λ (t : Test). Answers nodes t g) (sym same) b.answer)
+pub one_fault : (queues : ℕ) (nodes : List Node) (f g : CodeFault) → IsFault queues nodes f → IsFault queues nodes g → f ≡ g
+one_fault queues nodes f g first second =
+    let a = answered queues nodes f first in
+    let b = answered queues nodes g second in
+    let same = same_first (Passes queues nodes) a.before a.after a.test b.before b.after b.test (sym a.split ∙ b.split) a.passed b.passed a.fails b.fails in
+    one_answer queues nodes a.test f g a.answer (subst (λ (t : Test). Answers queues nodes t g) (sym same) b.answer)

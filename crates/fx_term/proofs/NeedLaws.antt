@@ -1,7 +1,7 @@
 -- The fiber numbers that the terms of nodes can use.
-use Rattle.std.proofs.Common.{◌≡◌, ◌⊎◌, ℕ, zero, suc, ◌+◌, ◌-◌, ◌*◌, ◌<◌, ◌≤◌, Bool, Option, Some, None, List, [], ◌∷◌, ◌++◌, length, map, take, get_or}
+use Rattle.std.proofs.Common.{◌≡◌, ℕ, zero, suc, ◌+◌, ◌-◌, ◌*◌, ◌<◌, ◌≤◌, Option, Some, None, List, [], ◌∷◌, ◌++◌, length, map, take, get_or}
 use Rattle.std.proofs.Common.{refl, sym, ◌∙◌, ap, subst, inl, inr, arith}
-use Rattle.std.specs.Prelude.{All, Contains, slice_get, slice_index, min, max}
+use Rattle.std.specs.Prelude.{All, Contains, slice_get, slice_index}
 use Rattle.std.proofs.lemmas.Bool.{cases_lt}
 use Rattle.std.proofs.lemmas.List.{map_push, length_push, get_or_append_left, get_or_push}
 use Rattle.std.proofs.lemmas.Option.{slice_get-get_or}
@@ -13,8 +13,8 @@ use Rattle.fx_term.specs.declared.code.signature.Running.TheVariants.{EachPart, 
 use Rattle.fx_term.specs.Signature.{parts, running, present}
 use Rattle.fx_term.specs.Term.{Term, Let, Handle, If, For, Mask, Poll, OnCancel, Bracket, Start, Join, TryTake, Masked, Opened, InUse, InRelease, Loop}
 use Rattle.fx_term.specs.Need.{need, most_need, NeedsFew}
-use Rattle.fx_term.specs.NodeNeed.{capped, in_all_turns, own_number, need_of_part, need_of_both, need_of_all, need_of_node, AreNeeds}
-use Rattle.fx_term.specs.Meaning.{assemble, term_of}
+use Rattle.fx_term.specs.NodeNeed.{capped, in_all_turns, need_of_part, need_of_both, need_of_all, need_of_node, AreNeeds}
+use Rattle.fx_term.specs.Meaning.{term_of}
 use Rattle.fx_term.specs.Tree.{children, all_children, ChildrenComeFirst, IsOneTree}
 use Rattle.fx_term.specs.Code.{IsCode}
 use Rattle.fx_term.proofs.AllParts.{all_map, all_from_map}

@@ -6,19 +6,21 @@ use Rattle.std.proofs.lemmas.Option.{slice_get_past}
 use Rattle.fx_term.specs.declared.name_kind.NameKind.{NameKind}
 use Rattle.fx_term.specs.declared.node.Node.{Node}
 use Rattle.fx_term.specs.declared.code.signature.Part.{Part}
-use Rattle.fx_term.specs.Signature.{uses, parts}
+use Rattle.fx_term.specs.Signature.{uses, queue_of, parts}
+use Rattle.fx_term.specs.QueuesNamed.{NamesQueuesBelow}
 use Rattle.fx_term.specs.Term.{Term}
 use Rattle.fx_term.specs.Scope.{IsBinderAt, IsNew, with_named, bound_under, HasLevels, IsScoped, IsInScope}
 use Rattle.fx_term.specs.Meaning.{assemble}
 use Rattle.fx_term.specs.Need.{need, most_need, NeedsFew}
 use Rattle.fx_term.specs.Turns.{HasFewTurns}
 use Rattle.fx_term.specs.Walk.{Spot, kinds_inside, kinds_under, spot_of, spots_below}
-use Rattle.fx_term.specs.WellPlaced.{IsUseBelow, IsUseOf, IsNextBinder, HasRightSlots, HasRightKinds, HasRightTurns}
+use Rattle.fx_term.specs.WellPlaced.{IsUseBelow, IsUseOf, IsNextBinder, IsQueueBelow, HasRightSlots, HasRightKinds, HasRightTurns}
 use Rattle.fx_term.proofs.AllParts.{all_map, all_from_map}
 use Rattle.fx_term.proofs.ScopeLaws.{levels_under, scoped_under, in_scope_under}
 use Rattle.fx_term.proofs.SeenLaws.{length_inside, scope_of_inside}
 use Rattle.fx_term.proofs.SignatureLaws.{scope_inside, HasPartLevels, node_levels, levels_of_node, IsPartScoped, node_scoped, scoped_of_node}
 use Rattle.fx_term.proofs.SignatureLaws.{HasPartFewTurns, node_turns, turns_of_node, NeedsFewInside, node_needs_few, few_of_node}
+use Rattle.fx_term.proofs.SignatureLaws.{NamesBelowInside, node_names_below, names_of_node}
 
 -- what is in scope under a binder that may have no name
 named_levels : (x : Option ℕ) (k : NameKind) (kinds : List NameKind) (t : Term) → IsBinderAt (length kinds) x → IsInScope (kinds_under x k kinds) t
@@ -154,3 +156,25 @@ module _ (kinds : List NameKind) (turns : ℕ) (term : ℕ → Term) where
   needs_of_parts None h = All-nil (NeedsFewThere term)
   needs_of_parts (Some n) h =
       all_map (NeedsFewThere term) (spot_of kinds turns) (parts n) (All-from_recursion (NeedsFewInside term) (parts n) (few_of_node term n h))
+
+  -- a node's term names queues below a number where itself and the terms of its parts do
+  module _ (queues : ℕ) where
+    abbrev NamesBelowThere : Spot → Type 0
+    NamesBelowThere part = NamesQueuesBelow queues (term part.id)
+
+    pub names_below_node : (o : Option Node) → IsQueueBelow queues (queue_of o) → All NamesBelowThere (spots_below o kinds turns)
+        → NamesQueuesBelow queues (assemble o term)
+    names_below_node None right h = tt
+    names_below_node (Some n) right h =
+        let below = all_from_map NamesBelowThere (spot_of kinds turns) (parts n) h in
+        node_names_below term queues n right (recursion_from_All (NamesBelowInside term queues) (parts n) below)
+
+    pub right_queue : (o : Option Node) → NamesQueuesBelow queues (assemble o term) → IsQueueBelow queues (queue_of o)
+    right_queue None h = tt
+    right_queue (Some n) h = (names_of_node term queues n h).0
+
+    pub names_of_parts : (o : Option Node) → NamesQueuesBelow queues (assemble o term) → All NamesBelowThere (spots_below o kinds turns)
+    names_of_parts None h = All-nil NamesBelowThere
+    names_of_parts (Some n) h =
+        all_map NamesBelowThere (spot_of kinds turns) (parts n)
+        (All-from_recursion (NamesBelowInside term queues) (parts n) (names_of_node term queues n h).1)

@@ -1,6 +1,6 @@
 -- Pending nodes as spots, and a stack of them that grows by the parts of a node.
 use Rattle.std.proofs.Common.{◌≡◌, ℕ, suc, ◌<◌, ◌≤◌, Bool, true, false, if◌then◌else◌}
-use Rattle.std.proofs.Common.{Option, Some, None, option_map, get_or, drop, List, [], ◌∷◌, ◌++◌, length, map, take, reverse}
+use Rattle.std.proofs.Common.{Option, Some, None, get_or, drop, List, [], ◌∷◌, ◌++◌, length, map, take, reverse}
 use Rattle.std.proofs.Common.{refl, sym, ◌∙◌, ap, subst, arith, append_assoc}
 use Rattle.std.proofs.lemmas.List.{append-nil, map_push, length_push, reverse-append, take_all, take-take, take-append-le, length-take-le}
 use Rattle.fx_term.specs.declared.code.signature.Part.{Part}

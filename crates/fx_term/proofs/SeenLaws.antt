@@ -5,7 +5,7 @@ use Rattle.std.proofs.lemmas.List.{length-map}
 use Rattle.std.proofs.lemmas.Option.{slice_get-map}
 use Rattle.fx_term.specs.declared.name_kind.NameKind.{NameKind}
 use Rattle.fx_term.specs.declared.name_kind.NameKind.TheVariants as kind
-use Rattle.fx_term.specs.Scope.{kind_elsewhere, elsewhere}
+use Rattle.fx_term.specs.Scope.{kind_elsewhere}
 use Rattle.fx_term.specs.Walk.{kinds_inside, kinds_under}
 use Rattle.fx_term.specs.Pending.{with_own, seen_past}
 use Rattle.fx_term.proofs.SignatureLaws.{scope_inside}

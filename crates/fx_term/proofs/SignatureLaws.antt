@@ -5,11 +5,12 @@ use Rattle.fx_term.specs.declared.name_kind.NameKind.{NameKind}
 use Rattle.fx_term.specs.declared.node.Node.{Node}
 use Rattle.fx_term.specs.declared.node.Node.TheVariants as node
 use Rattle.fx_term.specs.declared.code.signature.Part.{Part}
-use Rattle.fx_term.specs.Signature.{uses, parts}
+use Rattle.fx_term.specs.Signature.{uses, queue_named, parts}
+use Rattle.fx_term.specs.QueuesNamed.{NamesQueuesBelow}
 use Rattle.fx_term.specs.Term.{Term}
 use Rattle.fx_term.specs.Scope.{IsNew, bound_under, with_named, elsewhere, HasLevels, IsScoped}
 use Rattle.fx_term.specs.Turns.{turns_inside, HasFewTurns}
-use Rattle.fx_term.specs.WellPlaced.{IsUseBelow, IsUseOf, IsNextBinder, HasFewTurnsInside}
+use Rattle.fx_term.specs.WellPlaced.{IsUseBelow, IsUseOf, IsNextBinder, IsQueueBelow, HasFewTurnsInside}
 use Rattle.fx_term.specs.Need.{need, most_need, NeedsFew}
 use Rattle.fx_term.specs.NodeNeed.{need_of_node}
 use Rattle.fx_term.specs.Meaning.{assemble}
@@ -75,6 +76,21 @@ module _ (term : ℕ → Term) where
   pub few_of_node : (n : Node) → NeedsFew (assemble (Some n) term) → AllByRecursion NeedsFewInside (parts n)
   few_of_node node.Canceled h = tt
   few_of_node _ h = assumption
+
+  -- itself and each part name queues below a number
+  module _ (queues : ℕ) where
+    abbrev pub NamesBelowInside : Part → Type 0
+    NamesBelowInside p = NamesQueuesBelow queues (term p.node.0)
+
+    pub node_names_below : (n : Node) → IsQueueBelow queues (queue_named n) → AllByRecursion NamesBelowInside (parts n)
+        → NamesQueuesBelow queues (assemble (Some n) term)
+    node_names_below node.Canceled q ps = tt
+    node_names_below _ q ps = assumption
+
+    pub names_of_node : (n : Node) → NamesQueuesBelow queues (assemble (Some n) term)
+        → IsQueueBelow queues (queue_named n) × AllByRecursion NamesBelowInside (parts n)
+    names_of_node node.Canceled h = (tt, tt)
+    names_of_node _ h = assumption
 
   -- how many it can use itself
   pub need_is : (n : Node) → need (assemble (Some n) term) ≡ need_of_node (λ id. need (term id)) n

@@ -13,7 +13,7 @@ use Rattle.fx_term.specs.declared.code.walk.Pending.{Pending}
 use Rattle.fx_term.specs.declared.code.CodeFault.TheVariants as fault
 use Rattle.fx_term.specs.Tree.{IsOneTree}
 use Rattle.fx_term.specs.Walk.{Spot, spots_below, spots_from, spots}
-use Rattle.fx_term.specs.WellPlaced.{HasRightSlots, HasRightKinds, IsWithinLimits, IsWellPlaced}
+use Rattle.fx_term.specs.WellPlaced.{HasRightNumbers, HasRightKinds, IsWithinLimits, IsWellPlaced}
 use Rattle.fx_term.specs.Pending.{path_to, seen_past, spot_at, AreNested, ArePushed}
 use Rattle.fx_term.specs.Need.{need}
 use Rattle.fx_term.specs.NodeNeed.{AreNeeds}
@@ -34,10 +34,10 @@ abbrev pub IsNear : List Node → Spot → Type 0
 IsNear nodes s = s.id < length nodes
 
 -- the spots looked at are well placed, and those below the stack follow them
-pub record IsWalked (nodes : List Node) (path : List NameKind) (stack : List Pending) : Type 0 where
+pub record IsWalked (queues : ℕ) (nodes : List Node) (path : List NameKind) (stack : List Pending) : Type 0 where
   pub before : List Spot
   pub split : spots nodes ≡ before ++ spots_to_come nodes path stack
-  pub placed : All (IsWellPlaced nodes) before
+  pub placed : All (IsWellPlaced queues nodes) before
   pub near : All (IsNear nodes) (map (spot_at path) stack)
   pub nested : AreNested 0 stack (length path)
 
@@ -73,35 +73,35 @@ unfolding spots_to_come
 come_kept nodes path other rest e = ap (λ xs. flat_map (spots_from nodes) (reverse xs)) e
 
 -- at the start the root is to come
-walked_root : (nodes : List Node) → nodes ≢ [] → IsWalked nodes [] (root_pending nodes ∷ [])
+walked_root : (queues : ℕ) (nodes : List Node) → nodes ≢ [] → IsWalked queues nodes [] (root_pending nodes ∷ [])
 unfolding root_pending
-walked_root nodes some =
+walked_root queues nodes some =
     let come = come_pop nodes [] [] (root_pending nodes) ∙ ap (λ xs. spots_from nodes (spot_at [] (root_pending nodes)) ++ xs) (come_nothing nodes [])
     ∙ append-nil (spots nodes) in
     let positive = length_positive nodes some in
     record {
       before = [];
       split = sym come;
-      placed = All-nil (IsWellPlaced nodes);
+      placed = All-nil (IsWellPlaced queues nodes);
       near = All-cons (IsNear nodes) (spot_at [] (root_pending nodes)) [] (omega arith) (All-nil (IsNear nodes));
       nested = (omega arith, omega arith, omega arith);
     }
 
-pub walked_none : (nodes : List Node) (path : List NameKind) (stack : List Pending) → nodes ≢ [] → path ≡ [] → stack ≡ [] ++ root_pending nodes ∷ []
-    → IsWalked nodes path stack
-walked_none nodes path stack some none e =
-    subst (λ (xs : List NameKind). IsWalked nodes xs stack) (sym none) (subst (IsWalked nodes []) (sym e) (walked_root nodes some))
+pub walked_none : (queues : ℕ) (nodes : List Node) (path : List NameKind) (stack : List Pending) → nodes ≢ [] → path ≡ [] → stack ≡ [] ++ root_pending nodes ∷ []
+    → IsWalked queues nodes path stack
+walked_none queues nodes path stack some none e =
+    subst (λ (xs : List NameKind). IsWalked queues nodes xs stack) (sym none) (subst (IsWalked queues nodes []) (sym e) (walked_root queues nodes some))
 
 -- at the end all spots were looked at
-pub walked_all : (nodes : List Node) (path : List NameKind) (stack : List Pending) → IsWalked nodes path stack → stack ≡ []
-    → All (IsWellPlaced nodes) (spots nodes)
-walked_all nodes path stack walked e =
+pub walked_all : (queues : ℕ) (nodes : List Node) (path : List NameKind) (stack : List Pending) → IsWalked queues nodes path stack → stack ≡ []
+    → All (IsWellPlaced queues nodes) (spots nodes)
+walked_all queues nodes path stack walked e =
     let none = ap (spots_to_come nodes path) e ∙ come_nothing nodes path in
     let whole = walked.split ∙ ap (λ xs. walked.before ++ xs) none ∙ append-nil walked.before in
-    subst (All (IsWellPlaced nodes)) (sym whole) walked.placed
+    subst (All (IsWellPlaced queues nodes)) (sym whole) walked.placed
 
 -- one look, at the last pending node of the stack
-module _ (nodes : List Node) (tree : IsOneTree nodes) (path : List NameKind) (stack : List Pending) (walked : IsWalked nodes path stack) (rest : List Pending)
+module _ (queues : ℕ) (nodes : List Node) (tree : IsOneTree nodes) (path : List NameKind) (stack : List Pending) (walked : IsWalked queues nodes path stack) (rest : List Pending)
     (p : Pending) (popped : stack ≡ rest ++ p ∷ []) (d : Node) where
   spots_popped : All (IsNear nodes) (map (spot_at path) rest ++ spot_at path p ∷ [])
   spots_popped = subst (All (IsNear nodes)) (ap (map (spot_at path)) popped ∙ map_push (spot_at path) rest p) walked.near
@@ -148,8 +148,8 @@ module _ (nodes : List Node) (tree : IsOneTree nodes) (path : List NameKind) (st
     right_here : (Right : List NameKind → Option Node → Type 0) → Right (path_to path p) (slice_get nodes p.node.0) → Right here node_here
     right_here Right h = subst (λ xs. Right xs node_here) (sym entered) (subst (λ o. Right (path_to path p) o) node_there h)
 
-    abbrev HasSlots : List NameKind → Option Node → Type 0
-    HasSlots kinds o = HasRightSlots (length (seen_past p.foreign kinds)) o
+    abbrev HasNumbers : List NameKind → Option Node → Type 0
+    HasNumbers kinds o = HasRightNumbers queues (length (seen_past p.foreign kinds)) o
 
     abbrev HasKinds : List NameKind → Option Node → Type 0
     HasKinds kinds o = HasRightKinds (seen_past p.foreign kinds) o
@@ -172,28 +172,29 @@ module _ (nodes : List Node) (tree : IsOneTree nodes) (path : List NameKind) (st
         let here = right_here IsWithin within in
         let made = are.need p.node.0 pending_near in let few = here.need in record { turns = here.turns; need = omega arith }
 
-    slots_there : HasRightSlots (length here) node_here → HasSlots (path_to path p) (slice_get nodes p.node.0)
-    slots_there right = right_there HasSlots (subst (λ n. HasRightSlots n node_here) (sym (length_seen p.foreign here)) right)
+    numbers_there : HasRightNumbers queues (length here) node_here → HasNumbers (path_to path p) (slice_get nodes p.node.0)
+    numbers_there right = right_there HasNumbers (subst (λ n. HasRightNumbers queues n node_here) (sym (length_seen p.foreign here)) right)
 
-    pub wrong_slot : length nodes < 2 ^ 32 → (HasRightSlots (length here) (Some (get_or nodes p.node.0 d)) → ⊥) → IsFault nodes (fault.Slot p.node)
-    wrong_slot fits wrong =
+    pub wrong_number : length nodes < 2 ^ 32 → (HasRightNumbers queues (length here) (Some (get_or nodes p.node.0 d)) → ⊥)
+        → IsFault queues nodes (fault.Slot p.node)
+    wrong_number fits wrong =
         slot walked.before (flat_map (spots_from nodes) parts_here ++ spots_to_come nodes path rest) (spot_at path p) fits tree split_next walked.placed
-        (λ right. wrong (subst (λ n. HasRightSlots n node_here) (length_seen p.foreign here) (right_here HasSlots right)))
+        (λ right. wrong (subst (λ n. HasRightNumbers queues n node_here) (length_seen p.foreign here) (right_here HasNumbers right)))
 
-    pub wrong_kind : length nodes < 2 ^ 32 → HasRightSlots (length here) (Some (get_or nodes p.node.0 d))
+    pub wrong_kind : length nodes < 2 ^ 32 → HasRightNumbers queues (length here) (Some (get_or nodes p.node.0 d))
         → (HasRightKinds (seen_past p.foreign here) (Some (get_or nodes p.node.0 d)) → ⊥)
-        → IsFault nodes (fault.Kind p.node)
+        → IsFault queues nodes (fault.Kind p.node)
     wrong_kind fits right wrong =
         kind walked.before (flat_map (spots_from nodes) parts_here ++ spots_to_come nodes path rest) (spot_at path p) fits tree split_next walked.placed
-        (slots_there right) (λ of_kind. wrong (right_here HasKinds of_kind))
+        (numbers_there right) (λ of_kind. wrong (right_here HasKinds of_kind))
 
-    pub not_within : length nodes < 2 ^ 32 → HasRightSlots (length here) (Some (get_or nodes p.node.0 d))
+    pub not_within : length nodes < 2 ^ 32 → HasRightNumbers queues (length here) (Some (get_or nodes p.node.0 d))
         → HasRightKinds (seen_past p.foreign here) (Some (get_or nodes p.node.0 d))
         → (needs : List ℕ) → AreNeeds nodes (length nodes) needs → (IsWithinLimits p.turns (slice_index needs p.node.0) (Some (get_or nodes p.node.0 d)) → ⊥)
-        → IsFault nodes (fault.Limit p.node)
+        → IsFault queues nodes (fault.Limit p.node)
     not_within fits right of_kind needs are wrong =
         limit walked.before (flat_map (spots_from nodes) parts_here ++ spots_to_come nodes path rest) (spot_at path p) fits tree split_next walked.placed
-        (slots_there right) (right_there HasKinds of_kind) (λ within. wrong (within_here needs are within))
+        (numbers_there right) (right_there HasKinds of_kind) (λ within. wrong (within_here needs are within))
 
     -- its parts are pushed
     module _ (new : List Pending)
@@ -227,15 +228,16 @@ module _ (nodes : List Node) (tree : IsOneTree nodes) (path : List NameKind) (st
       nested_rest =
           nested_more 0 rest p.outer (length here) nested_popped.0 (subst (λ xs. p.outer ≤ length xs) (sym entered) (path_reaches path p nested_popped.2))
 
-      pub walked_more : HasRightSlots (length here) (Some (get_or nodes p.node.0 d)) → HasRightKinds (seen_past p.foreign here) (Some (get_or nodes p.node.0 d))
+      pub walked_more : HasRightNumbers queues (length here) (Some (get_or nodes p.node.0 d))
+          → HasRightKinds (seen_past p.foreign here) (Some (get_or nodes p.node.0 d))
           → (needs : List ℕ) → AreNeeds nodes (length nodes) needs → IsWithinLimits p.turns (slice_index needs p.node.0) (Some (get_or nodes p.node.0 d))
-          → IsWalked nodes here new
+          → IsWalked queues nodes here new
       walked_more right of_kind needs are within = record {
         before = walked.before ++ spot_at path p ∷ [];
         split = walked.split ∙ ap (λ xs. walked.before ++ xs) come_then ∙ sym (append_assoc walked.before (spot_at path p ∷ []) (spots_to_come nodes here new));
         placed =
-            All-push (IsWellPlaced nodes) walked.before (spot_at path p) walked.placed
-            (record { slots = slots_there right; kinds = right_there HasKinds of_kind; limits = within_there needs are within });
+            All-push (IsWellPlaced queues nodes) walked.before (spot_at path p) walked.placed
+            (record { numbers = numbers_there right; kinds = right_there HasKinds of_kind; limits = within_there needs are within });
         near = subst (All (IsNear nodes)) (sym pushed.spots) near_new;
         nested = pushed.nested nested_rest;
       }

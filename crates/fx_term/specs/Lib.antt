@@ -15,4 +15,5 @@ pub mod Pending
 pub mod Code
 pub mod Registers
 pub mod Queue
+pub mod QueuesNamed
 pub mod Script

@@ -4,6 +4,7 @@ use Rattle.fx_term.specs.declared.node.Arg.TheVariants.{Slot}
 use Rattle.fx_term.specs.declared.node.Node.{Node}
 use Rattle.fx_term.specs.declared.node.Node.TheVariants as node
 use Rattle.fx_term.specs.Term.{Term, Pure, Raise, Canceled, Never, Cede, Let, Handle, If, For, Mask, Poll, OnCancel, Bracket, Start, Join, Cancel, First}
+use Rattle.fx_term.specs.Term.{Offer, TryOffer, Take, TryTake}
 
 -- a node's term, from the terms of its children
 abbrev pub assemble : Option Node → (ℕ → Term) → Term
@@ -25,6 +26,10 @@ assemble (Some (node.Start h a b)) child = Start h (child a.0) (child b.0)
 assemble (Some (node.Join f x a e b c)) child = Join (Slot f) x (child a.0) e (child b.0) (child c.0)
 assemble (Some (node.Cancel f)) child = Cancel (Slot f)
 assemble (Some (node.First f g)) child = First (Slot f) (Slot g)
+assemble (Some (node.Offer q v)) child = Offer q v
+assemble (Some (node.TryOffer q v)) child = TryOffer q v
+assemble (Some (node.Take q)) child = Take q
+assemble (Some (node.TryTake q x a b)) child = TryTake q x (child a.0) (child b.0)
 
 -- the node's term, read that many levels deep
 unfoldable pub read : ℕ → List Node → ℕ → Term

@@ -1,5 +1,5 @@
--- The signature of each form: the names that a node uses, its parts in the order of the text, and how many of them it runs.
-use Rattle.std.specs.Prelude.{ℕ, Bool, true, false, Option, Some, None, List, [], ◌∷◌}
+-- The signature of each form: the names that a node uses, the queue that it names, its parts in the order of the text, and how many of them it runs.
+use Rattle.std.specs.Prelude.{ℕ, true, false, Option, Some, None, List, [], ◌∷◌}
 use Rattle.std.specs.List.{filter_map}
 use Rattle.fx_term.specs.declared.name_kind.NameKind.{NameKind}
 use Rattle.fx_term.specs.declared.name_kind.NameKind.TheVariants as kind
@@ -52,6 +52,18 @@ uses (node.Start h a b) = []
 uses (node.Join f x a e b c) = slot_as kind.Fiber f ∷ []
 uses (node.Cancel f) = slot_as kind.Fiber f ∷ []
 uses (node.First f g) = slot_as kind.Fiber f ∷ slot_as kind.Fiber g ∷ []
+uses (node.Offer q v) = use_as kind.Value v ∷ []
+uses (node.TryOffer q v) = use_as kind.Value v ∷ []
+uses (node.Take q) = []
+uses (node.TryTake q x a b) = []
+
+-- the queue that a node names, if it names one
+abbrev pub queue_named : Node → Option ℕ
+queue_named (node.Offer q v) = Some q
+queue_named (node.TryOffer q v) = Some q
+queue_named (node.Take q) = Some q
+queue_named (node.TryTake q x a b) = Some q
+queue_named _ = None
 
 -- the parts of a node
 abbrev pub parts : Node → List Part
@@ -72,17 +84,26 @@ parts (node.Start h a b) = started a ∷ part_under (Some h) kind.Fiber b ∷ []
 parts (node.Join f x a e b c) = part_under (Some x) kind.Value a ∷ part_under (Some e) kind.Value b ∷ plain c ∷ []
 parts (node.Cancel f) = []
 parts (node.First f g) = []
+parts (node.Offer q v) = []
+parts (node.TryOffer q v) = []
+parts (node.Take q) = []
+parts (node.TryTake q x a b) = part_under (Some x) kind.Value a ∷ plain b ∷ []
 
 -- whether a node runs each of its parts or one of them
 abbrev pub running : Node → Running
 running (node.If v a b) = OnePart
 running (node.Join f x a e b c) = OnePart
+running (node.TryTake q x a b) = OnePart
 running _ = EachPart
 
--- the names and the parts where there may be no node
+-- the names, the queue and the parts where there may be no node
 abbrev pub uses_of : Option Node → List Use
 uses_of None = []
 uses_of (Some n) = uses n
+
+abbrev pub queue_of : Option Node → Option ℕ
+queue_of None = None
+queue_of (Some n) = queue_named n
 
 abbrev pub parts_of : Option Node → List Part
 parts_of None = []

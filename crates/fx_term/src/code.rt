@@ -31,8 +31,9 @@ pub enum CodeFault {
     /// 4,294,967,295.
     #[error("node {}: a child that is not before its parent, or a node that is not one node's child", .0.0)]
     Child(NodeId),
-    /// A binder of this node has another slot than the next, or a slot that it uses is not bound.
-    #[error("node {}: a slot that is not bound, or a binder with a wrong slot", .0.0)]
+    /// A binder of this node has another slot than the next, or a slot that it uses is not bound, or
+    /// the script has no queue of the number that it names.
+    #[error("node {}: a slot that is not bound, a binder with a wrong slot, or no such queue", .0.0)]
     Slot(NodeId),
     /// A slot that this node uses is that of a name of another kind, as a poll's where a value is to
     /// stand, or that of a poll of another fiber.
@@ -92,7 +93,7 @@ const MOST_NODES: usize = u32::MAX as usize;
 fn check_count(nodes: &[Node]) -> Result<(), CodeFault>
     ensures some_node { OnOk result (0 < length nodes.now) }
     ensures fits { OnOk result (length nodes.now < 2 ^ 32) }
-    ensures fault { IfErr result (IsFault nodes.now) }
+    ensures fault { IfErr result (λ f. (queues : ℕ) → IsFault queues nodes.now f) }
 {
     if nodes.is_empty() || nodes.len() > MOST_NODES {
         return Err(CodeFault::Child(NodeId(0)));
@@ -102,15 +103,15 @@ fn check_count(nodes: &[Node]) -> Result<(), CodeFault>
 
 /// The tests of a whole list, each of which may suppose what those before it found. It answers the
 /// needs of the nodes.
-fn check_nodes(alloc: Global, nodes: &[Node]) -> Result<Vec<u32>, CodeFault>
-    ensures code { OnOk result ((queues : ℕ) → IsCode queues nodes.now) }
+fn check_nodes(alloc: Global, nodes: &[Node], queues: u8) -> Result<Vec<u32>, CodeFault>
+    ensures code { OnOk result (IsCode queues nodes.now) }
     ensures needs { IfOk result (λ needs. AreNeeds nodes.now (length nodes.now) needs.items) }
-    ensures fault { IfErr result (IsRefusal nodes.now) }
+    ensures fault { IfErr result (IsRefusal queues nodes.now) }
 {
     check_count(nodes)?;
     check_tree(alloc, nodes)?;
     let needs = needs_of_nodes(alloc, nodes)?;
-    check_names(alloc, nodes, &needs)?;
+    check_names(alloc, nodes, &needs, queues)?;
     Ok(needs)
 }
 
@@ -146,14 +147,14 @@ impl Code {
     /// The code of these nodes, of which the last is the root. Its answer is the first fault in the
     /// order of the tests; a list has one such fault at most ([`laws`](crate::laws::faults)). It takes
     /// time and memory in proportion to the number of nodes. `queues` is the number of the script's
-    /// queues; no test reads it yet, since no node names a queue so far.
+    /// queues, which the nodes may name.
     pub fn build(alloc: Global, nodes: Vec<Node>, queues: u8) -> Result<Code, CodeFault>
         ensures built { IfOk result (λ code. code.nodes ≡ nodes.items × code.queues ≡ queues) }
         ensures code { OnOk result (IsCode queues nodes.items) }
         ensures accepts { IsCode queues nodes.items → IsOkUnless result CodeFault.Memory }
-        ensures first_fault { IfErr result (IsRefusal nodes.items) }
+        ensures first_fault { IfErr result (IsRefusal queues nodes.items) }
     {
-        let needs = check_nodes(alloc, &nodes)?;
+        let needs = check_nodes(alloc, &nodes, queues)?;
         Ok(Code {
             nodes,
             needs,

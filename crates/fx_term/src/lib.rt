@@ -8,7 +8,7 @@
 //! 2. A node's children stand before it, and no node is a child twice.
 //! 3. Each node but the last is a child, so the last one is the root.
 //! 4. From the root down, node by node: a binder has the number of names in whose scope it stands, and
-//!    a name that is used is in scope there; then, that name is of the kind that it is used as, a
+//!    a name that is used is in scope there, and a queue that is named is one of the script's; then, that name is of the kind that it is used as, a
 //!    value, a poll or a fiber, and a poll is none of another fiber: one whose mask stands outside of
 //!    the part that a start gives to a new fiber; then, the node can use at most 1,023 fiber
 //!    numbers, and the counts of the loops round its part have a product of at most 1,000,000, a
@@ -26,6 +26,7 @@ pub mod laws;
 mod memory;
 mod name_kind;
 mod node;
+mod offered;
 mod outcome;
 mod queue_event;
 mod registers;
@@ -38,6 +39,7 @@ pub use item::Item;
 pub use memory::Memory;
 pub use name_kind::NameKind;
 pub use node::{Arg, Node, NodeId};
+pub use offered::Offered;
 pub use outcome::Outcome;
 pub use queue_event::QueueEvent;
 pub use registers::Registers;

@@ -51,4 +51,16 @@ pub enum Node {
     Cancel(u32),
     /// Waits until one of these fibers has ended: gives 0 for the left one, 1 for the right.
     First(u32, u32),
+    /// Puts the value at the back of the queue of this number, waits while that is full, and gives 0
+    /// (`Queue.offer`).
+    Offer(u8, Arg),
+    /// Puts the value at the back of the queue of this number and gives 1, or gives 0 where that is
+    /// full (`Queue.tryOffer`).
+    TryOffer(u8, Arg),
+    /// Takes the front of the queue of this number, waits while that is empty, and gives it
+    /// (`Queue.take`).
+    Take(u8),
+    /// Takes the front of the queue of this number, and goes on with it, by this slot, in the first
+    /// part; or with the second part where the queue is empty (`Queue.tryTake`).
+    TryTake(u8, u32, NodeId, NodeId),
 }

@@ -32,6 +32,7 @@ fn interruption<P: Port>(
     ensures beginning { P.beginning port.new ≡ P.beginning port.old }
     ensures rest { P.rest port.new ≡ P.rest port.old }
     ensures finished { P.has_finished port.new ≡ P.has_finished port.old }
+    ensures puts { P.puts port.new ≡ P.puts port.old }
 {
     if !machine.is_open() {
         return None;
@@ -58,8 +59,9 @@ pub(crate) fn advance<P: Port>(
     requires going { IsGoing machine.old.focus }
     requires masks_countable { machine.old.masks.entries < 2 ^ 63 }
     requires resources_countable { machine.old.acquired < 2 ^ 63 }
+    requires puts_countable { P.puts port.old < 2 ^ 63 }
     requires scoped { IsProgressScopedOver is_fiber_number (progress_of P.code machine.old) }
-    ensures ok { IfOk result (λ made. Advances P.calls P.agrees P.code
+    ensures ok { IfOk result (λ made. Advances P.calls P.agrees P.puts P.code
         machine.old port.old shared.old made machine.new port.new shared.new) }
     ensures same { OnErr result (IsSame P.code machine.old machine.new) }
     ensures unchanged { OnErr result ((port.new ≡ port.old) × (shared.new ≡ shared.old)) }

@@ -29,14 +29,16 @@ pub(crate) fn start<P: Port>(
     requires stands { (id : NodeId)
         × StandsAt P.code bare.old.machine id (node.Start slot started then) }
     requires kept { IsKept P.code (P.beginning port.old) (P.agrees port.old)
-        (P.has_finished port.old) (P.rest port.old) bare.old.trace.items bare.old.machine }
+        (P.has_finished port.old) (P.rest port.old) (P.puts port.old)
+        bare.old.trace.items bare.old.machine }
     requires going { P.has_finished port.old ≡ false }
     requires room { vec_len bare.old.trace < vec_capacity bare.old.trace }
     ensures started { IfOk result (λ child. MakesStart P.calls P.code bare.old.machine port.old
         shared.old bare.old.trace.items child bare.new.machine port.new shared.new
         bare.new.trace.items) }
     ensures kept { IfOk result (λ child. IsKept P.code (P.beginning port.new) (P.agrees port.new)
-        (P.has_finished port.new) (P.rest port.new) bare.new.trace.items bare.new.machine) }
+        (P.has_finished port.new) (P.rest port.new) (P.puts port.new)
+        bare.new.trace.items bare.new.machine) }
     ensures same { OnErr result (IsSame P.code bare.old.machine bare.new.machine) }
     ensures trace { OnErr result (bare.new.trace.items ≡ bare.old.trace.items) }
     ensures unchanged { OnErr result ((port.new ≡ port.old) × (shared.new ≡ shared.old)) }

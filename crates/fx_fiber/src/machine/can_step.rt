@@ -13,7 +13,7 @@ use crate::closed::Closed;
 use crate::machine::Machine;
 use crate::machine::focus::Focus;
 use crate::machine::leaf_below::LeafBelow;
-use fx_term::{Code, Node};
+use fx_term::Code;
 
 impl Machine {
     /// Whether the machine of this fiber can step where the outside is as a run left it.
@@ -52,15 +52,9 @@ impl Machine {
         ensures { result ≡ leaf_can_step (outside_of closed.now)
             (term_at nodes self.now.registers leaf.node) }
     {
-        match leaf.node {
-            Node::Never => false,
-            Node::Join(fiber, ..) => closed.has_ended(self.fiber_of(fiber)),
-            Node::First(left, right) => {
-                let left = self.fiber_of(left);
-                let right = self.fiber_of(right);
-                closed.has_ended(left) || closed.has_ended(right)
-            }
-            _ => true,
+        match self.source_at(leaf) {
+            Some(source) => closed.has_come(source),
+            None => true,
         }
     }
 }

@@ -29,8 +29,9 @@ impl Machine {
         requires at { StandsAt P.code self.old id node.now }
         requires leaf { IsLeafNode (Some node.now) }
         requires countable { self.old.masks.entries < 2 ^ 63 }
+        requires puts_countable { P.puts port.old < 2 ^ 63 }
         requires scoped { IsProgressScopedOver is_fiber_number (progress_of P.code self.old) }
-        ensures ok { IfOk result (λ made. MakesCall P.calls P.agrees P.code
+        ensures ok { IfOk result (λ made. MakesCall P.calls P.agrees P.puts P.code
             self.old port.old shared.old made self.new port.new shared.new) }
         ensures same { OnErr result (IsSame P.code self.old self.new) }
         ensures unchanged { OnErr result ((port.new ≡ port.old) × (shared.new ≡ shared.old)) }
@@ -45,6 +46,10 @@ impl Machine {
             Node::Join(..) => self.join(port, shared, id, node),
             Node::Cancel(fiber) => Ok(self.request(port, shared, fiber)),
             Node::First(left, right) => Ok(self.first(port, shared, left, right)),
+            Node::Offer(queue, value) => self.offer(port, shared, queue, value),
+            Node::TryOffer(queue, value) => self.try_offer(port, shared, queue, value),
+            Node::Take(queue) => Ok(self.take(port, shared, queue)),
+            Node::TryTake(..) => self.try_take(port, shared, id, node),
             _ => self.local_rule(id, node),
         }
     }
@@ -75,7 +80,11 @@ impl Machine {
             | Node::Start(..)
             | Node::Join(..)
             | Node::Cancel(_)
-            | Node::First(..) => { unreachable!() }
+            | Node::First(..)
+            | Node::Offer(..)
+            | Node::TryOffer(..)
+            | Node::Take(_)
+            | Node::TryTake(..) => { unreachable!() }
         }
     }
 

@@ -27,7 +27,11 @@ pub(crate) fn entry_of(id: NodeId, node: &Node) -> Option<(Frame, NodeId)>
         | Node::Start(..)
         | Node::Join(..)
         | Node::Cancel(_)
-        | Node::First(..) => None,
+        | Node::First(..)
+        | Node::Offer(..)
+        | Node::TryOffer(..)
+        | Node::Take(_)
+        | Node::TryTake(..) => None,
     }
 }
 

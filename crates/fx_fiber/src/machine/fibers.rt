@@ -42,7 +42,7 @@ impl Machine {
         requires at { StandsAt P.code self.old id node.now }
         requires join { IsJoin node.now }
         requires scoped { IsProgressScopedOver is_fiber_number (progress_of P.code self.old) }
-        ensures ok { IfOk result (λ made. MakesCall P.calls P.agrees P.code
+        ensures ok { IfOk result (λ made. MakesCall P.calls P.agrees P.puts P.code
             self.old port.old shared.old made self.new port.new shared.new) }
         ensures same { OnErr result (IsSame P.code self.old self.new) }
         ensures unchanged { OnErr result ((port.new ≡ port.old) × (shared.new ≡ shared.old)) }
@@ -95,7 +95,7 @@ impl Machine {
     pub fn request<P: Port>(&mut self, port: &mut P, shared: &mut P::Shared, slot: u32) -> Made
         requires at { (id : NodeId) × StandsAt P.code self.old id (node.Cancel slot) }
         requires scoped { IsProgressScopedOver is_fiber_number (progress_of P.code self.old) }
-        ensures made { MakesCall P.calls P.agrees P.code
+        ensures made { MakesCall P.calls P.agrees P.puts P.code
             self.old port.old shared.old result self.new port.new shared.new }
         ensures number { P.number port.new ≡ P.number port.old }
         ensures beginning { P.beginning port.new ≡ P.beginning port.old }
@@ -112,7 +112,7 @@ impl Machine {
     pub fn awaits<P: Port>(&mut self, port: &mut P, shared: &mut P::Shared, fiber: u32) -> Made
         requires sound { IsSoundMachine P.code self.old }
         requires focus { self.old.focus ≡ Focus.Await fiber }
-        ensures made { MakesCall P.calls P.agrees P.code
+        ensures made { MakesCall P.calls P.agrees P.puts P.code
             self.old port.old shared.old result self.new port.new shared.new }
         ensures number { P.number port.new ≡ P.number port.old }
         ensures beginning { P.beginning port.new ≡ P.beginning port.old }
@@ -138,7 +138,7 @@ impl Machine {
     ) -> Made
         requires at { (id : NodeId) × StandsAt P.code self.old id (node.First left right) }
         requires scoped { IsProgressScopedOver is_fiber_number (progress_of P.code self.old) }
-        ensures made { MakesCall P.calls P.agrees P.code
+        ensures made { MakesCall P.calls P.agrees P.puts P.code
             self.old port.old shared.old result self.new port.new shared.new }
         ensures number { P.number port.new ≡ P.number port.old }
         ensures beginning { P.beginning port.new ≡ P.beginning port.old }

@@ -35,7 +35,7 @@ impl Machine {
     }
 
     /// What the leaf waits for, if it is one that can wait.
-    fn source_at(&self, leaf: LeafBelow) -> Option<Source>
+    pub(crate) fn source_at(&self, leaf: LeafBelow) -> Option<Source>
         ghost nodes: { List Node }
         requires below { IsLeafBelow nodes self.now leaf }
         requires scoped { IsProgressScopedOver is_fiber_number (progress_of nodes self.now) }
@@ -49,6 +49,8 @@ impl Machine {
                 let right = self.fiber_of(right);
                 Some(Source::Either(left, right))
             }
+            Node::Offer(queue, _) => Some(Source::Room(queue)),
+            Node::Take(queue) => Some(Source::Element(queue)),
             _ => None,
         }
     }

@@ -2,7 +2,7 @@
 ghost use Rattle.std.specs.Prelude.{◌≡◌, ◌↔◌, Some, slice_get, IsTrue};
 ghost use Rattle.fx_term.specs.Scope.{IsArgBelow, IsArgOf, IsBinderAt};
 ghost use Rattle.fx_term.specs.Pending.{seen_past};
-ghost use Rattle.fx_term.specs.WellPlaced.{HasRightSlots, HasRightKinds};
+ghost use Rattle.fx_term.specs.WellPlaced.{IsQueueBelow, HasRightSlots, HasRightNumbers, HasRightKinds};
 
 use crate::code::signature::Use;
 use crate::name_kind::NameKind;
@@ -28,8 +28,26 @@ fn is_next(binder: Option<u32>, names: usize) -> bool
     }
 }
 
+/// Does it name no queue, or one of so many?
+fn is_queue_there(queue: Option<u8>, queues: u8) -> bool
+    ensures { IsTrue result ↔ IsQueueBelow queues queue }
+{
+    match queue {
+        None => true,
+        Some(queue) => queue < queues,
+    }
+}
+
+/// Are the slots of this node right where so many names are in scope, and is the queue that it names
+/// one of so many?
+pub(crate) fn has_right_numbers(node: Node, names: usize, queues: u8) -> bool
+    ensures { IsTrue result ↔ HasRightNumbers queues names (Some node) }
+{
+    has_right_slots(node, names) && is_queue_there(node.queue(), queues)
+}
+
 /// Are the slots of this node right where so many names are in scope?
-pub(crate) fn has_right_slots(node: Node, names: usize) -> bool
+fn has_right_slots(node: Node, names: usize) -> bool
     ensures { IsTrue result ↔ HasRightSlots names (Some node) }
 {
     let uses = node.uses();

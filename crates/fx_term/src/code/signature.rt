@@ -1,7 +1,9 @@
-//! The signature of each form: the names that a node uses; its parts in the order of the text, each
-//! with what is bound in it; and how many of them it runs. Every test of a code goes over these tables.
+//! The signature of each form: the names that a node uses; the queue that it names; its parts in the
+//! order of the text, each with what is bound in it; and how many of them it runs. Every test of a code
+//! goes over these tables.
 ghost use Rattle.std.specs.Prelude.{◌≡◌, Some};
-ghost use Rattle.fx_term.specs.Signature.{uses, parts, running, present, use_as, slot_as, plain, part_under, repeated, started};
+ghost use Rattle.fx_term.specs.Signature.{uses, queue_named, parts, running, present, use_as, slot_as, plain};
+ghost use Rattle.fx_term.specs.Signature.{part_under, repeated, started};
 
 use crate::name_kind::NameKind;
 use crate::node::{Arg, Node, NodeId};
@@ -103,7 +105,11 @@ impl Node {
         ensures { present result ≡ uses self }
     {
         match self {
-            Node::Pure(v) | Node::Raise(v) | Node::If(v, ..) => [use_as(NameKind::Value, v), None],
+            Node::Pure(v)
+            | Node::Raise(v)
+            | Node::If(v, ..)
+            | Node::Offer(_, v)
+            | Node::TryOffer(_, v) => [use_as(NameKind::Value, v), None],
             Node::Poll(p, _) => [slot_as(NameKind::Poll, p), None],
             Node::Join(f, ..) | Node::Cancel(f) => [slot_as(NameKind::Fiber, f), None],
             Node::First(f, g) => [slot_as(NameKind::Fiber, f), slot_as(NameKind::Fiber, g)],
@@ -116,7 +122,22 @@ impl Node {
             | Node::Mask(..)
             | Node::OnCancel(..)
             | Node::Bracket(..)
-            | Node::Start(..) => [None, None],
+            | Node::Start(..)
+            | Node::Take(_)
+            | Node::TryTake(..) => [None, None],
+        }
+    }
+
+    /// The number of the queue that it names, if it names one.
+    pub(crate) fn queue(self) -> Option<u8>
+        ensures { result ≡ queue_named self }
+    {
+        match self {
+            Node::Offer(queue, _)
+            | Node::TryOffer(queue, _)
+            | Node::Take(queue)
+            | Node::TryTake(queue, ..) => Some(queue),
+            _ => None,
         }
     }
 
@@ -131,7 +152,10 @@ impl Node {
             | Node::Never
             | Node::Cede
             | Node::Cancel(_)
-            | Node::First(..) => [None, None, None],
+            | Node::First(..)
+            | Node::Offer(..)
+            | Node::TryOffer(..)
+            | Node::Take(_) => [None, None, None],
             Node::Let(x, a, b) | Node::Handle(a, x, b) => {
                 [plain(a), part_under(x, NameKind::Value, b), None]
             }
@@ -150,6 +174,9 @@ impl Node {
                 part_under(Some(e), NameKind::Value, b),
                 plain(c),
             ],
+            Node::TryTake(_, x, a, b) => {
+                [part_under(Some(x), NameKind::Value, a), plain(b), None]
+            }
         }
     }
 
@@ -158,7 +185,7 @@ impl Node {
         ensures { result ≡ running self }
     {
         match self {
-            Node::If(..) | Node::Join(..) => Running::OnePart,
+            Node::If(..) | Node::Join(..) | Node::TryTake(..) => Running::OnePart,
             Node::Pure(_)
             | Node::Raise(_)
             | Node::Canceled
@@ -173,7 +200,10 @@ impl Node {
             | Node::Bracket(..)
             | Node::Start(..)
             | Node::Cancel(_)
-            | Node::First(..) => Running::EachPart,
+            | Node::First(..)
+            | Node::Offer(..)
+            | Node::TryOffer(..)
+            | Node::Take(_) => Running::EachPart,
         }
     }
 }

@@ -15,7 +15,7 @@ fn mark_children(alloc: Global, nodes: &[Node]) -> Result<Vec<bool>, CodeFault>
     ensures forest { OnOk result (IsForest nodes.now) }
     ensures marks { IfOk result (λ taken. AreMarks (all_children nodes.now) taken.items) }
     ensures each_node { IfOk result (λ taken. vec_len taken ≡ length nodes.now) }
-    ensures fault { IfErr result (IsRefusal nodes.now) }
+    ensures fault { IfErr result (λ f. (queues : ℕ) → IsRefusal queues nodes.now f) }
 {
     let mut taken = vec![in alloc; false; nodes.len()]?;
     for (id, node) in nodes.iter().enumerate() {
@@ -35,7 +35,7 @@ fn check_parents(nodes: &[Node], taken: &[bool]) -> Result<(), CodeFault>
     requires each_node { length taken.now ≡ length nodes.now }
     ensures each { OnOk result ((id : ℕ) → id + 1 < length nodes.now
         → Contains (all_children nodes.now) id) }
-    ensures fault { IfErr result (IsFault nodes.now) }
+    ensures fault { IfErr result (λ f. (queues : ℕ) → IsFault queues nodes.now f) }
 {
     for id in 0..nodes.len() - 1 {
         if !taken[id] {
@@ -50,7 +50,7 @@ pub(crate) fn check_tree(alloc: Global, nodes: &[Node]) -> Result<(), CodeFault>
     requires fits { length nodes.now < 2 ^ 32 }
     requires some_node { 0 < length nodes.now }
     ensures tree { OnOk result (IsOneTree nodes.now) }
-    ensures fault { IfErr result (IsRefusal nodes.now) }
+    ensures fault { IfErr result (λ f. (queues : ℕ) → IsRefusal queues nodes.now f) }
 {
     let taken = mark_children(alloc, nodes)?;
     check_parents(nodes, &taken)

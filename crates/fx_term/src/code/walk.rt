@@ -10,7 +10,7 @@ ghost use Rattle.fx_term.specs.Code.{IsRefusal};
 
 use crate::code::CodeFault;
 use crate::code::needs::is_within_limits;
-use crate::code::scope::{has_right_kinds, has_right_slots};
+use crate::code::scope::{has_right_kinds, has_right_numbers};
 use crate::code::signature::Part;
 use crate::code::turns::turns_inside;
 use crate::name_kind::NameKind;
@@ -90,13 +90,19 @@ fn push_parts(
     Ok(())
 }
 
-/// Tests the names and limits of each node of a tree, from its root down.
-pub(crate) fn check_names(alloc: Global, nodes: &[Node], needs: &[u32]) -> Result<(), CodeFault>
+/// Tests the names, the queue and the limits of each node of a tree, from its root down, where there
+/// are so many queues.
+pub(crate) fn check_names(
+    alloc: Global,
+    nodes: &[Node],
+    needs: &[u32],
+    queues: u8,
+) -> Result<(), CodeFault>
     requires fits { length nodes.now < 2 ^ 32 }
     requires tree { IsOneTree nodes.now }
     requires needs { AreNeeds nodes.now (length nodes.now) needs.now }
-    ensures placed { OnOk result (All (IsWellPlaced nodes.now) (spots nodes.now)) }
-    ensures fault { IfErr result (IsRefusal nodes.now) }
+    ensures placed { OnOk result (All (IsWellPlaced queues nodes.now) (spots nodes.now)) }
+    ensures fault { IfErr result (IsRefusal queues nodes.now) }
 {
     let mut path = Vec::new(alloc);
     let mut stack = Vec::new(alloc);
@@ -111,7 +117,7 @@ pub(crate) fn check_names(alloc: Global, nodes: &[Node], needs: &[u32]) -> Resul
         enter(&mut path, pending)?;
         let kinds = path.as_slice();
         let node = nodes[pending.node.0 as usize];
-        if !has_right_slots(node, kinds.len()) {
+        if !has_right_numbers(node, kinds.len(), queues) {
             return Err(CodeFault::Slot(pending.node));
         }
         if !has_right_kinds(node, kinds, pending.foreign) {

@@ -6,6 +6,6 @@ use Rattle.fx_term.proofs.code.check_count.Goals.{then-is_empty-via-then-is_empt
 
 pub returns-then-is_empty-clause-fault : goal.returns-then-is_empty-clause-fault
 returns-then-is_empty-clause-fault c = elim c.then-is_empty.branch [
-  | then-is_empty-via-then-is_empty w ↦ no_node (eqb-true (length c.args.nodes.now) 0 (sym w.if-is_empty.ensures))
-  | then-is_empty-via-else-is_empty+then-nodes-gt-MOST_NODES w ↦ too_many (omega arith)
+  | then-is_empty-via-then-is_empty w ↦ λ queues. no_node (eqb-true (length c.args.nodes.now) 0 (sym w.if-is_empty.ensures))
+  | then-is_empty-via-else-is_empty+then-nodes-gt-MOST_NODES w ↦ λ queues. too_many (omega arith)
 ]

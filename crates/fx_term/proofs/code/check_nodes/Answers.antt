@@ -4,4 +4,4 @@ use Rattle.fx_term.proofs.code.check_nodes.Goals as goal
 
 pub returns-clause-code : goal.returns-clause-code
 returns-clause-code c =
-    code_of_tests c.args.nodes.now c.in_ok-check_count.ensures.fits c.in_ok-check_tree.ensures.tree c.in_ok-check_names.ensures.placed
+    code_of_tests c.args.queues c.args.nodes.now c.in_ok-check_count.ensures.fits c.in_ok-check_tree.ensures.tree c.in_ok-check_names.ensures.placed

@@ -15,7 +15,7 @@ invariant_of-self-in-Silent g c =
     let items = rw c.deref_mut-bare.ensures.value at c.in_ok-reserve.ensures.items in
     rw c.deref_mut-bare.ensures.value (
       c.advance.ensures.number ∙ c.self.invariant.0,
-      kept_going g.P.Port.code _ _ g.P.Port.calls g.P.Port.agrees _ _ _ _ _ _ _ _ _ _ c.self.inside.bare.value.machine c.advance.new.machine (made.Silent)
+      kept_going g.P.Port.code _ _ g.P.Port.calls g.P.Port.agrees g.P.Port.puts _ _ _ _ _ _ _ _ _ _ c.self.inside.bare.value.machine c.advance.new.machine (made.Silent)
           c.advance.ensures.beginning c.self.invariant.1
           (rw (← c.self.view_is) at c.requires.going) done.ok done.ok.rule.1 c.advance.ensures.finished c.advance.ensures.rest
           refl (items ∙ sym (append-nil _)),
@@ -27,7 +27,7 @@ invariant_of-self-in-Yielded g c =
     let items = rw c.deref_mut-bare.ensures.value at c.in_ok-reserve.ensures.items in
     rw c.deref_mut-bare.ensures.value (
       c.advance.ensures.number ∙ c.self.invariant.0,
-      kept_going g.P.Port.code _ _ g.P.Port.calls g.P.Port.agrees _ _ _ _ _ _ _ _ _ _ c.self.inside.bare.value.machine c.advance.new.machine (made.Yielded)
+      kept_going g.P.Port.code _ _ g.P.Port.calls g.P.Port.agrees g.P.Port.puts _ _ _ _ _ _ _ _ _ _ c.self.inside.bare.value.machine c.advance.new.machine (made.Yielded)
           c.advance.ensures.beginning c.self.invariant.1
           (rw (← c.self.view_is) at c.requires.going) done.ok done.ok.rule.1 c.advance.ensures.finished c.advance.ensures.rest
           refl (items ∙ sym (append-nil _)),
@@ -39,10 +39,10 @@ invariant_of-self-in-Ended g c =
     let items = rw c.deref_mut-bare.ensures.value at c.in_ok-reserve.ensures.items in
     rw c.deref_mut-bare.ensures.value (
       c.finish.ensures.number ∙ c.advance.ensures.number ∙ c.self.invariant.0,
-      kept_ended g.P.Port.code _ _ g.P.Port.calls g.P.Port.agrees _ _ _ _ _ _ _ _ _ _ c.self.inside.bare.value.machine c.advance.new.machine
+      kept_ended g.P.Port.code _ _ g.P.Port.calls g.P.Port.agrees g.P.Port.puts _ _ _ _ _ _ _ _ _ _ c.self.inside.bare.value.machine c.advance.new.machine
           c.in-Ended.outcome _
           (c.finish.ensures.beginning ∙ c.advance.ensures.beginning) c.self.invariant.1 done.ok c.finish.ensures.finished
-          (c.finish.ensures.rest ∙ c.advance.ensures.rest) c.finish.ensures.deed
+          (c.finish.ensures.rest ∙ c.advance.ensures.rest) c.finish.ensures.puts c.finish.ensures.deed
           (one_more _ _ _ _ items (rw c.in-Ended.is at c.push_reserved-2.ensures.items)),
     )
 
@@ -52,7 +52,7 @@ invariant_of-self-in_default g c =
     let items = rw c.deref_mut-bare.ensures.value at c.in_ok-reserve.ensures.items in
     rw c.deref_mut-bare.ensures.value (
       c.advance.ensures.number ∙ c.self.invariant.0,
-      kept_going g.P.Port.code _ _ g.P.Port.calls g.P.Port.agrees _ _ _ _ _ _ _ _ _ _ c.self.inside.bare.value.machine c.advance.new.machine
+      kept_going g.P.Port.code _ _ g.P.Port.calls g.P.Port.agrees g.P.Port.puts _ _ _ _ _ _ _ _ _ _ c.self.inside.bare.value.machine c.advance.new.machine
           (made.Shows c.in-Shows.event)
           c.advance.ensures.beginning c.self.invariant.1
           (rw (← c.self.view_is) at c.requires.going) done.ok done.ok.rule c.advance.ensures.finished c.advance.ensures.rest
@@ -65,7 +65,7 @@ invariant_of-self-in-Learns g c =
     let items = rw c.deref_mut-bare.ensures.value at c.in_ok-reserve.ensures.items in
     rw c.deref_mut-bare.ensures.value (
       c.advance.ensures.number ∙ c.self.invariant.0,
-      kept_going g.P.Port.code _ _ g.P.Port.calls g.P.Port.agrees _ _ _ _ _ _ _ _ _ _ c.self.inside.bare.value.machine c.advance.new.machine
+      kept_going g.P.Port.code _ _ g.P.Port.calls g.P.Port.agrees g.P.Port.puts _ _ _ _ _ _ _ _ _ _ c.self.inside.bare.value.machine c.advance.new.machine
           (made.Learns c.in-Learns.field-0 c.in-Learns.field-1 c.in-Learns.learnt)
           c.advance.ensures.beginning c.self.invariant.1
           (rw (← c.self.view_is) at c.requires.going) done.ok done.ok.rule c.advance.ensures.finished c.advance.ensures.rest

@@ -61,7 +61,7 @@ pub beginning-requires-2-clause-countable : goal.beginning-requires-2-clause-cou
 beginning-requires-2-clause-countable g c =
     let at = c.requires.stands.1 in
     rw (c.in_ok-own.ensures.child_beginning, c.in_ok-copied.ensures)
-    (part_works g.P.Port.code c.args.bare.now.machine _ _ _ _ at.at at.free c.requires.kept.countable)
+    (part_works g.P.Port.code c.args.bare.now.machine _ _ _ _ at.at at.free _ c.requires.kept.countable)
 
 pub beginning-requires-2-clause-scoped : goal.beginning-requires-2-clause-scoped
 beginning-requires-2-clause-scoped g c =
@@ -110,8 +110,9 @@ returns-clause-kept g c =
     let begins = begins_so g.P.Port.code s _ _ _ _ at.at _ c.need.result c.in_ok-copied.ensures n in
     let t : Machine = record s { registers = c.bind.new.self; focus = Eval c.args.then; next = s.next + 1 + c.need.result } in
     let begin : Begin = record { node = c.args.started; slots = c.in_ok-copied.field-0; next = s.next + 1; end = s.next + 1 + c.need.result } in
-    kept_step g.P.Port.code _ _ _ _ _ _ _ _ _ _ s t c.start.ensures.beginning (Starts s.next (child_origin s.next (part g.P.Port.code s _ _ _ _ at.at)))
+    kept_step g.P.Port.code _ _ _ _ _ _ _ _ _ _ _ _ s t c.start.ensures.beginning (Starts s.next (child_origin s.next (part g.P.Port.code s _ _ _ _ at.at)))
     (Started s.next begin ∷ []) (begin, begins, refl) k
     (start_makes g.P.Port.code s _ _ _ _ at.at at.free c.need.result t n (rw (c.in_ok-bind.ensures.ok, c.from.ensures) refl))
     (rw (c.in_ok-bind.ensures.ok, c.from.ensures) (then_sound g.P.Port.code s _ _ _ _ at.at s.next)) c.push_reserved.ensures.items
     c.in_ok-own.ensures.deed (c.start.ensures.finished ∙ c.requires.going) (c.in_ok-own.ensures.rest ∙ ap (range_after begin) k.numbers)
+    c.start.ensures.puts

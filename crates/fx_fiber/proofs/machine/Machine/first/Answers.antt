@@ -21,24 +21,25 @@ pub returns-in-Some-clause-made : goal.returns-in-Some-clause-made
 returns-in-Some-clause-made g c =
     let s = c.args.self.now in
     let stands = c.requires.at.1 in
-    learns_call g.P.Port.calls g.P.Port.agrees g.P.Port.code s _ _ _ _ _ _ _ _
+    learns_call g.P.Port.calls g.P.Port.agrees g.P.Port.puts g.P.Port.code s _ _ _ _ _ _ _ _
     (result_sound g.P.Port.code s c.requires.at.0 c.args.left c.args.right stands.at 0)
     (left_step g.P.Port.code s c.requires.at.0 c.args.left c.args.right stands.at _ _ c.fiber_of-left.ensures c.fiber_of-right.ensures stands.free
     c.in-Some.outcome)
-    tt c.in-Some.ensures.told c.in-Some.ensures.deed
+    tt c.in-Some.ensures.told c.in-Some.ensures.deed c.in-Some.ensures.puts
 
 pub returns-in-Some-peek-clause-made : goal.returns-in-Some-peek-clause-made
 returns-in-Some-peek-clause-made g c =
     let s = c.args.self.now in
     let stands = c.requires.at.1 in
     let same = c.in-None.ensures.unchanged in
-    learns_call g.P.Port.calls g.P.Port.agrees g.P.Port.code s _ _ _ _ _ _ _ _
+    learns_call g.P.Port.calls g.P.Port.agrees g.P.Port.puts g.P.Port.code s _ _ _ _ _ _ _ _
     (result_sound g.P.Port.code s c.requires.at.0 c.args.left c.args.right stands.at 1)
     (right_step g.P.Port.code s c.requires.at.0 c.args.left c.args.right stands.at _ _ c.fiber_of-left.ensures c.fiber_of-right.ensures stands.free
     c.in-Some-peek.outcome)
     (rw (first_leaf g.P.Port.code s c.requires.at.0 c.args.left c.args.right stands.at _ _ c.fiber_of-left.ensures c.fiber_of-right.ensures stands.free)
     (rw (same.0, same.1) at c.in-None.ensures.told))
     (rw (same.0, same.1) at c.in-Some-peek.ensures.told) (rw same.0 at c.in-Some-peek.ensures.deed)
+    (rw same.0 at c.in-Some-peek.ensures.puts)
 
 pub returns-in-None-peek-clause-made : goal.returns-in-None-peek-clause-made
 returns-in-None-peek-clause-made g c =
@@ -47,6 +48,6 @@ returns-in-None-peek-clause-made g c =
     let same = c.in-None.ensures.unchanged in
     let again = c.in-None-peek.ensures.unchanged in
     let second = rw (again.0, again.1) at c.in-None-peek.ensures.told in
-    waits_call g.P.Port.calls g.P.Port.agrees g.P.Port.code s s _ _ _ _ _
+    waits_call g.P.Port.calls g.P.Port.agrees g.P.Port.puts g.P.Port.code s s _ _ _ _ _
     (first_waits g.P.Port.code s c.requires.at.0 c.args.left c.args.right stands.at _ _ c.fiber_of-left.ensures c.fiber_of-right.ensures stands.free)
     (rw (same.0, same.1) at c.in-None.ensures.told, rw (same.0, same.1) at second) (again.0 ∙ same.0) (again.1 ∙ same.1)

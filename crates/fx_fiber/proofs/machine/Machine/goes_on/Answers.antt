@@ -1,20 +1,16 @@
-use Rattle.fx_fiber.proofs.LeavesBelow.{joined_within, joined_fits, either_within, either_fits}
+use Rattle.std.proofs.Common.{sym, ◌∙◌}
+use Rattle.fx_fiber.specs.Closed.{outside_of}
+use Rattle.fx_fiber.specs.LeafBelow.{term_at}
+use Rattle.fx_fiber.proofs.LeavesBelow.{closed_below}
+use Rattle.fx_fiber.proofs.WaitingLaws.{leaf_waits, leaf_goes_on}
 use Rattle.fx_fiber.proofs.machine.Machine.goes_on.Goals as goal
 
-pub fiber_of-requires-clause-bound : goal.fiber_of-requires-clause-bound
-fiber_of-requires-clause-bound g c = joined_within g.nodes c.args.self.now c.args.leaf c.requires.0 _ _ _ _ _ _ c.in-Join.is
+pub returns-in-Some : goal.returns-in-Some
+returns-in-Some g c =
+    c.has_come.ensures
+    ∙ sym (leaf_waits (outside_of c.args.closed.now) (term_at g.nodes c.args.self.now.registers c.args.leaf.node) c.in-Some.source (sym c.in-Some.ensures))
 
-pub fiber_of-requires-clause-fits : goal.fiber_of-requires-clause-fits
-fiber_of-requires-clause-fits g c = joined_fits g.nodes c.args.self.now c.args.leaf c.requires.0 c.requires.1 _ _ _ _ _ _ c.in-Join.is
-
-pub fiber_of-left-requires-clause-bound : goal.fiber_of-left-requires-clause-bound
-fiber_of-left-requires-clause-bound g c = (either_within g.nodes c.args.self.now c.args.leaf c.requires.0 _ _ c.in-First.is).0
-
-pub fiber_of-left-requires-clause-fits : goal.fiber_of-left-requires-clause-fits
-fiber_of-left-requires-clause-fits g c = (either_fits g.nodes c.args.self.now c.args.leaf c.requires.0 c.requires.1 _ _ c.in-First.is).0
-
-pub fiber_of-right-requires-clause-bound : goal.fiber_of-right-requires-clause-bound
-fiber_of-right-requires-clause-bound g c = (either_within g.nodes c.args.self.now c.args.leaf c.requires.0 _ _ c.in-First.is).1
-
-pub fiber_of-right-requires-clause-fits : goal.fiber_of-right-requires-clause-fits
-fiber_of-right-requires-clause-fits g c = (either_fits g.nodes c.args.self.now c.args.leaf c.requires.0 c.requires.1 _ _ c.in-First.is).1
+pub returns-in-None : goal.returns-in-None
+returns-in-None g c =
+    leaf_goes_on (outside_of c.args.closed.now) (term_at g.nodes c.args.self.now.registers c.args.leaf.node)
+    (closed_below g.nodes c.args.self.now c.args.leaf c.requires.0 c.requires.1) (sym c.in-None.ensures)

@@ -1,5 +1,6 @@
 use Rattle.std.proofs.Common.{◌≡◌, ◌≢◌, ℕ, Some, refl, append-nil}
 use Rattle.fx_term.specs.declared.node.NodeId.{NodeId}
+use Rattle.fx_term.specs.declared.node.Arg.{Arg}
 use Rattle.fx_term.specs.declared.node.Node.{Node}
 use Rattle.fx_term.specs.declared.node.Node.TheVariants as node
 use Rattle.fx_fiber.specs.Methods.{IsLeafNode, IsLocalLeaf}
@@ -9,25 +10,31 @@ use Rattle.fx_fiber.proofs.machine.Machine.leaf_rule.Goals as goal
 
 local_leaf : (n : Node) → IsLeafNode (Some n) → n ≢ node.Never → ((h : ℕ) (a b : NodeId) → n ≡ node.Start h a b → ⊥)
     → ((f x : ℕ) (a : NodeId) (e : ℕ) (b d : NodeId) → n ≡ node.Join f x a e b d → ⊥) → ((f : ℕ) → n ≡ node.Cancel f → ⊥)
-    → ((f g : ℕ) → n ≡ node.First f g → ⊥) → IsLocalLeaf n
-local_leaf node.Never leaf a b c d e = absurd (a refl)
-local_leaf (node.Start h x y) leaf a b c d e = absurd (b h x y refl)
-local_leaf (node.Join f x p q y z) leaf a b c d e = absurd (c f x p q y z refl)
-local_leaf (node.Cancel f) leaf a b c d e = absurd (d f refl)
-local_leaf (node.First f g) leaf a b c d e = absurd (e f g refl)
-local_leaf n leaf a b c d e = leaf
+    → ((f g : ℕ) → n ≡ node.First f g → ⊥) → ((q : ℕ) (v : Arg) → n ≡ node.Offer q v → ⊥) → ((q : ℕ) (v : Arg) → n ≡ node.TryOffer q v → ⊥)
+    → ((q : ℕ) → n ≡ node.Take q → ⊥) → ((q x : ℕ) (a b : NodeId) → n ≡ node.TryTake q x a b → ⊥) → IsLocalLeaf n
+local_leaf node.Never leaf a b c d e of tried tk tt2 = absurd (a refl)
+local_leaf (node.Start h x y) leaf a b c d e of tried tk tt2 = absurd (b h x y refl)
+local_leaf (node.Join f x p q y z) leaf a b c d e of tried tk tt2 = absurd (c f x p q y z refl)
+local_leaf (node.Cancel f) leaf a b c d e of tried tk tt2 = absurd (d f refl)
+local_leaf (node.First f g) leaf a b c d e of tried tk tt2 = absurd (e f g refl)
+local_leaf (node.Offer q v) leaf a b c d e of tried tk tt2 = absurd (of q v refl)
+local_leaf (node.TryOffer q v) leaf a b c d e of tried tk tt2 = absurd (tried q v refl)
+local_leaf (node.Take q) leaf a b c d e of tried tk tt2 = absurd (tk q refl)
+local_leaf (node.TryTake q x y z) leaf a b c d e of tried tk tt2 = absurd (tt2 q x y z refl)
+local_leaf n leaf a b c d e of tried tk tt2 = leaf
 
 pub local_rule-requires : goal.local_rule-requires
 local_rule-requires g c =
     let rest = c.in_default in (
       c.requires.at,
-      (local_leaf c.args.node.now c.requires.leaf rest.not-Never rest.not-Start rest.not-Join rest.not-Cancel rest.not-First, c.requires.countable),
+      (local_leaf c.args.node.now c.requires.leaf rest.not-Never rest.not-Start rest.not-Join rest.not-Cancel rest.not-First
+          rest.not-Offer rest.not-TryOffer rest.not-Take rest.not-TryTake, c.requires.countable),
     )
 
 pub returns-in-Never-clause-ok : goal.returns-in-Never-clause-ok
 returns-in-Never-clause-ok g c =
     let stands = rw c.in-Never.is at c.requires.at in
-    waits_call g.P.Port.calls g.P.Port.agrees g.P.Port.code _ _ _ _ _ _ _ (never_waits g.P.Port.code c.args.self.now c.args.id stands.at stands.free) tt refl
+    waits_call g.P.Port.calls g.P.Port.agrees g.P.Port.puts g.P.Port.code _ _ _ _ _ _ _ (never_waits g.P.Port.code c.args.self.now c.args.id stands.at stands.free) tt refl
     refl
 
 pub returns-in-Start-clause-ok : goal.returns-in-Start-clause-ok
@@ -39,4 +46,5 @@ returns-in-Start-clause-ok g c =
       own = tt;
       told = (refl, refl);
       agreed = λ deeds k. rw append-nil k;
+      counted = refl;
     }

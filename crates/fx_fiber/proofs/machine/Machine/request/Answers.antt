@@ -17,4 +17,5 @@ returns-clause-made g c =
       own = tt;
       told = c.request.ensures.told;
       agreed = c.request.ensures.deed;
+      counted = c.request.ensures.puts;
     }

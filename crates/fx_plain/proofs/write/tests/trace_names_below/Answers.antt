@@ -1,7 +1,7 @@
 use Rattle.std.proofs.Common.{rules}
 use Rattle.std.proofs.lemmas.List.{take_all}
 use Rattle.std.proofs.lemmas.List.Elements.{All-more}
-use Rattle.fx_plain.specs.Text.{NamesQueueBelow}
+use Rattle.fx_term.specs.QueuesNamed.{NamesQueueBelow}
 use Rattle.fx_plain.proofs.write.tests.trace_names_below.Goals as goal
 
 pub loop-event-preserved : goal.loop-event-preserved

@@ -1,5 +1,5 @@
 use Rattle.std.proofs.Common.{take, All}
-use Rattle.fx_plain.specs.Text.{NamesQueueBelow}
+use Rattle.fx_term.specs.QueuesNamed.{NamesQueueBelow}
 use Rattle.fx_plain.proofs.write.tests.trace_names_below.Given as goal
 
 abbrev pub invariant-loop-event : goal.invariant-loop-event

@@ -1,6 +1,5 @@
 -- A need that is kept is that of the node's term, and no more than the most.
 use Rattle.std.proofs.Common.{◌≡◌, ◌<◌, ◌≤◌, ◌∙◌, length, subst, sym}
-use Rattle.std.specs.Prelude.{slice_index}
 use Rattle.std.proofs.lemmas.Grind.{get_or_default_zero}
 use Rattle.fx_term.specs.Need.{need, most_need}
 use Rattle.fx_term.specs.Meaning.{term_of}

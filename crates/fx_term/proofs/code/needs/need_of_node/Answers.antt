@@ -1,5 +1,5 @@
 -- The needs of the parts are taken together one after another.
-use Rattle.std.proofs.Common.{◌≡◌, ◌∙◌, ℕ, ◌<◌, None, length, map, take, sym, ap, subst, refl, arith}
+use Rattle.std.proofs.Common.{◌∙◌, ℕ, ◌<◌, None, length, map, sym, ap, subst, refl, arith}
 use Rattle.std.specs.Prelude.{All, IfSome, slice_index}
 use Rattle.std.proofs.lemmas.List.{take_all}
 use Rattle.fx_term.specs.declared.code.signature.Part.{Part}

@@ -1,5 +1,5 @@
 -- Each node's need is made from those before.
-use Rattle.std.proofs.Common.{◌≡◌, length, subst, sym, ap, ◌∙◌, arith}
+use Rattle.std.proofs.Common.{length, subst, sym, ap, ◌∙◌, arith}
 use Rattle.std.specs.Prelude.{◌<◌, All, slice_index, slice_index_or}
 use Rattle.fx_term.specs.declared.node.Arg.TheVariants.{Number}
 use Rattle.fx_term.specs.declared.node.Node.{Node}

@@ -10,7 +10,7 @@ pub returns-then-not-taken-id-clause-fault : goal.returns-then-not-taken-id-clau
 returns-then-not-taken-id-clause-fault c =
     let each_node = c.requires.each_node in
     let within : c.loop-id.id < length c.args.taken.now = omega arith in
-    orphan c.requires.fits c.requires.forest (omega arith) c.loop-id.invariant
+    λ queues. orphan c.requires.fits c.requires.forest (omega arith) c.loop-id.invariant
     (unmarked_absent (all_children c.args.nodes.now) c.args.taken.now c.loop-id.id c.requires.marks within c.if-not-taken-id.true)
 
 pub loop-id-preserved : goal.loop-id-preserved

@@ -20,7 +20,7 @@ loop-id-init c = record {
 pub returns-then-not-take_children-clause-fault : goal.returns-then-not-take_children-clause-fault
 returns-then-not-take_children-clause-fault c =
     let marks = subst (AreMarks (all_children (take c.loop-id.id c.args.nodes.now))) (sym c.deref_mut.ensures.value) c.loop-id.invariant.marks in
-    inr (stray c.requires c.loop-id-test.true c.loop-id.invariant.forest
+    λ queues. inr (stray c.requires c.loop-id-test.true c.loop-id.invariant.forest
     (stray_more c.args.nodes.now c.loop-id.id (Pure (Number 0)) c.deref_mut.result.now c.take_children.new.taken c.loop-id-test.true c.loop-id.invariant.forest
     marks c.if-not-take_children.ensures))
 

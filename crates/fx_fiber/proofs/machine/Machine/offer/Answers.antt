@@ -1,0 +1,34 @@
+use Rattle.fx_fiber.proofs.Calls.{waits_call}
+use Rattle.fx_fiber.proofs.QueueLeaves.{offer_within, offered_value, returned_sound, offer_step, offer_waits}
+use Rattle.fx_term.specs.declared.node.Node.TheVariants as node
+use Rattle.fx_term.specs.declared.done.Done.TheVariants.{Val}
+use Rattle.fx_fiber.proofs.machine.Machine.offer.Goals as goal
+
+pub number_of-value-requires : goal.number_of-value-requires
+number_of-value-requires g c = offer_within g.P.Port.code c.args.self.now c.requires.at.0 c.args.queue c.args.value c.requires.at.1.at
+
+pub returns-in-Done-clause-ok : goal.returns-in-Done-clause-ok
+returns-in-Done-clause-ok g c =
+    let s = c.args.self.now in
+    let id = c.requires.at.0 in
+    let stands = c.requires.at.1 in
+    record {
+      sound = returned_sound g.P.Port.code s id (node.Offer c.args.queue c.args.value) stands.at (Val 0);
+      rule = offer_step g.P.Port.code s id c.args.queue c.args.value stands.at c.number_of-value.result c.number_of-value.ensures stands.free;
+      own = tt;
+      told = rw c.in-Done.is at c.in_ok-offer.ensures.told;
+      agreed = rw c.in-Done.is at c.in_ok-offer.ensures.deed;
+      counted = rw c.in-Done.is at c.in_ok-offer.ensures.puts;
+    }
+
+pub returns-in-Full-clause-ok : goal.returns-in-Full-clause-ok
+returns-in-Full-clause-ok g c =
+    let s = c.args.self.now in
+    let id = c.requires.at.0 in
+    let stands = c.requires.at.1 in
+    let same = rw c.in-Full.is at c.in_ok-offer.ensures.full in
+    let told = rw c.in-Full.is at c.in_ok-offer.ensures.told in
+    waits_call g.P.Port.calls g.P.Port.agrees g.P.Port.puts g.P.Port.code s s _ _ _ _ _
+    (offer_waits g.P.Port.code s id c.args.queue c.args.value stands.at c.number_of-value.result c.number_of-value.ensures stands.free)
+    (rw (offered_value g.P.Port.code s id c.args.queue c.args.value stands.at c.number_of-value.result c.number_of-value.ensures)
+    (rw (same.0, same.1) at told)) same.0 same.1

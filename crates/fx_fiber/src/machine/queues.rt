@@ -1,0 +1,132 @@
+//! The rules of `offer`, `tryoffer`, `take` and `trytake`, one method each. They ask the port and go on by
+//! its answer, or wait; what needs memory is had before.
+ghost use Rattle.std.specs.Prelude.{◌≡◌, ◌<◌, ◌^◌, IfOk, OnErr};
+ghost use Rattle.fx_term.specs.declared.node.Node.TheVariants as node;
+ghost use Rattle.fx_fiber.specs.Methods.{MakesCall, IsSame, StandsAt, IsTryTake};
+
+use crate::machine::Machine;
+use crate::machine::focus::Focus;
+use crate::machine::made::Made;
+use crate::port::Port;
+use fx_term::{Arg, Done, Event, Memory, Node, NodeId, Offered};
+
+impl Machine {
+    ghost use Rattle.fx_term.specs.declared.node.NodeId.{NodeId};
+
+    /// An `offer` puts its value at the back of the queue and gives 0, once that has room.
+    pub fn offer<P: Port>(
+        &mut self,
+        port: &mut P,
+        shared: &mut P::Shared,
+        queue: u8,
+        value: Arg,
+    ) -> Result<Made, Memory>
+        requires at { (id : NodeId) × StandsAt P.code self.old id (node.Offer queue value) }
+        requires countable { P.puts port.old < 2 ^ 63 }
+        ensures ok { IfOk result (λ made. MakesCall P.calls P.agrees P.puts P.code
+            self.old port.old shared.old made self.new port.new shared.new) }
+        ensures same { OnErr result (IsSame P.code self.old self.new) }
+        ensures unchanged { OnErr result ((port.new ≡ port.old) × (shared.new ≡ shared.old)) }
+        ensures number { P.number port.new ≡ P.number port.old }
+        ensures beginning { P.beginning port.new ≡ P.beginning port.old }
+        ensures rest { P.rest port.new ≡ P.rest port.old }
+        ensures finished { P.has_finished port.new ≡ P.has_finished port.old }
+    {
+        let value = self.registers.number_of(value);
+        match port.offer(shared, queue, value)? {
+            Offered::Done => {
+                self.focus = Focus::Return(Done::Val(0));
+                Ok(Made::Shows(Event::Put(queue, value)))
+            }
+            Offered::Full => Ok(Made::Waits),
+        }
+    }
+
+    /// A `tryoffer` puts its value at the back of the queue and gives 1, or gives 0 where that is full.
+    pub fn try_offer<P: Port>(
+        &mut self,
+        port: &mut P,
+        shared: &mut P::Shared,
+        queue: u8,
+        value: Arg,
+    ) -> Result<Made, Memory>
+        requires at { (id : NodeId) × StandsAt P.code self.old id (node.TryOffer queue value) }
+        requires countable { P.puts port.old < 2 ^ 63 }
+        ensures ok { IfOk result (λ made. MakesCall P.calls P.agrees P.puts P.code
+            self.old port.old shared.old made self.new port.new shared.new) }
+        ensures same { OnErr result (IsSame P.code self.old self.new) }
+        ensures unchanged { OnErr result ((port.new ≡ port.old) × (shared.new ≡ shared.old)) }
+        ensures number { P.number port.new ≡ P.number port.old }
+        ensures beginning { P.beginning port.new ≡ P.beginning port.old }
+        ensures rest { P.rest port.new ≡ P.rest port.old }
+        ensures finished { P.has_finished port.new ≡ P.has_finished port.old }
+    {
+        let value = self.registers.number_of(value);
+        match port.offer(shared, queue, value)? {
+            Offered::Done => {
+                self.focus = Focus::Return(Done::Val(1));
+                Ok(Made::Shows(Event::Put(queue, value)))
+            }
+            Offered::Full => {
+                self.focus = Focus::Return(Done::Val(0));
+                Ok(Made::Shows(Event::Refused(queue)))
+            }
+        }
+    }
+
+    /// A `take` gives the front of the queue, once that has one.
+    pub fn take<P: Port>(&mut self, port: &mut P, shared: &mut P::Shared, queue: u8) -> Made
+        requires at { (id : NodeId) × StandsAt P.code self.old id (node.Take queue) }
+        ensures made { MakesCall P.calls P.agrees P.puts P.code
+            self.old port.old shared.old result self.new port.new shared.new }
+        ensures number { P.number port.new ≡ P.number port.old }
+        ensures beginning { P.beginning port.new ≡ P.beginning port.old }
+        ensures rest { P.rest port.new ≡ P.rest port.old }
+        ensures finished { P.has_finished port.new ≡ P.has_finished port.old }
+    {
+        match port.take(shared, queue) {
+            Some(value) => {
+                self.focus = Focus::Return(Done::Val(value));
+                Made::Shows(Event::Got(queue, value))
+            }
+            None => Made::Waits,
+        }
+    }
+
+    /// A `trytake` goes on with the front of the queue, or with its other part where that is empty.
+    pub fn try_take<P: Port>(
+        &mut self,
+        port: &mut P,
+        shared: &mut P::Shared,
+        id: NodeId,
+        node: &Node,
+    ) -> Result<Made, Memory>
+        requires at { StandsAt P.code self.old id node.now }
+        requires try_take { IsTryTake node.now }
+        ensures ok { IfOk result (λ made. MakesCall P.calls P.agrees P.puts P.code
+            self.old port.old shared.old made self.new port.new shared.new) }
+        ensures same { OnErr result (IsSame P.code self.old self.new) }
+        ensures unchanged { OnErr result ((port.new ≡ port.old) × (shared.new ≡ shared.old)) }
+        ensures number { P.number port.new ≡ P.number port.old }
+        ensures beginning { P.beginning port.new ≡ P.beginning port.old }
+        ensures rest { P.rest port.new ≡ P.rest port.old }
+        ensures finished { P.has_finished port.new ≡ P.has_finished port.old }
+    {
+        let Node::TryTake(queue, name, part, other) = *node else {
+            unreachable!();
+        };
+        // The name has its room before the port is asked.
+        self.registers.bind(Some(name), 0)?;
+        match port.take(shared, queue) {
+            Some(value) => {
+                self.registers.rebind(name, value);
+                self.focus = Focus::Eval(part);
+                Ok(Made::Shows(Event::Got(queue, value)))
+            }
+            None => {
+                self.focus = Focus::Eval(other);
+                Ok(Made::Shows(Event::Empty(queue)))
+            }
+        }
+    }
+}
