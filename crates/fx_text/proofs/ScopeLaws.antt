@@ -8,6 +8,7 @@ use Rattle.fx_term.specs.Scope.{kind_elsewhere}
 use Rattle.fx_text.specs.declared.place.Place.{Place}
 use Rattle.fx_text.specs.declared.scope.Bound.{Bound as CodeBound}
 use Rattle.fx_text.specs.Scope.{Bound, slot, under, elsewhere, bound_elsewhere, is_taken, same_kind, slot_of}
+use Rattle.fx_text.specs.declared.queues.QueueDecl.{QueueDecl}
 use Rattle.fx_text.specs.Queues.{Queue, names_of}
 use Rattle.fx_text.specs.QueuesView.{view_queue, view_queues}
 use Rattle.fx_text.specs.ScopeView.{view_bound, view_names, seen_past, scope}
@@ -74,6 +75,11 @@ taken_seen : (x : List ℕ) (foreign : ℕ) (names : List Bound)
 taken_seen x zero names = refl
 taken_seen x (suc n) [] = refl
 taken_seen x (suc n) (b ∷ names) = ap (λ (r : Bool). bytes_eq b.name x || r) (taken_seen x n names)
+
+pub queue_among : (x : List ℕ) (queues : List QueueDecl)
+    → position (λ (n : List ℕ). bytes_eq n x) (names_of (view_queues queues)) ≡ position (λ (q : QueueDecl). bytes_eq (string_bytes q.name) x) queues
+queue_among x queues = position_map (λ (q : Queue). q.0) (λ (n : List ℕ). bytes_eq n x) (view_queues queues)
+    ∙ position_map view_queue (λ (q : Queue). bytes_eq q.0 x) queues
 
 pub is_taken_among : (x : List ℕ) (names : List CodeBound) (at : Place)
     → is_taken x (scope names at) ≡ (list_any (λ b. bytes_eq b.name.now x) names || list_any (λ q. bytes_eq (string_bytes q.name) x) at.queues.now)

@@ -28,11 +28,12 @@ use Rattle.std.proofs.Common.{
 }
 use Rattle.std.specs.List.{flat_map, IsDistinct}
 use Rattle.std.proofs.lemmas.Bool.{ltb-false, le-ltb}
-use Rattle.std.proofs.lemmas.List.{append-nil}
+use Rattle.std.proofs.lemmas.List.{append-nil, length-map}
 use Rattle.fx_term.specs.declared.node.Node.{Node}
 use Rattle.fx_term.specs.Term.{Term}
 use Rattle.fx_term.specs.Meaning.{root_term}
 use Rattle.fx_term.specs.Tree.{IsOneTree}
+use Rattle.fx_term.specs.QueuesNamed.{NamesQueuesBelow}
 use Rattle.fx_term.specs.Code.{IsCode}
 use Rattle.fx_text.specs.declared.fault.Fault.{Fault}
 use Rattle.fx_text.specs.declared.fault.TextFault.{TextFault}
@@ -148,4 +149,11 @@ script_code text rest queues many nodes short declared read tree fits counted =
     let m : Meaning = record { queues = queues; term = root_term nodes } in
     let is_script = text_sound text m short (script_is text rest queues declared ∙ read) in
     let stands = script_fits text m is_script in
-    record { fits = omega arith; tree = tree; scope = stands.scope; turns = stands.turns; needs = script_needs_few text m is_script }
+    record {
+      fits = omega arith;
+      tree = tree;
+      scope = stands.scope;
+      turns = stands.turns;
+      needs = script_needs_few text m is_script;
+      named = subst (λ (n : ℕ). NamesQueuesBelow n (root_term nodes)) (length-map queues (λ (q : Queue). q.0) ∙ sym counted) stands.named;
+    }

@@ -14,9 +14,9 @@ use Rattle.fx_text.specs.Scope.{Scope, top, slot}
 use Rattle.fx_text.specs.Race.{race_slots, cancel_both, outcome_of, decided, deciding, race}
 use Rattle.fx_text.specs.Queues.{names_of}
 use Rattle.fx_text.specs.Group.{Group, OfTerm, OfResource, OfResources, OfOutcome, Resource, Content, needs_few}
-use Rattle.fx_text.specs.Shape.{Shape, ends, word, value, count, name, binder, group, groups, seq, using, shape, content, main_shape}
+use Rattle.fx_text.specs.Shape.{Shape, ends, word, value, count, name, queue, binder, group, groups, seq, using, shape, content, main_shape}
 use Rattle.fx_text.specs.Meaning.{Meaning}
-use Rattle.fx_text.specs.Grammar.{Spells, ends_so, word_so, value_so, count_so, name_so, binder_so, group_so, groups_end, groups_more, IsScript}
+use Rattle.fx_text.specs.Grammar.{Spells, ends_so, word_so, value_so, count_so, name_so, queue_so, binder_so, group_so, groups_end, groups_more, IsScript}
 
 -- no part of what stands in a group can use more than the most
 abbrev FewIn : (g : Group) → Content g → Type 0
@@ -32,6 +32,7 @@ KeepsFew g (word go) = (f : Form) → KeepsFew g (go f)
 KeepsFew g (value p go) = (v : Arg) → KeepsFew g (go v)
 KeepsFew g (count p go) = (n : ℕ) → KeepsFew g (go n)
 KeepsFew g (name k p go) = (x : ℕ) → KeepsFew g (go x)
+KeepsFew g (queue p go) = (q : ℕ) → KeepsFew g (go q)
 KeepsFew g (binder p go) = (b : List ℕ) → KeepsFew g (go b)
 KeepsFew g (group h p go) = (a : Content h) → FewIn h a → KeepsFew g (go a)
 KeepsFew g (groups h p go) = (every : List (Content h)) → AllByRecursion (FewIn h) every → KeepsFew g (go every)
@@ -83,6 +84,10 @@ form_few form.Join p = λ f a first b second c third few. (leb-true _ _ few, fir
 form_few form.Cancel p = λ f few. tt
 form_few form.First p = λ f g few. tt
 form_few form.Race p = λ a first b second few. race_few (race_slots (slot p)) a b first second (leb-true _ _ few)
+form_few form.Offer p = λ q v few. tt
+form_few form.Take p = λ q few. tt
+form_few form.TryOffer p = λ q v few. tt
+form_few form.TryTake p = λ q x a first b second few. (leb-true _ _ few, first, second)
 
 content_few : (g : Group) (p : Scope) → KeepsFew g (content g p)
 content_few OfTerm p = λ f. form_few f p
@@ -96,6 +101,7 @@ spelled_few (word_so f e more) few m = spelled_few more few (m f)
 spelled_few (value_so v e more) few m = spelled_few more few (m v)
 spelled_few (count_so n e more) few m = spelled_few more few (m n)
 spelled_few (name_so i e more) few m = spelled_few more few (m i)
+spelled_few (queue_so q e more) few m = spelled_few more few (m q)
 spelled_few (binder_so b e more) few m = spelled_few more few (m b)
 spelled_few (group_so {h = h} {p = p} left a inner ks e within tested more whole) few m =
     spelled_few more few (m a (spelled_few within tested (content_few h p)))

@@ -9,8 +9,8 @@ use Rattle.fx_text.specs.Token.{Token, Open, Close, Name, End, next}
 use Rattle.fx_text.specs.Scope.{Scope}
 use Rattle.fx_text.specs.Queues.{names_of, declaration, AreQueues}
 use Rattle.fx_text.specs.Group.{Group, OfTerm, Content, scope_after, needs_few}
-use Rattle.fx_text.specs.Shape.{Shape, ends, word, value, count, name, binder, group, groups, content, main_shape}
-use Rattle.fx_text.specs.Part.{value_of, count_of, name_of, new_name, form_of}
+use Rattle.fx_text.specs.Shape.{Shape, ends, word, value, count, name, queue, binder, group, groups, content, main_shape}
+use Rattle.fx_text.specs.Part.{value_of, count_of, name_of, queue_of, new_name, form_of}
 use Rattle.fx_text.specs.Meaning.{Meaning}
 
 -- the text has these tokens, and then ends
@@ -34,6 +34,9 @@ pub data Spells : (g : Group) → ℕ → Shape g → List Token → Content g �
   name_so : {g : Group} {room : ℕ} {c : NameKind} {p : Scope} {go : ℕ → Shape g} {k : Token} {ks : List Token} {x : Content g} (i : ℕ)
       → name_of c p k ≡ Some i → Spells g room (go i) ks x
       → Spells g room (name c p go) (k ∷ ks) x
+  queue_so : {g : Group} {room : ℕ} {p : Scope} {go : ℕ → Shape g} {k : Token} {ks : List Token} {x : Content g} (q : ℕ)
+      → queue_of p k ≡ Some q → Spells g room (go q) ks x
+      → Spells g room (queue p go) (k ∷ ks) x
   binder_so : {g : Group} {room : ℕ} {p : Scope} {go : List ℕ → Shape g} {k : Token} {ks : List Token} {x : Content g} (b : List ℕ)
       → new_name p k ≡ Some b → Spells g room (go b) ks x
       → Spells g room (binder p go) (k ∷ ks) x

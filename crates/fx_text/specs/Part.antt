@@ -1,6 +1,6 @@
 -- What a part that is one token takes.
 use Rattle.std.specs.Prelude.{ℕ, nat_lt, nat_le, Bool, true, false, ◌&&◌, if◌then◌else◌, Option, Some, None, List, codes, bytes_eq}
-use Rattle.std.specs.List.{find}
+use Rattle.std.specs.List.{find, position}
 use Rattle.fx_term.specs.declared.node.Arg.{Arg}
 use Rattle.fx_term.specs.declared.node.Arg.TheVariants as arg
 use Rattle.fx_term.specs.declared.name_kind.NameKind.{NameKind}
@@ -51,6 +51,11 @@ count_of p _ = None
 abbrev pub name_of : NameKind → Scope → Token → Option ℕ
 name_of k p (Name x) = slot_of k x p.names
 name_of k p _ = None
+
+-- the name of a queue, by the queue's place among all
+abbrev pub queue_of : Scope → Token → Option ℕ
+queue_of p (Name x) = position (λ q. bytes_eq q x) p.queues
+queue_of p _ = None
 
 -- a name that is not in scope
 abbrev pub new_name : Scope → Token → Option (List ℕ)

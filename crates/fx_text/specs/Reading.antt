@@ -15,8 +15,8 @@ use Rattle.fx_text.specs.Token.{Token, Open, Number, Name, Stray, Misnumber, End
 use Rattle.fx_text.specs.Scope.{Scope, top}
 use Rattle.fx_text.specs.Queues.{Queue, names_of}
 use Rattle.fx_text.specs.Group.{Group, OfTerm, Content, scope_after, needs_few}
-use Rattle.fx_text.specs.Shape.{Shape, ends, word, value, count, name, binder, group, groups, content, main_shape}
-use Rattle.fx_text.specs.Part.{opens, closes, is_closing, value_of, count_of, name_of, new_name, form_of, capacity_of, top_form_of, no_top_form}
+use Rattle.fx_text.specs.Shape.{Shape, ends, word, value, count, name, queue, binder, group, groups, content, main_shape}
+use Rattle.fx_text.specs.Part.{opens, closes, is_closing, value_of, count_of, name_of, queue_of, new_name, form_of, capacity_of, top_form_of, no_top_form}
 pub use Rattle.fx_text.specs.Meaning.{Meaning}
 
 -- the next step, unless there was a fault
@@ -76,6 +76,9 @@ count_at p = part_at (count_of p) (at_number kind.Size)
 unfoldable pub name_at : NameKind → Scope → List ℕ → Read ℕ
 name_at k p = part_at (name_of k p) (at_name kind.Unknown)
 
+unfoldable pub queue_at : Scope → List ℕ → Read ℕ
+queue_at p = part_at (queue_of p) (at_name kind.Unknown)
+
 unfoldable pub binder_at : Scope → List ℕ → Read (List ℕ)
 binder_at p = part_at (new_name p) (at_name kind.Taken)
 
@@ -122,6 +125,9 @@ parts_at each (count p go) bytes = do
 parts_at each (name k p go) bytes = do
   (x, rest) ← name_at k p bytes
   parts_at each (go x) rest
+parts_at each (queue p go) bytes = do
+  (q, rest) ← queue_at p bytes
+  parts_at each (go q) rest
 parts_at each (binder p go) bytes = do
   (x, rest) ← binder_at p bytes
   parts_at each (go x) rest

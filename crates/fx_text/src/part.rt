@@ -1,7 +1,8 @@
 //! The parts of a form that are one token.
 ghost use Rattle.std.specs.Prelude.{ℕ, ◌≡◌, ◌+◌, ◌<◌, ◌≤◌, ◌^◌, List, length, nat_le, IfOk};
 ghost use Rattle.fx_term.specs.Turns.{most_turns, turns_of_loop};
-ghost use Rattle.fx_text.specs.Reading.{kind_of, opening_at, closing_at, value_at, count_at, name_at, binder_at, form_at, too_deep};
+ghost use Rattle.fx_text.specs.Reading.{kind_of, opening_at, closing_at, value_at, count_at, name_at, queue_at, binder_at, form_at, too_deep};
+ghost use Rattle.fx_text.specs.Limits.{most_queues};
 ghost use Rattle.fx_text.specs.Part.{is_closing};
 ghost use Rattle.fx_text.specs.Token.{next};
 ghost use Rattle.fx_text.specs.TokenView.{view_token};
@@ -11,7 +12,7 @@ ghost use Rattle.fx_text.specs.Given.{Gives};
 use crate::fault::{Fault, ReadError, TextKind};
 use crate::form::Form;
 use crate::place::Place;
-use crate::scope::{Bound, is_taken, slot_of};
+use crate::scope::{Bound, is_taken, queue_of, slot_of};
 use crate::token::{Lexeme, Token, next};
 use fx_term::{Arg, NameKind, turns_of_loop};
 
@@ -143,6 +144,24 @@ pub(crate) fn name<'a>(
         Token::Name(name) => match slot_of(names, place.foreign, kind, name) {
             None => Err(refused(TextKind::Unknown, lexeme)),
             Some(slot) => Ok((slot as u32, lexeme.rest)),
+        },
+        _ => Err(refused(TextKind::Unwanted, lexeme)),
+    }
+}
+
+/// The name of a queue, by its number.
+#[tactic(auto, using(crate::proofs::ScopeLaws::queue_among), unfolding(crate::specs::Reading::queue_at))]
+pub(crate) fn queue<'a>(place: Place<'_>, bytes: &'a [u8]) -> Result<(u8, &'a [u8]), ReadError>
+    requires { length place.queues.now ≤ most_queues }
+    ensures read { (names : List Bound)
+        → Gives (λ x. (x.0, x.1.now)) result (queue_at (scope names place.entry) bytes.now) }
+    ensures shorter { IfOk result (λ x. length x.1.now < length bytes.now) }
+{
+    let lexeme = next(bytes);
+    match lexeme.token {
+        Token::Name(name) => match queue_of(place.queues, name) {
+            None => Err(refused(TextKind::Unknown, lexeme)),
+            Some(queue) => Ok((queue as u8, lexeme.rest)),
         },
         _ => Err(refused(TextKind::Unwanted, lexeme)),
     }

@@ -60,6 +60,16 @@ fn is_queue(queues: &[QueueDecl], name: &[u8]) -> bool
     queues.iter().any(|queue| queue.name.as_bytes() == name)
 }
 
+/// The number of the queue of that name.
+pub(crate) fn queue_of(queues: &[QueueDecl], name: &[u8]) -> Option<usize>
+    ensures number { result ≡ position (λ q. bytes_eq (string_bytes q.name) name.now) queues.now }
+    ensures within { IfSome result (λ i. i < length queues.now) }
+{
+    queues
+        .iter()
+        .position(|queue| queue.name.as_bytes() == name)
+}
+
 /// Whether the name is in scope there, of whatever kind.
 #[tactic(auto, using(crate::proofs::ScopeLaws::is_taken_among))]
 pub(crate) fn is_taken(names: &[Bound<'_>], place: Place<'_>, name: &[u8]) -> bool

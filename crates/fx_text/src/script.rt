@@ -3,7 +3,7 @@ ghost use Rattle.std.specs.Prelude.{◌≡◌, ◌≤◌, [], Ok, length, IfOk, 
 ghost use Rattle.fx_term.specs.Code.{IsCode};
 ghost use Rattle.fx_term.specs.Meaning.{root_term};
 ghost use Rattle.fx_term.specs.Tree.{IsOneTree};
-ghost use Rattle.fx_text.specs.Limits.{most_bytes, most_nodes};
+ghost use Rattle.fx_text.specs.Limits.{most_bytes, most_queues, most_nodes};
 ghost use Rattle.fx_text.specs.Token.{next};
 ghost use Rattle.fx_text.specs.Reading.{Meaning, last, main_at, script_at, reading};
 ghost use Rattle.fx_text.specs.Grammar.{IsScript};
@@ -94,7 +94,8 @@ fn main_nodes<'a>(
     queues: &'a [QueueDecl],
     bytes: &'a [u8],
 ) -> Result<Vec<Node>, ReadError>
-    requires { length bytes.now ≤ most_bytes }
+    requires short { length bytes.now ≤ most_bytes }
+    requires few { length queues.now ≤ most_queues }
     ensures read { Gives
         (λ nodes. record { queues = view_queues queues.now; term = root_term nodes.items }) result
         (main_at (view_queues queues.now) bytes.now) }
