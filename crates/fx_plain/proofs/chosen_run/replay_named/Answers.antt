@@ -7,7 +7,7 @@ use Rattle.fx_fiber.specs.Report.{ReportView}
 use Rattle.fx_fiber.specs.Headline.{KeepsWhatIsPromised}
 use Rattle.fx_text.specs.View.{meaning}
 use Rattle.fx_text.specs.declared.pick.Pick.TheVariants as pick
-use Rattle.fx_text.specs.declared.script.QueueDecl.{QueueDecl}
+use Rattle.fx_text.specs.declared.queues.QueueDecl.{QueueDecl}
 use Rattle.fx_plain.specs.Chosen.{IsReplay}
 use Rattle.fx_plain.specs.Replay.{script_of}
 use Rattle.fx_plain.specs.Text.{queue_names, IsWritable}
