@@ -62,4 +62,5 @@ pub mod WaitsBelow
 pub mod Appended
 pub mod Takes
 pub mod OneOrder
+pub mod EventLabels
 pub mod CausesFound
