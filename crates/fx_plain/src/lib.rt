@@ -51,17 +51,21 @@
 
 mod chosen_run;
 mod class;
+mod class_sets;
 mod classes;
 mod input;
 pub mod laws;
 mod lines;
 mod number_set;
+mod number_sets;
 mod out_fault;
 mod output;
 mod plain_fault;
 mod plain_machine;
 mod plain_port;
+mod plain_queue;
 mod plain_world;
+mod put_counts;
 mod refusal;
 mod text_replay;
 mod write;
