@@ -42,10 +42,7 @@ pub mod MaskedRuns
 pub mod MaskEntering
 pub mod MaskLaws
 pub mod Mapped
-pub mod Names
-pub mod Simple
 pub mod Moves
-pub mod Nexts
 pub mod StepLabels
 pub mod StartLaws
 pub mod RangeLaws
@@ -63,3 +60,7 @@ pub mod Starts
 pub mod AllWork
 pub mod LeavesBelow
 pub mod WaitsBelow
+pub mod Appended
+pub mod Takes
+pub mod OneOrder
+pub mod CausesFound

@@ -7,6 +7,8 @@ pub mod RunsKept
 pub mod Keys
 pub mod LawfulRuns
 pub mod RunLaws
+pub mod CausesKept
+pub mod ReplayOrder
 pub mod StepsCan
 pub mod ComputedSteps
 pub mod ComputedRuns

@@ -1,7 +1,8 @@
 //! Replays a script: makes the run of its fibers that a schedule chooses.
 ghost use Rattle.std.specs.Prelude.{◌≡◌, ◌≤◌, true, IfOk, length};
-ghost use Rattle.fx_term.specs.QueuesNamed.{NamesQueuesBelow};
 ghost use Rattle.fx_fiber.specs.LawfulReport.{IsLawfulReport};
+ghost use Rattle.fx_fiber.specs.Causes.{IsLawfulInOneOrder};
+ghost use Rattle.fx_fiber.specs.Headline.{KeepsWhatIsPromised};
 ghost use Rattle.fx_text.specs.View.{meaning};
 ghost use Rattle.fx_plain.specs.Chosen.{IsReplay};
 ghost use Rattle.fx_plain.specs.Replay.{script_of};
@@ -23,9 +24,10 @@ fn replay_named<J: CodeBrand>(
     requires code { script.now.code.nodes ≡ J.nodes }
     ensures replayed { IfOk result
         (λ report. IsReplay (script_of (meaning script.now)) picks.now report) }
-    ensures writable { IfOk result (λ report.
-        NamesQueuesBelow (length script.now.queues.items) (meaning script.now).term
-        → IsWritable (queue_names (meaning script.now)) report) }
+    ensures writable { script.now.code.queues ≤ length script.now.queues.items
+        → IfOk result (λ report. IsWritable (queue_names (meaning script.now)) report) }
+    ensures promised { IfOk result
+        (λ report. KeepsWhatIsPromised (script_of (meaning script.now)) (λ f. true) report) }
 {
     let mut machine: PlainMachine<J> = PlainMachine::opening(alloc, script)?;
     for pick in picks {
@@ -33,14 +35,6 @@ fn replay_named<J: CodeBrand>(
     }
     machine.run_to_rest(&script.code)?;
     machine.into_report(alloc)
-}
-
-/// A code names no queue past its own number of them, as it tells with its length.
-fn tell_names(script: &Script)
-    ensures { script.now.code.queues ≤ length script.now.queues.items
-        → NamesQueuesBelow (length script.now.queues.items) (meaning script.now).term }
-{
-    let _nodes = script.code.len();
 }
 
 /// The report of the run that the picks choose: each pick makes its step or is skipped, and after the
@@ -52,9 +46,12 @@ pub fn replay(alloc: Global, script: &Script, picks: &[Pick]) -> Result<Report, 
         (λ report. IsReplay (script_of (meaning script.now)) picks.now report) }
     ensures lawful { IfOk result
         (λ report. IsLawfulReport (script_of (meaning script.now)) (λ f. true) report) }
+    ensures causes { IfOk result
+        (λ report. IsLawfulInOneOrder (script_of (meaning script.now)) (λ f. true) report) }
+    ensures promised { IfOk result
+        (λ report. KeepsWhatIsPromised (script_of (meaning script.now)) (λ f. true) report) }
     ensures writable { script.now.code.queues ≤ length script.now.queues.items
         → IfOk result (λ report. IsWritable (queue_names (meaning script.now)) report) }
 {
-    tell_names(script);
     replay_named::<Brand>(alloc, script, picks)
 }

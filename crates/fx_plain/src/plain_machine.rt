@@ -2,6 +2,7 @@
 ghost use Rattle.std.specs.Prelude.{◌≡◌, ℕ, ◌<◌, ◌-◌, ◌∷◌, [], true, Some, None, List, IfOk, OnOk};
 ghost use Rattle.std.specs.Prelude.{length, replicate, slice_index_or, slice_set};
 ghost use Rattle.fx_term.specs.QueuesNamed.{NamesQueuesBelow};
+ghost use Rattle.fx_term.specs.Code.{IsCode};
 ghost use Rattle.fx_term.specs.Script.{ScriptView};
 ghost use Rattle.fx_text.specs.View.{meaning};
 ghost use Rattle.fx_text.specs.declared.pick.Pick.{Pick};
@@ -92,8 +93,9 @@ impl<J: CodeBrand> PlainMachine<J> {
     /// Before any step: the main fiber alone has started.
     pub fn opening(alloc: Global, script: &Script) -> Result<PlainMachine<J>, Memory>
         requires code { script.now.code.nodes ≡ J.nodes }
-        ensures { IfOk result (λ machine. let s = script_of (meaning script.now) in
+        ensures stands { IfOk result (λ machine. let s = script_of (meaning script.now) in
             StandsForRun J.nodes s machine (opening s)) }
+        ensures code { OnOk result (IsCode script.now.code.queues script.now.code.nodes) }
     {
         let (world, port) = PlainWorld::new(alloc, script)?;
         let fiber = Fiber::new(alloc, &script.code, port)?;

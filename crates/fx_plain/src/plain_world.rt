@@ -5,6 +5,7 @@ ghost use Rattle.std.specs.List.{filter, range_with_len};
 ghost use Rattle.fx_plain.specs.declared.class.Class.TheVariants.{Able, Waits};
 ghost use Rattle.fx_plain.specs.NumberSet.{IsLeastOf};
 ghost use Rattle.fx_plain.specs.PlainQueue.{empty_queue, queue_at, have_room, have_element, front_of};
+ghost use Rattle.fx_term.specs.Code.{IsCode};
 ghost use Rattle.fx_term.specs.Script.{ScriptView, total};
 ghost use Rattle.fx_fiber.specs.Origin.{main_begin_of};
 ghost use Rattle.fx_text.specs.View.{meaning};
@@ -105,6 +106,7 @@ impl PlainWorld {
             (λ opened. opened.0 ≡ opening_world (script_of (meaning script.now))) }
         ensures port { IfOk result
             (λ opened. opened.1 ≡ new_port 0 (main_begin_of script.now.code.nodes)) }
+        ensures code { OnOk result (IsCode script.now.code.queues script.now.code.nodes) }
     {
         let begin = main_begin(alloc, &script.code);
         let queues = empty_queues(alloc, &script.queues)?;

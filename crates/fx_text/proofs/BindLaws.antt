@@ -60,6 +60,7 @@ binds_ready old new rs bytes rest ready b =
       outside = omega (arith, ready.outside, more, ap (λ (at : Place). at.foreign) b.place);
       some_turns = omega (arith, ready.some_turns, ap (λ (at : Place). at.turns) b.place);
       few_turns = omega (arith, ready.few_turns, ap (λ (at : Place). at.turns) b.place);
+      few_queues = omega (arith, ready.few_queues, ap (λ (at : Place). length at.queues.now) b.place);
     }
 
 -- ---- one by one

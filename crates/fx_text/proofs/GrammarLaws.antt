@@ -4,8 +4,8 @@ use Rattle.fx_text.specs.declared.fault.TextKind.TheVariants as kind
 use Rattle.fx_text.specs.Token.{Token, Open, Close, next}
 use Rattle.fx_text.specs.Scope.{Scope}
 use Rattle.fx_text.specs.Group.{Group, Content, scope_after, needs_few}
-use Rattle.fx_text.specs.Shape.{Shape, ends, word, value, count, name, binder, group, groups, content}
-use Rattle.fx_text.specs.Part.{opens, closes, is_closing, value_of, count_of, name_of, new_name, form_of}
+use Rattle.fx_text.specs.Shape.{Shape, ends, word, value, count, name, queue, binder, group, groups, content}
+use Rattle.fx_text.specs.Part.{opens, closes, is_closing, value_of, count_of, name_of, queue_of, new_name, form_of}
 use Rattle.fx_text.specs.Reading.{
   ◌>>=◌,
   Read,
@@ -17,6 +17,7 @@ use Rattle.fx_text.specs.Reading.{
   value_at,
   count_at,
   name_at,
+  queue_at,
   binder_at,
   form_at,
   groups_within,
@@ -25,7 +26,7 @@ use Rattle.fx_text.specs.Reading.{
   kept,
   group_at,
 }
-use Rattle.fx_text.specs.Grammar.{IsText, Spells, ends_so, word_so, value_so, count_so, name_so, binder_so, group_so, groups_end, groups_more}
+use Rattle.fx_text.specs.Grammar.{IsText, Spells, ends_so, word_so, value_so, count_so, name_so, queue_so, binder_so, group_so, groups_end, groups_more}
 use Rattle.fx_text.proofs.PartLaws.{bind_ok, ok_pair, part_ok, part_again, opens_is, closes_is, closing_is}
 use Rattle.fx_text.proofs.GroupsLaws.{before, parts_ended, parts_go_on}
 
@@ -61,6 +62,7 @@ some_token (word_so f h d) e = absurd cc
 some_token (value_so v h d) e = absurd cc
 some_token (count_so n h d) e = absurd cc
 some_token (name_so i h d) e = absurd cc
+some_token (queue_so q h d) e = absurd cc
 some_token (binder_so b h d) e = absurd cc
 some_token (group_so left a inner ks has_room d1 few d2 whole) e = absurd cc
 some_token (groups_end d) e = absurd cc
@@ -123,7 +125,7 @@ module _ (room : ℕ) (each : GroupReading)
 
   pub parts_sound : {g : Group} (s : Shape g) (text : List ℕ) (x : Content g) (rest : List ℕ) (others : List Token) → parts_at each s text ≡ Ok (x, rest)
       → IsText rest others → IsSpelled room s text x others
-  unfolding closing_at value_at count_at name_at binder_at form_at
+  unfolding closing_at value_at count_at name_at queue_at binder_at form_at
   parts_sound {g} (ends y) text x rest others e is =
       let b = bind_ok (closing_at text) (λ c. Ok (y, c.1)) (x, rest) e in
       let q = part_ok closes (λ _. kind.Unwanted) text b.0.0 b.0.1 b.1 in
@@ -149,6 +151,11 @@ module _ (room : ℕ) (each : GroupReading)
       let q = part_ok (name_of k p) (at_name kind.Unknown) text b.0.0 b.0.1 b.1 in
       let r = parts_sound (go b.0.0) b.0.1 x rest others b.2 is in
       one_more (next text).token b.0.1 (name_so b.0.0 q.0 r.spells) refl q.1 r.text_is
+  parts_sound (queue p go) text x rest others e is =
+      let b = bind_ok (queue_at p text) (λ c. parts_at each (go c.0) c.1) (x, rest) e in
+      let q = part_ok (queue_of p) (at_name kind.Unknown) text b.0.0 b.0.1 b.1 in
+      let r = parts_sound (go b.0.0) b.0.1 x rest others b.2 is in
+      one_more (next text).token b.0.1 (queue_so b.0.0 q.0 r.spells) refl q.1 r.text_is
   parts_sound (binder p go) text x rest others e is =
       let b = bind_ok (binder_at p text) (λ c. parts_at each (go c.0) c.1) (x, rest) e in
       let q = part_ok (new_name p) (at_name kind.Taken) text b.0.0 b.0.1 b.1 in
@@ -210,7 +217,7 @@ group_opens (group_so left a inner ks has_room d1 few d2 whole) text others is =
 
 pub parts_complete : (g : Group) (room : ℕ) (s : Shape g) (ks : List Token) (x : Content g) → Spells g room s ks x → (text : List ℕ) (others : List Token)
     → IsText text (ks ++ others) → IsRead room s text x others
-unfolding closing_at value_at count_at name_at binder_at form_at
+unfolding closing_at value_at count_at name_at queue_at binder_at form_at
 parts_complete g room (ends x) _ _ ends_so text others is = record {
   rest = (next text).rest;
   read = rw (part_again closes (λ _. kind.Unwanted) text Close tt is.0 refl) refl;
@@ -228,6 +235,9 @@ parts_complete g room (count p go) _ x (count_so {k = k} {ks = ks} n e d) text o
 parts_complete g room (name c p go) _ x (name_so {k = k} {ks = ks} i e d) text others is =
     let r = parts_complete g room (go i) ks x d (next text).rest others is.1 in
     record { rest = r.rest; read = rw (part_again (name_of c p) (at_name kind.Unknown) text k i is.0 e) r.read; rest_is = r.rest_is }
+parts_complete g room (queue p go) _ x (queue_so {k = k} {ks = ks} q e d) text others is =
+    let r = parts_complete g room (go q) ks x d (next text).rest others is.1 in
+    record { rest = r.rest; read = rw (part_again (queue_of p) (at_name kind.Unknown) text k q is.0 e) r.read; rest_is = r.rest_is }
 parts_complete g room (binder p go) _ x (binder_so {k = k} {ks = ks} b e d) text others is =
     let r = parts_complete g room (go b) ks x d (next text).rest others is.1 in
     record { rest = r.rest; read = rw (part_again (new_name p) (at_name kind.Taken) text k b is.0 e) r.read; rest_is = r.rest_is }

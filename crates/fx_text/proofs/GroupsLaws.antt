@@ -30,8 +30,8 @@ use Rattle.fx_text.specs.declared.fault.TextKind.TheVariants as kind
 use Rattle.fx_text.specs.Token.{next}
 use Rattle.fx_text.specs.Scope.{Scope}
 use Rattle.fx_text.specs.Group.{Group, Content, scope_after, needs_few}
-use Rattle.fx_text.specs.Shape.{Shape, ends, word, value, count, name, binder, group, groups, content}
-use Rattle.fx_text.specs.Part.{opens, closes, is_closing, value_of, count_of, name_of, new_name, form_of}
+use Rattle.fx_text.specs.Shape.{Shape, ends, word, value, count, name, queue, binder, group, groups, content}
+use Rattle.fx_text.specs.Part.{opens, closes, is_closing, value_of, count_of, name_of, queue_of, new_name, form_of}
 use Rattle.fx_text.specs.Reading.{
   ◌>>=◌,
   Read,
@@ -44,6 +44,7 @@ use Rattle.fx_text.specs.Reading.{
   value_at,
   count_at,
   name_at,
+  queue_at,
   binder_at,
   form_at,
   groups_within,
@@ -80,7 +81,7 @@ module _ (each : GroupReading) (shorter : (h : Group) (p : Scope) (text : List �
           omega (arith, shorter h p text b.0.0 b.0.1 b.1, fewer (scope_after h b.0.0 p) b.0.1 c.0.0 c.0.1 c.1, ap length o.1)
 
   parts_shorter : {g : Group} (s : Shape g) (text : List ℕ) (x : Content g) (rest : List ℕ) → parts_at each s text ≡ Ok (x, rest) → length rest < length text
-  unfolding closing_at value_at count_at name_at binder_at form_at
+  unfolding closing_at value_at count_at name_at queue_at binder_at form_at
   parts_shorter (ends y) text x rest e =
       let b = bind_ok (closing_at text) (λ c. Ok (y, c.1)) (x, rest) e in
       let o = ok_pair y x b.0.1 rest b.2 in
@@ -97,6 +98,9 @@ module _ (each : GroupReading) (shorter : (h : Group) (p : Scope) (text : List �
   parts_shorter (name k p go) text x rest e =
       let b = bind_ok (name_at k p text) (λ c. parts_at each (go c.0) c.1) (x, rest) e in
       omega (arith, part_shorter (name_of k p) (at_name kind.Unknown) text b.0.0 b.0.1 refl b.1, parts_shorter (go b.0.0) b.0.1 x rest b.2)
+  parts_shorter (queue p go) text x rest e =
+      let b = bind_ok (queue_at p text) (λ c. parts_at each (go c.0) c.1) (x, rest) e in
+      omega (arith, part_shorter (queue_of p) (at_name kind.Unknown) text b.0.0 b.0.1 refl b.1, parts_shorter (go b.0.0) b.0.1 x rest b.2)
   parts_shorter (binder p go) text x rest e =
       let b = bind_ok (binder_at p text) (λ c. parts_at each (go c.0) c.1) (x, rest) e in
       omega (arith, part_shorter (new_name p) (at_name kind.Taken) text b.0.0 b.0.1 refl b.1, parts_shorter (go b.0.0) b.0.1 x rest b.2)

@@ -16,6 +16,7 @@ pub mod ResourceLaws
 pub mod BindLaws
 pub mod ThroughLaws
 pub mod GrammarLaws
+pub mod QueuesLaws
 pub mod ScopeKept
 pub mod ScriptLaws
 pub mod ScriptNeeds

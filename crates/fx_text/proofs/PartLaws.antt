@@ -1,33 +1,9 @@
 -- Reading one part: what it means that a token was taken.
-use Rattle.std.proofs.Common.{
-  ◌≡◌,
-  ℕ,
-  ◌<◌,
-  Bool,
-  true,
-  false,
-  cond,
-  Option,
-  Some,
-  None,
-  Result,
-  Ok,
-  Err,
-  List,
-  length,
-  codes,
-  bytes_eq,
-  refl,
-  sym,
-  ap,
-  ◌∙◌,
-  arith,
-}
-use Rattle.std.proofs.lemmas.Slice.Eq.{bytes_eq-Decides}
+use Rattle.std.proofs.Common.{◌≡◌, ℕ, ◌<◌, true, Option, Some, None, Result, Ok, Err, List, length, refl, sym, ap, ◌∙◌, arith}
 use Rattle.fx_text.specs.declared.fault.Fault.{Fault}
 use Rattle.fx_text.specs.declared.fault.TextKind.{TextKind}
 use Rattle.fx_text.specs.Token.{Token, Open, Close, Number, Name, Stray, Misnumber, End, Lexeme, next}
-use Rattle.fx_text.specs.Part.{opens, closes, is_closing, main_word}
+use Rattle.fx_text.specs.Part.{opens, closes, is_closing}
 use Rattle.fx_text.specs.Reading.{◌>>=◌, Read, known, part_at}
 use Rattle.fx_text.proofs.TokenLaws.{next_shorter}
 
@@ -88,16 +64,3 @@ closing_is (Name n) e = absurd cc
 closing_is Stray e = absurd cc
 closing_is Misnumber e = absurd cc
 closing_is End e = absurd cc
-
-pub main_word_is : (k : Token) (u : Unit {0}) → main_word k ≡ Some u → k ≡ Name (codes "main")
-main_word_is (Name x) u e = by_test (bytes_eq x (codes "main")) refl e
-  where
-    by_test : (b : Bool) → bytes_eq x (codes "main") ≡ b → cond b (Some tt) None ≡ Some u → Name x ≡ Name (codes "main")
-    by_test true p h = ap Name ((bytes_eq-Decides x (codes "main")).0 p)
-    by_test false p h = absurd cc
-main_word_is Open u e = absurd cc
-main_word_is Close u e = absurd cc
-main_word_is (Number n) u e = absurd cc
-main_word_is Stray u e = absurd cc
-main_word_is Misnumber u e = absurd cc
-main_word_is End u e = absurd cc

@@ -40,8 +40,9 @@ use Rattle.std.proofs.lemmas.List.Quantifiers.{position-Some}
 use Rattle.std.proofs.lemmas.Option.{slice_get_past}
 use Rattle.fx_term.specs.declared.node.Arg.{Arg}
 use Rattle.fx_term.specs.declared.node.Arg.TheVariants as arg
-use Rattle.fx_term.specs.Term.{Term, Pure, Raise, Let, Handle, If, For, Mask, Poll, OnCancel, Bracket, Start, Join, Cancel, First}
+use Rattle.fx_term.specs.Term.{Term, Pure, Raise, Let, Handle, If, For, Mask, Poll, OnCancel, Bracket, Start, Join, Cancel, First, TryTake}
 use Rattle.fx_term.specs.Turns.{most_turns, turns_of_loop, HasFewTurns}
+use Rattle.fx_term.specs.QueuesNamed.{NamesQueuesBelow}
 use Rattle.fx_term.specs.declared.name_kind.NameKind.{NameKind}
 use Rattle.fx_term.specs.declared.name_kind.NameKind.TheVariants as kind
 use Rattle.fx_term.specs.Scope.{kind_elsewhere, with_name, IsScoped, IsNew, HasLevels, IsInScope}
@@ -52,22 +53,24 @@ use Rattle.fx_text.specs.declared.form.Form.{Form}
 use Rattle.fx_text.specs.declared.form.Form.TheVariants as form
 use Rattle.fx_text.specs.Token.{Token, Open, Close, Number, Name, Stray, Misnumber, End}
 use Rattle.fx_text.specs.Scope.{Scope, Bound, top, under, bound_elsewhere, elsewhere, left_of_race, right_of_race, repeated, slot, same_kind, slot_of}
+use Rattle.fx_text.specs.Queues.{names_of}
 use Rattle.fx_text.specs.Group.{Group, OfTerm, OfResource, OfResources, OfOutcome, Resource, Content, under_all, scope_after}
 use Rattle.fx_text.specs.declared.reader.races.RaceSlots.{RaceSlots}
 use Rattle.fx_text.specs.Race.{race_slots, cancel_both, outcome_of, decided, deciding, race}
-use Rattle.fx_text.specs.Shape.{Shape, ends, word, value, count, name, binder, group, groups, seq, using, shape, content}
-use Rattle.fx_text.specs.Part.{slot_arg, value_of, count_of, name_of}
+use Rattle.fx_text.specs.Shape.{Shape, ends, word, value, count, name, queue, binder, group, groups, seq, using, shape, content}
+use Rattle.fx_text.specs.Part.{slot_arg, value_of, count_of, name_of, queue_of}
 use Rattle.fx_text.specs.Reading.{Meaning}
-use Rattle.fx_text.specs.Grammar.{Spells, ends_so, word_so, value_so, count_so, name_so, binder_so, group_so, groups_end, groups_more, IsScript}
+use Rattle.fx_text.specs.Grammar.{Spells, ends_so, word_so, value_so, count_so, name_so, queue_so, binder_so, group_so, groups_end, groups_more, IsScript}
 
 -- the kinds of the names in scope
 abbrev pub kinds_at : Scope → List NameKind
 kinds_at p = map (λ b. b.kind) p.names
 
--- the term has the names of this scope, and no loop in it has too many turns there
+-- the term has the names of this scope, no loop in it has too many turns there, and it names queues of the script alone
 pub record StandsAt (p : Scope) (t : Term) : Type 0 where
   pub scope : IsInScope (kinds_at p) t
   pub turns : HasFewTurns p.turns t
+  pub named : NamesQueuesBelow (length p.queues) t
 
 -- the same of a resource's terms, and it has the next slot
 pub record ResourceFits (p : Scope) (r : Resource) : Type 0 where
@@ -94,6 +97,7 @@ KeepsFit P (word go) = (f : Form) → KeepsFit P (go f)
 KeepsFit P (value p go) = (v : Arg) → IsInScope (kinds_at p) (Pure v) → KeepsFit P (go v)
 KeepsFit P (count p go) = (n : ℕ) → turns_of_loop p.turns n ≤ most_turns → KeepsFit P (go n)
 KeepsFit P (name k p go) = (i : ℕ) → i < length (kinds_at p) → slice_get (kinds_at p) i ≡ Some k → KeepsFit P (go i)
+KeepsFit P (queue p go) = (q : ℕ) → q < length p.queues → KeepsFit P (go q)
 KeepsFit P (binder p go) = (x : List ℕ) → KeepsFit P (go x)
 KeepsFit P (group h p go) = (x : Content h) → Fits h p x → KeepsFit P (go x)
 KeepsFit P (groups h p go) = (xs : List (Content h)) → EachFits (Fits h) (scope_after h) p xs → KeepsFit P (go xs)
@@ -188,6 +192,15 @@ name_found c p Stray i e = absurd cc
 name_found c p Misnumber i e = absurd cc
 name_found c p End i e = absurd cc
 
+queue_found : (p : Scope) (k : Token) (q : ℕ) → queue_of p k ≡ Some q → q < length p.queues
+queue_found p (Name x) q e = (position-Some (λ (n : List ℕ). bytes_eq n x) p.queues q [] e).0
+queue_found p Open q e = absurd cc
+queue_found p Close q e = absurd cc
+queue_found p (Number n) q e = absurd cc
+queue_found p Stray q e = absurd cc
+queue_found p Misnumber q e = absurd cc
+queue_found p End q e = absurd cc
+
 count_found : (p : Scope) (k : Token) (n : ℕ) → count_of p k ≡ Some n → turns_of_loop p.turns n ≤ most_turns
 count_found p (Number m) n e = by_test (nat_le (turns_of_loop p.turns m) most_turns) refl e
   where
@@ -228,10 +241,11 @@ module _ (p : Scope) (x : List ℕ) (a : Term) (first : StandsAt p a) where
             scoped = (first.scope.scoped, new_under (kinds_at p) kind.Value (slot p) b at inner, scoped_under (kinds_at p) kind.Value (slot p) b at inner);
           };
           turns = (first.turns, second.turns);
+          named = (first.named, second.named);
         }
 
     handle_stands : StandsAt p (Handle a (Some (slot p)) b)
-    handle_stands = let h = let_stands in record { scope = record { levels = h.scope.levels; scoped = h.scope.scoped }; turns = h.turns }
+    handle_stands = let h = let_stands in record { scope = record { levels = h.scope.levels; scoped = h.scope.scoped }; turns = h.turns; named = h.named }
 
   bracket_stands : (s : ℕ) (u r : Term) → s ≡ slot p → StandsAt (under kind.Value x p) u → StandsAt (under kind.Value x p) r
       → StandsAt p (Bracket (Some s) a u r)
@@ -250,6 +264,7 @@ module _ (p : Scope) (x : List ℕ) (a : Term) (first : StandsAt p a) where
           );
         };
         turns = (first.turns, used.turns, released.turns);
+        named = (first.named, used.named, released.named);
       }
 
 for_stands : (p : Scope) (x : List ℕ) (n : ℕ) (a : Term) → turns_of_loop p.turns n ≤ most_turns → StandsAt (repeated n (under kind.Value x p)) a
@@ -263,6 +278,21 @@ for_stands p x n a few inside =
         scoped = (new_under (kinds_at p) kind.Value (slot p) a at inner, scoped_under (kinds_at p) kind.Value (slot p) a at inner);
       };
       turns = (few, inside.turns);
+      named = inside.named;
+    }
+
+try_take_stands : (p : Scope) (q : ℕ) (x : List ℕ) → q < length p.queues → (a : Term) → StandsAt (under kind.Value x p) a → (b : Term) → StandsAt p b
+    → StandsAt p (TryTake q (slot p) a b)
+try_take_stands p q x lt a first b second =
+    let at = slot_is p in
+    let inner = inner_scope kind.Value x p a first.scope in
+    record {
+      scope = record {
+        levels = (at, levels_under (kinds_at p) kind.Value (slot p) a at inner, second.scope.levels);
+        scoped = (new_under (kinds_at p) kind.Value (slot p) a at inner, scoped_under (kinds_at p) kind.Value (slot p) a at inner, second.scope.scoped);
+      };
+      turns = (first.turns, second.turns);
+      named = (lt, first.named, second.named);
     }
 
 mask_stands : (p : Scope) (x : List ℕ) (a : Term) → StandsAt (under kind.Poll x p) a → StandsAt p (Mask (slot p) a)
@@ -275,6 +305,7 @@ mask_stands p x a inside =
         scoped = (new_under (kinds_at p) kind.Poll (slot p) a at inner, scoped_under (kinds_at p) kind.Poll (slot p) a at inner);
       };
       turns = inside.turns;
+      named = inside.named;
     }
 
 -- two terms in order, the first one's value dropped
@@ -282,6 +313,7 @@ then_stands : (p : Scope) (a b : Term) → StandsAt p a → StandsAt p b → Sta
 then_stands p a b first second = record {
   scope = record { levels = (first.scope.levels, tt, second.scope.levels); scoped = (first.scope.scoped, tt, second.scope.scoped) };
   turns = (first.turns, second.turns);
+  named = (first.named, second.named);
 }
 
 seq_stands : (p : Scope) (a : Term) (bs : List Term) → StandsAt p a → EachFits StandsAt (λ t q. q) p bs → StandsAt p (seq a bs)
@@ -298,6 +330,7 @@ named_so : (p : Scope) (x : List ℕ) (t : Term) → StandsAt (under kind.Value 
 named_so p x t h = record {
   scope = subst (λ (kinds : List NameKind). IsInScope kinds t) (kinds_under_is kind.Value x p ∙ sym (kinds_under_is kind.Value [] p)) h.scope;
   turns = h.turns;
+  named = h.named;
 }
 
 -- inside another fiber
@@ -333,6 +366,7 @@ start_stands p h a first b second =
         );
       };
       turns = (first.turns, second.turns);
+      named = (first.named, second.named);
     }
 
 join_stands : (p : Scope) (f : ℕ) → f < length (kinds_at p) → slice_get (kinds_at p) f ≡ Some kind.Fiber
@@ -362,6 +396,7 @@ join_stands p f lt of_fiber a first b second c third =
         );
       };
       turns = (first.turns, second.turns, third.turns);
+      named = (first.named, second.named, third.named);
     }
 
 -- ---- a race
@@ -403,24 +438,26 @@ module _ (k : NameKind) (x : List ℕ) (p : Scope) where
   }
 
 value_stands : (p : Scope) (i : ℕ) → Has p i kind.Value → StandsAt p (Pure (arg.Slot i))
-value_stands p i h = record { scope = record { levels = h.within; scoped = h.there }; turns = tt }
+value_stands p i h = record { scope = record { levels = h.within; scoped = h.there }; turns = tt; named = tt }
 
 error_stands : (p : Scope) (i : ℕ) → Has p i kind.Value → StandsAt p (Raise (arg.Slot i))
-error_stands p i h = record { scope = record { levels = h.within; scoped = h.there }; turns = tt }
+error_stands p i h = record { scope = record { levels = h.within; scoped = h.there }; turns = tt; named = tt }
 
 cancel_stands : (p : Scope) (i : ℕ) → Has p i kind.Fiber → StandsAt p (Cancel (arg.Slot i))
-cancel_stands p i h = record { scope = record { levels = h.within; scoped = h.there }; turns = tt }
+cancel_stands p i h = record { scope = record { levels = h.within; scoped = h.there }; turns = tt; named = tt }
 
 poll_stands : (p : Scope) (i : ℕ) (a : Term) → Has p i kind.Poll → StandsAt p a → StandsAt p (Poll (arg.Slot i) a)
 poll_stands p i a h inside = record {
   scope = record { levels = (h.within, inside.scope.levels); scoped = (h.there, inside.scope.scoped) };
   turns = inside.turns;
+  named = inside.named;
 }
 
 on_cancel_stands : (p : Scope) (a f : Term) → StandsAt p a → StandsAt p f → StandsAt p (OnCancel a f)
 on_cancel_stands p a f first second = record {
   scope = record { levels = (first.scope.levels, second.scope.levels); scoped = (first.scope.scoped, second.scope.scoped) };
   turns = (first.turns, second.turns);
+  named = (first.named, second.named);
 }
 
 -- the names of a race are in scope
@@ -453,7 +490,7 @@ module _ (p : Scope) (s : RaceSlots) (h : HasRace p s) where
     outcome_stands f of_fiber =
         let q = under kind.Value [] p in
         joined f of_fiber _ _ _ (value_stands q s.number given) (error_stands q s.number given)
-        (record { scope = record { levels = (tt, tt, tt); scoped = (tt, tt, tt) }; turns = (tt, tt) })
+        (record { scope = record { levels = (tt, tt, tt); scoped = (tt, tt, tt) }; turns = (tt, tt); named = (tt, tt) })
 
     decided_stands : (f g : ℕ) → Has p f kind.Fiber → Has p g kind.Fiber → StandsAt p (decided s f g)
     decided_stands f g of_first of_other =
@@ -471,6 +508,7 @@ deciding_stands p s h ended number =
     let waits : StandsAt p (First (arg.Slot s.left) (arg.Slot s.right)) = record {
       scope = record { levels = (h.left.within, h.right.within); scoped = (h.left.there, h.right.there) };
       turns = tt;
+      named = tt;
     } in
     let waited = on_cancel_stands p _ _ (poll_stands p s.mask _ h.mask waits) (both_stand p s h) in
     let right = decided_stands q s later at s.right s.left later.right later.left in
@@ -481,6 +519,7 @@ deciding_stands p s h ended number =
         scoped = (of_ended.there, right.scope.scoped, left.scope.scoped);
       };
       turns = (right.turns, left.turns);
+      named = (right.named, left.named);
     } in
     subst (λ (n : ℕ). StandsAt p (Let (Some n) (OnCancel (Poll (arg.Slot s.mask) (First (arg.Slot s.left) (arg.Slot s.right))) (cancel_both s))
     (If (arg.Slot s.ended) (decided s s.right s.left) (decided s s.left s.right)))) (sym ended) (let_stands p [] _ waited _ chosen)
@@ -513,40 +552,48 @@ race_stands p a b first second =
 -- ---- the rows of the table
 
 shape_fits : (f : Form) (p : Scope) → KeepsFit (StandsAt p) (shape f p)
-shape_fits form.Pure p = λ v h. record { scope = h; turns = tt }
-shape_fits form.Raise p = λ v h. record { scope = record { levels = h.levels; scoped = h.scoped }; turns = tt }
-shape_fits form.Canceled p = record { scope = record { levels = tt; scoped = tt }; turns = tt }
-shape_fits form.Never p = record { scope = record { levels = tt; scoped = tt }; turns = tt }
-shape_fits form.Cede p = record { scope = record { levels = tt; scoped = tt }; turns = tt }
+shape_fits form.Pure p = λ v h. record { scope = h; turns = tt; named = tt }
+shape_fits form.Raise p = λ v h. record { scope = record { levels = h.levels; scoped = h.scoped }; turns = tt; named = tt }
+shape_fits form.Canceled p = record { scope = record { levels = tt; scoped = tt }; turns = tt; named = tt }
+shape_fits form.Never p = record { scope = record { levels = tt; scoped = tt }; turns = tt; named = tt }
+shape_fits form.Cede p = record { scope = record { levels = tt; scoped = tt }; turns = tt; named = tt }
 shape_fits form.Seq p = λ a first bs others. seq_stands p a bs first others
 shape_fits form.Let p = λ x a first b second. let_stands p x a first b second
 shape_fits form.Handle p = λ a first x b second. handle_stands p x a first b second
 shape_fits form.If p = λ v h a first b second. record {
   scope = record { levels = (h.levels, first.scope.levels, second.scope.levels); scoped = (h.scoped, first.scope.scoped, second.scope.scoped) };
   turns = (first.turns, second.turns);
+  named = (first.named, second.named);
 }
 shape_fits form.For p = λ x n few a inside. for_stands p x n a few inside
 shape_fits form.Mask p = λ x a inside. mask_stands p x a inside
-shape_fits form.Poll p = λ i lt of_poll a h. record { scope = record { levels = (lt, h.scope.levels); scoped = (of_poll, h.scope.scoped) }; turns = h.turns }
+shape_fits form.Poll p = λ i lt of_poll a h. record { scope = record { levels = (lt, h.scope.levels); scoped = (of_poll, h.scope.scoped) }; turns = h.turns; named = h.named }
 shape_fits form.OnCancel p = λ a first f second. record {
   scope = record { levels = (first.scope.levels, second.scope.levels); scoped = (first.scope.scoped, second.scope.scoped) };
   turns = (first.turns, second.turns);
+  named = (first.named, second.named);
 }
 shape_fits form.Bracket p = λ x a first u used r released. bracket_stands p x a first (slot p) u r refl used released
 shape_fits form.Guarantee p = λ a first f second. record {
   scope = record { levels = (tt, tt, first.scope.levels, second.scope.levels); scoped = (tt, tt, first.scope.scoped, second.scope.scoped) };
   turns = (tt, first.turns, second.turns);
+  named = (tt, first.named, second.named);
 }
 shape_fits form.Forcer p = λ a first b second. record {
   scope = record { levels = ((first.scope.levels, tt, tt), tt, second.scope.levels); scoped = ((first.scope.scoped, tt, tt), tt, second.scope.scoped) };
   turns = ((first.turns, tt), second.turns);
+  named = ((first.named, tt), second.named);
 }
 shape_fits form.Using p = λ rs all t used. using_stands p rs t all used
 shape_fits form.Start p = λ h a first b second. start_stands p h a first b second
 shape_fits form.Join p = λ f lt of_fiber a first b second c third. join_stands p f lt of_fiber a first b second c third
-shape_fits form.Cancel p = λ f lt of_fiber. record { scope = record { levels = lt; scoped = of_fiber }; turns = tt }
+shape_fits form.Cancel p = λ f lt of_fiber. record { scope = record { levels = lt; scoped = of_fiber }; turns = tt; named = tt }
 shape_fits form.Race p = λ a first b second. race_stands p a b first second
-shape_fits form.First p = λ f lt of_fiber g lt' of_fiber'. record { scope = record { levels = (lt, lt'); scoped = (of_fiber, of_fiber') }; turns = tt }
+shape_fits form.First p = λ f lt of_fiber g lt' of_fiber'. record { scope = record { levels = (lt, lt'); scoped = (of_fiber, of_fiber') }; turns = tt; named = tt }
+shape_fits form.Offer p = λ q lt v h. record { scope = record { levels = h.levels; scoped = h.scoped }; turns = tt; named = lt }
+shape_fits form.Take p = λ q lt. record { scope = record { levels = tt; scoped = tt }; turns = tt; named = lt }
+shape_fits form.TryOffer p = λ q lt v h. record { scope = record { levels = h.levels; scoped = h.scoped }; turns = tt; named = lt }
+shape_fits form.TryTake p = λ q lt x a first b second. try_take_stands p q x lt a first b second
 
 content_fits : (g : Group) (p : Scope) → KeepsFit (Fits g p) (content g p)
 content_fits OfTerm p = λ f. shape_fits f p
@@ -563,6 +610,7 @@ spelled_fits g P room (value p go) _ x (value_so {k = k} {ks = ks} v e d) h = sp
 spelled_fits g P room (count p go) _ x (count_so {k = k} {ks = ks} n e d) h = spelled_fits g P room (go n) ks x d (h n (count_found p k n e))
 spelled_fits g P room (name c p go) _ x (name_so {k = k} {ks = ks} i e d) h = let found = name_found c p k i e in
     spelled_fits g P room (go i) ks x d (h i found.0 found.1)
+spelled_fits g P room (queue p go) _ x (queue_so {k = k} {ks = ks} q e d) h = spelled_fits g P room (go q) ks x d (h q (queue_found p k q e))
 spelled_fits g P room (binder p go) _ x (binder_so {ks = ks} b e d) h = spelled_fits g P room (go b) ks x d (h b)
 spelled_fits g P room (group k p go) _ x (group_so left a inner ks has_room d1 few d2 whole) h =
     spelled_fits g P room (go a) ks x d2 (h a (spelled_fits k (Fits k p) left (content k p) inner a d1 (content_fits k p)))
@@ -571,5 +619,5 @@ spelled_fits g P room (groups k p go) ks x (groups_more d) h =
     spelled_fits g P room (group k p λ a. groups k (scope_after k a p) λ others. go (a ∷ others)) ks x d (λ a first others each. h (a ∷ others) (first, each))
 
 -- the term of a script stands in no binder's scope and in no loop
-pub script_fits : (text : List ℕ) (m : Meaning) → IsScript text m → StandsAt top m.term
-script_fits text m s = spelled_fits OfTerm (StandsAt top) 99 _ s.tokens m.term s.main (λ t h. h)
+pub script_fits : (text : List ℕ) (m : Meaning) → IsScript text m → StandsAt (top (names_of m.queues)) m.term
+script_fits text m s = spelled_fits OfTerm (StandsAt (top (names_of m.queues))) 99 _ s.tokens m.term s.main (λ t h. h)

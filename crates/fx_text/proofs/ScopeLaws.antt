@@ -1,6 +1,5 @@
 -- Names in scope, as the code keeps them.
-use Rattle.std.proofs.Common.{◌≡◌, ℕ, zero, suc, ◌+◌, ◌≤◌, ◌&&◌, ◌||◌, Bool, Some, None, option_map, List, [], ◌∷◌, ◌++◌, length, map, take, drop, bytes_eq, refl, sym, ◌∙◌, ap, arith}
-use Rattle.std.specs.Borrow.{Bor}
+use Rattle.std.proofs.Common.{◌≡◌, ℕ, zero, suc, ◌+◌, ◌≤◌, ◌&&◌, ◌||◌, Bool, Some, None, option_map, List, [], ◌∷◌, ◌++◌, length, map, take, drop, bytes_eq, string_bytes, refl, sym, ◌∙◌, ap, arith}
 use Rattle.std.specs.List.{list_any, position}
 use Rattle.std.proofs.lemmas.List.{length-map, map-append, length-take-le}
 use Rattle.fx_term.specs.declared.name_kind.NameKind.{NameKind}
@@ -9,7 +8,10 @@ use Rattle.fx_term.specs.Scope.{kind_elsewhere}
 use Rattle.fx_text.specs.declared.place.Place.{Place}
 use Rattle.fx_text.specs.declared.scope.Bound.{Bound as CodeBound}
 use Rattle.fx_text.specs.Scope.{Bound, slot, under, elsewhere, bound_elsewhere, is_taken, same_kind, slot_of}
-use Rattle.fx_text.specs.ScopeView.{view_bound, view_names, view_queues, seen_past, scope}
+use Rattle.fx_text.specs.declared.queues.QueueDecl.{QueueDecl}
+use Rattle.fx_text.specs.Queues.{Queue, names_of}
+use Rattle.fx_text.specs.QueuesView.{view_queue, view_queues}
+use Rattle.fx_text.specs.ScopeView.{view_bound, view_names, seen_past, scope}
 use Rattle.fx_text.proofs.MappedLists.{list_any_map, position_map, position_front, position_back}
 
 -- ---- the names that a fiber has
@@ -46,13 +48,13 @@ slot_at names at = length_seen at.foreign (view_names names) ∙ length-map name
 -- with one name more
 pub scope_push : (names : List CodeBound) (b : CodeBound) (at : Place) → at.foreign ≤ length names
     → scope (names ++ b ∷ []) at ≡ under b.kind b.name.now (scope names at)
-scope_push names b at le = ap (λ (l : List Bound). record { names = l; queues = view_queues at.queues.now; turns = at.turns })
+scope_push names b at le = ap (λ (l : List Bound). record { names = l; queues = names_of (view_queues at.queues.now); turns = at.turns })
     (ap (seen_past at.foreign) (map-append view_bound names (b ∷ []))
     ∙ seen_push at.foreign (view_names names) (view_bound b) (omega (arith, le, length-map names view_bound)))
 
 -- where all names are outside
 pub scope_elsewhere : (names : List CodeBound) (at : Place) → scope names (record at { foreign = length names }) ≡ elsewhere (scope names at)
-scope_elsewhere names at = ap (λ (l : List Bound). record { names = l; queues = view_queues at.queues.now; turns = at.turns })
+scope_elsewhere names at = ap (λ (l : List Bound). record { names = l; queues = names_of (view_queues at.queues.now); turns = at.turns })
     (ap (λ (n : ℕ). seen_past n (view_names names)) (sym (length-map names view_bound)) ∙ seen_all at.foreign (view_names names))
 
 -- where so many names are outside that all are
@@ -74,11 +76,17 @@ taken_seen x zero names = refl
 taken_seen x (suc n) [] = refl
 taken_seen x (suc n) (b ∷ names) = ap (λ (r : Bool). bytes_eq b.name x || r) (taken_seen x n names)
 
+pub queue_among : (x : List ℕ) (queues : List QueueDecl)
+    → position (λ (n : List ℕ). bytes_eq n x) (names_of (view_queues queues)) ≡ position (λ (q : QueueDecl). bytes_eq (string_bytes q.name) x) queues
+queue_among x queues = position_map (λ (q : Queue). q.0) (λ (n : List ℕ). bytes_eq n x) (view_queues queues)
+    ∙ position_map view_queue (λ (q : Queue). bytes_eq q.0 x) queues
+
 pub is_taken_among : (x : List ℕ) (names : List CodeBound) (at : Place)
-    → is_taken x (scope names at) ≡ (list_any (λ b. bytes_eq b.name.now x) names || list_any (λ q. bytes_eq q.now x) at.queues.now)
+    → is_taken x (scope names at) ≡ (list_any (λ b. bytes_eq b.name.now x) names || list_any (λ q. bytes_eq (string_bytes q.name) x) at.queues.now)
 is_taken_among x names at =
     let slots = taken_seen x at.foreign (view_names names) ∙ list_any_map view_bound (λ b. bytes_eq b.name x) names in
-    let queues = list_any_map (λ (q : Bor (List ℕ)). q.now) (λ q. bytes_eq q x) at.queues.now in
+    let queues = list_any_map (λ (q : Queue). q.0) (λ n. bytes_eq n x) (view_queues at.queues.now)
+    ∙ list_any_map view_queue (λ (q : Queue). bytes_eq q.0 x) at.queues.now in
     rw (slots, queues) refl
 
 module _ (k : NameKind) (x : List ℕ) where

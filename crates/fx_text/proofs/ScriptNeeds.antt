@@ -12,10 +12,11 @@ use Rattle.fx_text.specs.Limits.{most_open}
 use Rattle.fx_text.specs.declared.reader.races.RaceSlots.{RaceSlots}
 use Rattle.fx_text.specs.Scope.{Scope, top, slot}
 use Rattle.fx_text.specs.Race.{race_slots, cancel_both, outcome_of, decided, deciding, race}
+use Rattle.fx_text.specs.Queues.{names_of}
 use Rattle.fx_text.specs.Group.{Group, OfTerm, OfResource, OfResources, OfOutcome, Resource, Content, needs_few}
-use Rattle.fx_text.specs.Shape.{Shape, ends, word, value, count, name, binder, group, groups, seq, using, shape, content, main_shape}
+use Rattle.fx_text.specs.Shape.{Shape, ends, word, value, count, name, queue, binder, group, groups, seq, using, shape, content, main_shape}
 use Rattle.fx_text.specs.Meaning.{Meaning}
-use Rattle.fx_text.specs.Grammar.{Spells, ends_so, word_so, value_so, count_so, name_so, binder_so, group_so, groups_end, groups_more, IsScript}
+use Rattle.fx_text.specs.Grammar.{Spells, ends_so, word_so, value_so, count_so, name_so, queue_so, binder_so, group_so, groups_end, groups_more, IsScript}
 
 -- no part of what stands in a group can use more than the most
 abbrev FewIn : (g : Group) → Content g → Type 0
@@ -31,6 +32,7 @@ KeepsFew g (word go) = (f : Form) → KeepsFew g (go f)
 KeepsFew g (value p go) = (v : Arg) → KeepsFew g (go v)
 KeepsFew g (count p go) = (n : ℕ) → KeepsFew g (go n)
 KeepsFew g (name k p go) = (x : ℕ) → KeepsFew g (go x)
+KeepsFew g (queue p go) = (q : ℕ) → KeepsFew g (go q)
 KeepsFew g (binder p go) = (b : List ℕ) → KeepsFew g (go b)
 KeepsFew g (group h p go) = (a : Content h) → FewIn h a → KeepsFew g (go a)
 KeepsFew g (groups h p go) = (every : List (Content h)) → AllByRecursion (FewIn h) every → KeepsFew g (go every)
@@ -82,6 +84,10 @@ form_few form.Join p = λ f a first b second c third few. (leb-true _ _ few, fir
 form_few form.Cancel p = λ f few. tt
 form_few form.First p = λ f g few. tt
 form_few form.Race p = λ a first b second few. race_few (race_slots (slot p)) a b first second (leb-true _ _ few)
+form_few form.Offer p = λ q v few. tt
+form_few form.Take p = λ q few. tt
+form_few form.TryOffer p = λ q v few. tt
+form_few form.TryTake p = λ q x a first b second few. (leb-true _ _ few, first, second)
 
 content_few : (g : Group) (p : Scope) → KeepsFew g (content g p)
 content_few OfTerm p = λ f. form_few f p
@@ -95,6 +101,7 @@ spelled_few (word_so f e more) few m = spelled_few more few (m f)
 spelled_few (value_so v e more) few m = spelled_few more few (m v)
 spelled_few (count_so n e more) few m = spelled_few more few (m n)
 spelled_few (name_so i e more) few m = spelled_few more few (m i)
+spelled_few (queue_so q e more) few m = spelled_few more few (m q)
 spelled_few (binder_so b e more) few m = spelled_few more few (m b)
 spelled_few (group_so {h = h} {p = p} left a inner ks e within tested more whole) few m =
     spelled_few more few (m a (spelled_few within tested (content_few h p)))
@@ -102,8 +109,8 @@ spelled_few (groups_end more) few m = spelled_few more few (m [] tt)
 spelled_few (groups_more more) few m = spelled_few more few (λ a first others each. m (a ∷ others) (first, each))
 
 -- the term of main is a form that was tested
-main_few : (t : Term) (room : ℕ) (ks : List Token) → Spells OfTerm room main_shape ks t → NeedsFew t
-main_few t room ks (group_so left a inner rest e within tested ends_so whole) = spelled_few within tested (content_few OfTerm top)
+main_few : (queues : List (List ℕ)) (t : Term) (room : ℕ) (ks : List Token) → Spells OfTerm room (main_shape queues) ks t → NeedsFew t
+main_few queues t room ks (group_so left a inner rest e within tested ends_so whole) = spelled_few within tested (content_few OfTerm (top queues))
 
 pub script_needs_few : (text : List ℕ) (m : Meaning) → IsScript text m → NeedsFew m.term
-script_needs_few text m s = main_few m.term most_open s.tokens s.main
+script_needs_few text m s = main_few (names_of m.queues) m.term most_open s.tokens s.main

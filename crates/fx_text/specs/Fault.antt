@@ -6,7 +6,7 @@ use Rattle.fx_text.specs.declared.fault.TextFault.{TextFault}
 use Rattle.fx_text.specs.declared.fault.ReadError.{ReadError}
 use Rattle.fx_text.specs.declared.fault.ReadError.TheVariants as errors
 
--- the number of a kind; the numbers in between are those of other forms
+-- the number of a kind
 abbrev pub kind_number : TextKind → ℕ
 kind_number kind.Length = 1
 kind_number kind.Byte = 2
@@ -17,6 +17,7 @@ kind_number kind.Unwanted = 6
 kind_number kind.Unknown = 7
 kind_number kind.Taken = 8
 kind_number kind.Size = 9
+kind_number kind.Queues = 10
 kind_number kind.Depth = 11
 kind_number kind.Need = 12
 kind_number kind.Main = 13

@@ -1,14 +1,16 @@
 -- The grammar of scripts: which tokens each shape stands for. It knows no faults and no order of reading.
 use Rattle.std.specs.Prelude.{◌≡◌, ℕ, suc, true, length, ◌≤◌, Some, List, [], ◌∷◌, ◌++◌, codes}
+use Rattle.std.specs.List.{flat_map}
 use Rattle.fx_term.specs.declared.node.Arg.{Arg}
 use Rattle.fx_term.specs.declared.name_kind.NameKind.{NameKind}
 use Rattle.fx_text.specs.declared.form.Form.{Form}
 use Rattle.fx_text.specs.Limits.{most_bytes, most_open}
 use Rattle.fx_text.specs.Token.{Token, Open, Close, Name, End, next}
 use Rattle.fx_text.specs.Scope.{Scope}
+use Rattle.fx_text.specs.Queues.{names_of, declaration, AreQueues}
 use Rattle.fx_text.specs.Group.{Group, OfTerm, Content, scope_after, needs_few}
-use Rattle.fx_text.specs.Shape.{Shape, ends, word, value, count, name, binder, group, groups, content, main_shape}
-use Rattle.fx_text.specs.Part.{value_of, count_of, name_of, new_name, form_of}
+use Rattle.fx_text.specs.Shape.{Shape, ends, word, value, count, name, queue, binder, group, groups, content, main_shape}
+use Rattle.fx_text.specs.Part.{value_of, count_of, name_of, queue_of, new_name, form_of}
 use Rattle.fx_text.specs.Meaning.{Meaning}
 
 -- the text has these tokens, and then ends
@@ -32,6 +34,9 @@ pub data Spells : (g : Group) → ℕ → Shape g → List Token → Content g �
   name_so : {g : Group} {room : ℕ} {c : NameKind} {p : Scope} {go : ℕ → Shape g} {k : Token} {ks : List Token} {x : Content g} (i : ℕ)
       → name_of c p k ≡ Some i → Spells g room (go i) ks x
       → Spells g room (name c p go) (k ∷ ks) x
+  queue_so : {g : Group} {room : ℕ} {p : Scope} {go : ℕ → Shape g} {k : Token} {ks : List Token} {x : Content g} (q : ℕ)
+      → queue_of p k ≡ Some q → Spells g room (go q) ks x
+      → Spells g room (queue p go) (k ∷ ks) x
   binder_so : {g : Group} {room : ℕ} {p : Scope} {go : List ℕ → Shape g} {k : Token} {ks : List Token} {x : Content g} (b : List ℕ)
       → new_name p k ≡ Some b → Spells g room (go b) ks x
       → Spells g room (binder p go) (k ∷ ks) x
@@ -46,10 +51,10 @@ pub data Spells : (g : Group) → ℕ → Shape g → List Token → Content g �
       → Spells g room (group h p λ a. groups h (scope_after h a p) λ others. go (a ∷ others)) ks x
       → Spells g room (groups h p go) ks x
 
--- the text is `(`, the word main, a term and `)`, and means that term
+-- the text is declarations of queues, and then `(`, the word main, a term and `)`; it means these queues and that term
 pub record IsScript (text : List ℕ) (m : Meaning) : Type 0 where
   pub short : length text ≤ most_bytes
-  pub queues : m.queues ≡ []
+  pub queues : AreQueues m.queues
   pub tokens : List Token
-  pub text_is : IsText text (Open ∷ Name (codes "main") ∷ tokens)
-  pub main : Spells OfTerm most_open main_shape tokens m.term
+  pub text_is : IsText text (flat_map declaration m.queues ++ Open ∷ Name (codes "main") ∷ tokens)
+  pub main : Spells OfTerm most_open (main_shape (names_of m.queues)) tokens m.term

@@ -3,7 +3,7 @@ use Rattle.std.specs.Prelude.{◌≡◌, ℕ, ◌+◌, ◌<◌, ◌≤◌, Some,
 use Rattle.std.specs.Borrow.{Bor}
 use Rattle.fx_term.specs.declared.node.Node.{Node}
 use Rattle.fx_term.specs.declared.node.Arg.TheVariants as arg
-use Rattle.fx_term.specs.Term.{Term, Never, Let, If, For, Mask, Poll, OnCancel, Bracket, Start, Join}
+use Rattle.fx_term.specs.Term.{Term, Never, Let, If, For, Mask, Poll, OnCancel, Bracket, Start, Join, TryTake}
 use Rattle.fx_term.specs.Meaning.{assemble}
 use Rattle.fx_term.specs.Tree.{children}
 use Rattle.fx_term.specs.declared.name_kind.NameKind.TheVariants as kind
@@ -20,6 +20,7 @@ use Rattle.fx_text.specs.declared.reader.head.Double.{Double}
 use Rattle.fx_text.specs.declared.reader.head.Double.TheVariants as double
 use Rattle.fx_text.specs.declared.reader.head.Head.{Head}
 use Rattle.fx_text.specs.declared.reader.head.Head.TheVariants as head
+use Rattle.fx_text.specs.Limits.{most_queues}
 use Rattle.fx_text.specs.Scope.{Scope, slot, under, elsewhere, left_of_race, right_of_race, repeated}
 use Rattle.fx_text.specs.Race.{race}
 use Rattle.fx_text.specs.Group.{OfTerm, OfOutcome}
@@ -52,6 +53,7 @@ pub record Enters (i : Inner) (old new : Reader) : Type 0 where
   pub outside : new.place.foreign ≤ length new.names.items
   pub some_turns : 0 < new.place.turns
   pub few_turns : new.place.turns ≤ most_turns
+  pub few_queues : length new.place.queues.now ≤ most_queues
 
 -- the term of a node with no children
 abbrev pub leaf_term : Node → Term
@@ -69,6 +71,7 @@ double_term (double.Let x) a b = Let (Some x) a b
 double_term (double.If v) a b = If v a b
 double_term (double.Start h) a b = Start h a b
 double_term (double.Race s) a b = race s a b
+double_term (double.TryTake q x) a b = TryTake q x a b
 double_term double.OnCancel a b = OnCancel a b
 double_term double.Guarantee a b = Bracket None pure_zero a b
 

@@ -1,6 +1,7 @@
 pub mod Limits
 pub mod Fault
 pub mod Token
+pub mod Queues
 pub mod Scope
 pub mod Group
 pub mod Race
@@ -12,6 +13,7 @@ pub mod Grammar
 pub mod Schedule
 pub mod View
 pub mod TokenView
+pub mod QueuesView
 pub mod ScopeView
 pub mod Given
 pub mod Trees

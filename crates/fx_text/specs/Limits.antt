@@ -13,6 +13,13 @@ most_open = 99
 abbrev pub most_nodes : ℕ
 most_nodes = 8 * most_bytes
 
+-- the most queues of a script, and the most elements that one may hold
+abbrev pub most_queues : ℕ
+most_queues = 16
+
+abbrev pub most_capacity : ℕ
+most_capacity = 1024
+
 -- of the nodes that the bytes of a term pay for, so many are left over: a form of two terms may make twice as many
 abbrev pub term_spares : ℕ
 term_spares = 23

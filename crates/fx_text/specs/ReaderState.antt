@@ -9,7 +9,7 @@ use Rattle.fx_term.specs.Tree.{children}
 use Rattle.fx_term.specs.Turns.{most_turns}
 use Rattle.fx_text.specs.declared.fault.ReadError.{ReadError}
 use Rattle.fx_text.specs.declared.reader.Reader.{Reader}
-use Rattle.fx_text.specs.Limits.{most_bytes, most_nodes, term_spares}
+use Rattle.fx_text.specs.Limits.{most_bytes, most_queues, most_nodes, term_spares}
 use Rattle.fx_text.specs.Scope.{Scope}
 use Rattle.fx_text.specs.ScopeView.{scope}
 use Rattle.fx_text.specs.Shape.{seq}
@@ -23,7 +23,7 @@ abbrev pub scope_of : Reader → Scope
 scope_of r = scope r.names.items r.place
 
 -- before: a byte was paid for each name in scope and for each eight nodes, with so many bytes left over, no more names are bound outside of the fiber than are
--- in scope, and the loops round have one to the most turns
+-- in scope, the loops round have one to the most turns, and there are no more queues than the most
 pub record IsReady (spared : ℕ) (r : Reader) (bytes : List ℕ) : Type 0 where
   pub made : AreMade r.nodes.items r.needs.items
   pub names_fit : length r.names.items + (length bytes + spared) ≤ most_bytes
@@ -31,6 +31,7 @@ pub record IsReady (spared : ℕ) (r : Reader) (bytes : List ℕ) : Type 0 where
   pub outside : r.place.foreign ≤ length r.names.items
   pub some_turns : 0 < r.place.turns
   pub few_turns : r.place.turns ≤ most_turns
+  pub few_queues : length r.place.queues.now ≤ most_queues
 
 -- after: the names in scope and the place are as before, the new root is the last node, and the new nodes were paid for, with so many nodes left over
 pub record Went (spared : ℕ) (old new : Reader) (root : ℕ) (bytes rest : List ℕ) : Type 0 where

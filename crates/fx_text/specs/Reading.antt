@@ -1,5 +1,5 @@
 -- Reading from left to right, up to the first fault.
-use Rattle.std.specs.Prelude.{ℕ, zero, suc, ◌-◌, nat_lt, if◌then◌else◌, Option, Some, None, Result, Ok, Err, List, [], ◌∷◌, length}
+use Rattle.std.specs.Prelude.{ℕ, zero, suc, ◌-◌, nat_lt, if◌then◌else◌, Option, Some, None, Result, Ok, Err, List, [], ◌∷◌, ◌++◌, length}
 use Rattle.fx_term.specs.declared.node.Arg.{Arg}
 use Rattle.fx_term.specs.Term.{Term}
 use Rattle.fx_term.specs.declared.name_kind.NameKind.{NameKind}
@@ -8,12 +8,15 @@ use Rattle.fx_text.specs.declared.fault.TextKind.TheVariants as kind
 use Rattle.fx_text.specs.declared.fault.TextFault.{TextFault}
 use Rattle.fx_text.specs.declared.fault.Fault.{Fault}
 use Rattle.fx_text.specs.declared.form.Form.{Form}
-use Rattle.fx_text.specs.Limits.{most_bytes, most_open}
+use Rattle.fx_text.specs.declared.top.TopForm.{TopForm}
+use Rattle.fx_text.specs.declared.top.TopForm.TheVariants as top_form
+use Rattle.fx_text.specs.Limits.{most_bytes, most_open, most_queues}
 use Rattle.fx_text.specs.Token.{Token, Open, Number, Name, Stray, Misnumber, End, Lexeme, next}
-use Rattle.fx_text.specs.Scope.{Scope}
+use Rattle.fx_text.specs.Scope.{Scope, top}
+use Rattle.fx_text.specs.Queues.{Queue, names_of}
 use Rattle.fx_text.specs.Group.{Group, OfTerm, Content, scope_after, needs_few}
-use Rattle.fx_text.specs.Shape.{Shape, ends, word, value, count, name, binder, group, groups, content, main_shape}
-use Rattle.fx_text.specs.Part.{opens, closes, is_closing, value_of, count_of, name_of, new_name, form_of, main_word}
+use Rattle.fx_text.specs.Shape.{Shape, ends, word, value, count, name, queue, binder, group, groups, content, main_shape}
+use Rattle.fx_text.specs.Part.{opens, closes, is_closing, value_of, count_of, name_of, queue_of, new_name, form_of, capacity_of, top_form_of, no_top_form}
 pub use Rattle.fx_text.specs.Meaning.{Meaning}
 
 -- the next step, unless there was a fault
@@ -73,14 +76,20 @@ count_at p = part_at (count_of p) (at_number kind.Size)
 unfoldable pub name_at : NameKind → Scope → List ℕ → Read ℕ
 name_at k p = part_at (name_of k p) (at_name kind.Unknown)
 
+unfoldable pub queue_at : Scope → List ℕ → Read ℕ
+queue_at p = part_at (queue_of p) (at_name kind.Unknown)
+
 unfoldable pub binder_at : Scope → List ℕ → Read (List ℕ)
 binder_at p = part_at (new_name p) (at_name kind.Taken)
 
 unfoldable pub form_at : List ℕ → Read Form
 form_at = part_at form_of (λ _. kind.Form)
 
-unfoldable pub main_word_at : List ℕ → Read (Unit {0})
-main_word_at = part_at main_word (λ _. kind.Form)
+unfoldable pub capacity_at : List ℕ → Read ℕ
+capacity_at = part_at capacity_of (at_number kind.Size)
+
+unfoldable pub top_form_at : ℕ → List ℕ → Read TopForm
+top_form_at room = part_at (top_form_of room) no_top_form
 
 -- ---- groups
 
@@ -116,6 +125,9 @@ parts_at each (count p go) bytes = do
 parts_at each (name k p go) bytes = do
   (x, rest) ← name_at k p bytes
   parts_at each (go x) rest
+parts_at each (queue p go) bytes = do
+  (q, rest) ← queue_at p bytes
+  parts_at each (go q) rest
 parts_at each (binder p go) bytes = do
   (x, rest) ← binder_at p bytes
   parts_at each (go x) rest
@@ -146,9 +158,9 @@ group_at (suc room) g p bytes = do
 abbrev pub term_at : ℕ → Scope → List ℕ → Read Term
 term_at room p bytes = group_at room OfTerm p bytes
 
--- ---- scripts
+-- ---- the top
 
--- The `(` of main. The end of the text is no end inside a form here
+-- The `(` of a form at the top. The end of the text is no end inside a form here
 abbrev pub top_opening : Lexeme → Token → Read (Unit {0})
 top_opening l Open = Ok (tt, l.rest)
 top_opening l End = Err (record { kind = kind.Main; left = l.from })
@@ -157,18 +169,57 @@ top_opening l _ = refused kind.Form l
 unfoldable pub top_opening_at : List ℕ → Read (Unit {0})
 top_opening_at bytes = top_opening (next bytes) (next bytes).token
 
+-- a form at the top, up to its word
+abbrev pub top_at : ℕ → List ℕ → Read TopForm
+top_at room bytes = do
+  (_, inside) ← top_opening_at bytes
+  top_form_at room inside
+
+-- a declaration after its word, where these queues are declared before it
+unfoldable pub declaration_at : List Queue → List ℕ → Read Queue
+declaration_at before bytes = do
+  (x, named) ← binder_at (top (names_of before)) bytes
+  (n, sized) ← capacity_at named
+  (_, rest) ← closing_at sized
+  Ok ((x, n), rest)
+
+-- The queues up to the word `main`, which is read too: what comes after the word of a form, where these queues are declared before it
+abbrev pub queues_after : (List Queue → List ℕ → Read (List Queue)) → List Queue → TopForm → List ℕ → Read (List Queue)
+queues_after more before top_form.Main bytes = Ok (before, bytes)
+queues_after more before top_form.Queue bytes = do
+  (q, rest) ← declaration_at before bytes
+  more (before ++ q ∷ []) rest
+
+-- and what comes before it, where so many more queues may be declared
+unfoldable pub queues_within : ℕ → List Queue → List ℕ → Read (List Queue)
+queues_within zero before bytes = do
+  (_, rest) ← top_at zero bytes
+  Ok (before, rest)
+queues_within (suc room) before bytes = do
+  (f, rest) ← top_at (suc room) bytes
+  queues_after (queues_within room) before f rest
+
+abbrev pub queues_at : List ℕ → Read (List Queue)
+queues_at text = queues_within most_queues [] text
+
+-- ---- scripts
+
 -- nothing comes after main
 abbrev pub last : Meaning → Lexeme → Token → Result Meaning Fault
 last m l End = Ok m
 last m l _ = refused kind.Main l
 
--- a whole text: main has the first of 100 `(`
+-- what comes after the word `main`, where these queues are declared: main has the first of 100 `(`
+abbrev pub main_at : List Queue → List ℕ → Result Meaning Fault
+main_at queues bytes = do
+  (t, rest) ← parts_at (group_at most_open) (main_shape (names_of queues)) bytes
+  last (record { queues = queues; term = t }) (next rest) (next rest).token
+
+-- a whole text
 unfoldable pub script_at : List ℕ → Result Meaning Fault
 script_at text = do
-  (_, inside) ← top_opening_at text
-  (_, after) ← main_word_at inside
-  (t, rest) ← parts_at (group_at most_open) main_shape after
-  last (record { queues = []; term = t }) (next rest) (next rest).token
+  (queues, rest) ← queues_at text
+  main_at queues rest
 
 -- a fault keeps how many bytes stand from it to the end of the text
 abbrev pub at_offset : {A : Type 0} → ℕ → Result A Fault → Result A TextFault

@@ -18,9 +18,9 @@ pub record Scope : Type 0 where
   pub queues : List (List ℕ)
   pub turns : ℕ
 
--- no name is in scope, inside no loop
-abbrev pub top : Scope
-top = record { names = []; queues = []; turns = 1 }
+-- no name is in scope but those of these queues, inside no loop
+abbrev pub top : List (List ℕ) → Scope
+top queues = record { names = []; queues = queues; turns = 1 }
 
 -- the number of the name that the next binder binds
 abbrev pub slot : Scope → ℕ

@@ -3,6 +3,7 @@ use Rattle.std.specs.Prelude.{ℕ, Some, None, List, [], ◌∷◌, codes}
 use Rattle.fx_term.specs.declared.node.Arg.{Arg}
 use Rattle.fx_term.specs.declared.node.Arg.TheVariants as arg
 use Rattle.fx_term.specs.Term.{Term, Pure, Raise, Canceled, Never, Cede, Let, Handle, If, For, Mask, Poll, OnCancel, Bracket, Start, Join, Cancel, First}
+use Rattle.fx_term.specs.Term.{Offer, TryOffer, Take, TryTake}
 use Rattle.fx_term.specs.declared.name_kind.NameKind.{NameKind}
 use Rattle.fx_term.specs.declared.name_kind.NameKind.TheVariants as kind
 use Rattle.fx_text.specs.declared.form.Form.{Form}
@@ -18,6 +19,7 @@ pub data Shape (g : Group) : Type 0 where
   value : Scope → (Arg → Shape g) → Shape g  -- a number, or the name of a value
   count : Scope → (ℕ → Shape g) → Shape g  -- a number, as the count of a loop
   name : NameKind → Scope → (ℕ → Shape g) → Shape g  -- the name of one of that kind
+  queue : Scope → (ℕ → Shape g) → Shape g  -- the name of a queue
   binder : Scope → (List ℕ → Shape g) → Shape g  -- a name that is not in scope
   group : (h : Group) → Scope → (Content h → Shape g) → Shape g  -- a group
   -- any number of groups, up to a `)`, each in the scope of the names that those before bind for it
@@ -34,7 +36,8 @@ terms p go = groups OfTerm p go
 -- all forms
 abbrev pub forms : List Form
 forms = form.Pure ∷ form.Raise ∷ form.Canceled ∷ form.Never ∷ form.Cede ∷ form.Seq ∷ form.Let ∷ form.Handle ∷ form.If ∷ form.For ∷ form.Mask ∷ form.Poll ∷
-    form.OnCancel ∷ form.Bracket ∷ form.Guarantee ∷ form.Forcer ∷ form.Using ∷ form.Start ∷ form.Join ∷ form.Cancel ∷ form.First ∷ form.Race ∷ []
+    form.OnCancel ∷ form.Bracket ∷ form.Guarantee ∷ form.Forcer ∷ form.Using ∷ form.Start ∷ form.Join ∷ form.Cancel ∷ form.First ∷ form.Race ∷
+    form.Offer ∷ form.Take ∷ form.TryOffer ∷ form.TryTake ∷ []
 
 abbrev pub word_of : Form → List ℕ
 word_of form.Pure = codes "pure"
@@ -59,6 +62,10 @@ word_of form.Join = codes "join"
 word_of form.Cancel = codes "cancel"
 word_of form.First = codes "first"
 word_of form.Race = codes "race"
+word_of form.Offer = codes "offer"
+word_of form.Take = codes "take"
+word_of form.TryOffer = codes "tryoffer"
+word_of form.TryTake = codes "trytake"
 
 -- one after another, for the last one's value
 abbrev pub seq : Term → List Term → Term
@@ -99,6 +106,10 @@ shape form.Join p = name kind.Fiber p λ f. group OfOutcome p λ a. group OfOutc
 shape form.Cancel p = name kind.Fiber p λ f. ends (Cancel (arg.Slot f))
 shape form.First p = name kind.Fiber p λ f. name kind.Fiber p λ g. ends (First (arg.Slot f) (arg.Slot g))
 shape form.Race p = term (left_of_race p) λ a. term (right_of_race p) λ b. ends (race (race_slots (slot p)) a b)
+shape form.Offer p = queue p λ q. value p λ v. ends (Offer q v)
+shape form.Take p = queue p λ q. ends (Take q)
+shape form.TryOffer p = queue p λ q. value p λ v. ends (TryOffer q v)
+shape form.TryTake p = queue p λ q. binder p λ x. term (under kind.Value x p) λ a. term p λ b. ends (TryTake q (slot p) a b)
 
 -- what stands in the parentheses of a group
 abbrev pub content : (g : Group) → Scope → Shape g
@@ -107,6 +118,6 @@ content OfResource p = binder p λ x. term p λ a. term (under kind.Value x p) �
 content OfOutcome p = binder p λ x. term (under kind.Value x p) λ t. ends t
 content OfResources p = group OfResource p λ r. groups OfResource (under kind.Value r.name p) λ rs. ends (r ∷ rs)
 
--- main, which is its term
-abbrev pub main_shape : Shape OfTerm
-main_shape = term top λ t. ends t
+-- main, which is its term, in the scope of the names of these queues
+abbrev pub main_shape : List (List ℕ) → Shape OfTerm
+main_shape queues = term (top queues) λ t. ends t

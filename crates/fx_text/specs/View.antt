@@ -1,14 +1,15 @@
 -- What the values of the code stand for.
-use Rattle.std.specs.Prelude.{◌≡◌, ◌⊎◌, Result, Ok, Err, map, string_bytes}
+use Rattle.std.specs.Prelude.{◌≡◌, ◌⊎◌, Result, Ok, Err}
 use Rattle.fx_term.specs.Meaning.{root_term}
 use Rattle.fx_text.specs.declared.script.Script.{Script}
 use Rattle.fx_text.specs.declared.fault.TextFault.{TextFault}
 use Rattle.fx_text.specs.declared.fault.TextKind.TheVariants as kind
+use Rattle.fx_text.specs.QueuesView.{view_queues}
 use Rattle.fx_text.specs.Reading.{Meaning}
 
 -- what a script means
 abbrev pub meaning : Script → Meaning
-meaning s = record { queues = map (λ q. (string_bytes q.name, q.cap)) s.queues.items; term = root_term s.code.nodes }
+meaning s = record { queues = view_queues s.queues.items; term = root_term s.code.nodes }
 
 -- the answer, seen by view, is what the text says, or its first fault; or memory ran out
 abbrev pub Answers : {X Y : Type 0} → (X → Y) → Result X TextFault → Result Y TextFault → Type 0

@@ -31,12 +31,16 @@ pub enum TextKind {
     /// A name that is not in scope, or is of another kind, or is the poll of another fiber.
     #[error("no such name of this kind is in scope")]
     Unknown,
-    /// A binder whose name is in scope.
+    /// A binder or a queue whose name is in scope.
     #[error("this name is in scope already")]
     Taken,
-    /// A count that takes the turns of its loop above 1,000,000, or the 100,001st word of a schedule.
-    #[error("more turns of a loop, or more words of a schedule, than there may be")]
+    /// A capacity outside 1 to 1,024, a count that takes the turns of its loop above 1,000,000, or the
+    /// 100,001st word of a schedule.
+    #[error("a capacity, turns of a loop or words of a schedule outside of their limits")]
     Size,
+    /// A 17th queue.
+    #[error("16 queues are declared already")]
+    Queues,
     /// A `(` where 100 are open.
     #[error("100 parentheses are open already")]
     Depth,
@@ -44,7 +48,7 @@ pub enum TextKind {
     #[error("a form that can start more than 1,023 fibers")]
     Need,
     /// The text ends before `main`, or goes on after it.
-    #[error("a script is one main and nothing after it")]
+    #[error("a script has one main, and nothing after it")]
     Main,
     /// Want of memory.
     #[error("out of memory")]
@@ -66,6 +70,7 @@ impl TextKind {
             TextKind::Unknown => 7,
             TextKind::Taken => 8,
             TextKind::Size => 9,
+            TextKind::Queues => 10,
             TextKind::Depth => 11,
             TextKind::Need => 12,
             TextKind::Main => 13,

@@ -25,13 +25,17 @@ pub(crate) enum Form {
     Cancel,
     First,
     Race,
+    Offer,
+    Take,
+    TryOffer,
+    TryTake,
 }
 
 impl Form {
     ghost use Rattle.std.specs.Prelude.{◌≡◌, bytes_eq, find};
     ghost use Rattle.fx_text.specs.Shape.{forms, word_of};
 
-    const ALL: [Form; 22] = [
+    const ALL: [Form; 26] = [
         Form::Pure,
         Form::Raise,
         Form::Canceled,
@@ -54,6 +58,10 @@ impl Form {
         Form::Cancel,
         Form::First,
         Form::Race,
+        Form::Offer,
+        Form::Take,
+        Form::TryOffer,
+        Form::TryTake,
     ];
 
     fn word(self) -> &'static [u8]
@@ -82,6 +90,10 @@ impl Form {
             Form::Cancel => b"cancel",
             Form::First => b"first",
             Form::Race => b"race",
+            Form::Offer => b"offer",
+            Form::Take => b"take",
+            Form::TryOffer => b"tryoffer",
+            Form::TryTake => b"trytake",
         }
     }
 

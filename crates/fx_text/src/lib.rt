@@ -31,16 +31,19 @@ pub mod laws;
 mod part;
 mod pick;
 mod place;
+mod queues;
 mod reader;
 mod schedules;
 mod scope;
 mod script;
 mod token;
+mod top;
 
 pub use fault::{TextFault, TextKind};
 pub use pick::Pick;
+pub use queues::QueueDecl;
 pub use schedules::schedule;
-pub use script::{QueueDecl, Script, parse};
+pub use script::{Script, parse};
 
 #[cfg(test)]
 mod tests;

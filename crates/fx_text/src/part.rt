@@ -1,7 +1,8 @@
 //! The parts of a form that are one token.
 ghost use Rattle.std.specs.Prelude.{ℕ, ◌≡◌, ◌+◌, ◌<◌, ◌≤◌, ◌^◌, List, length, nat_le, IfOk};
 ghost use Rattle.fx_term.specs.Turns.{most_turns, turns_of_loop};
-ghost use Rattle.fx_text.specs.Reading.{kind_of, opening_at, closing_at, value_at, count_at, name_at, binder_at, form_at, main_word_at, too_deep};
+ghost use Rattle.fx_text.specs.Reading.{kind_of, opening_at, closing_at, value_at, count_at, name_at, queue_at, binder_at, form_at, too_deep};
+ghost use Rattle.fx_text.specs.Limits.{most_queues};
 ghost use Rattle.fx_text.specs.Part.{is_closing};
 ghost use Rattle.fx_text.specs.Token.{next};
 ghost use Rattle.fx_text.specs.TokenView.{view_token};
@@ -11,7 +12,7 @@ ghost use Rattle.fx_text.specs.Given.{Gives};
 use crate::fault::{Fault, ReadError, TextKind};
 use crate::form::Form;
 use crate::place::Place;
-use crate::scope::{Bound, is_taken, slot_of};
+use crate::scope::{Bound, is_taken, queue_of, slot_of};
 use crate::token::{Lexeme, Token, next};
 use fx_term::{Arg, NameKind, turns_of_loop};
 
@@ -148,11 +149,29 @@ pub(crate) fn name<'a>(
     }
 }
 
+/// The name of a queue, by its number.
+#[tactic(auto, using(crate::proofs::ScopeLaws::queue_among), unfolding(crate::specs::Reading::queue_at))]
+pub(crate) fn queue<'a>(place: Place<'_>, bytes: &'a [u8]) -> Result<(u8, &'a [u8]), ReadError>
+    requires { length place.queues.now ≤ most_queues }
+    ensures read { (names : List Bound)
+        → Gives (λ x. (x.0, x.1.now)) result (queue_at (scope names place.entry) bytes.now) }
+    ensures shorter { IfOk result (λ x. length x.1.now < length bytes.now) }
+{
+    let lexeme = next(bytes);
+    match lexeme.token {
+        Token::Name(name) => match queue_of(place.queues, name) {
+            None => Err(refused(TextKind::Unknown, lexeme)),
+            Some(queue) => Ok((queue as u8, lexeme.rest)),
+        },
+        _ => Err(refused(TextKind::Unwanted, lexeme)),
+    }
+}
+
 /// A name that is not in scope.
 #[tactic(auto, unfolding(crate::specs::Reading::binder_at))]
 pub(crate) fn binder<'a>(
-    names: &[Bound<'a>],
-    place: Place<'a>,
+    names: &[Bound<'_>],
+    place: Place<'_>,
     bytes: &'a [u8],
 ) -> Result<(&'a [u8], &'a [u8]), ReadError>
     ensures read { Gives (λ x. (x.0.now, x.1.now)) result
@@ -183,24 +202,6 @@ pub(crate) fn form(bytes: &[u8]) -> Result<(Form, &[u8]), ReadError>
             None => Err(refused(TextKind::Form, lexeme)),
             Some(form) => Ok((form, lexeme.rest)),
         },
-        _ => Err(refused(TextKind::Form, lexeme)),
-    }
-}
-
-/// The word `main`.
-#[tactic(auto, unfolding(crate::specs::Reading::main_word_at))]
-pub(crate) fn main_word(bytes: &[u8]) -> Result<&[u8], ReadError>
-    ensures read { Gives (λ x. (tt, x.now)) result (main_word_at bytes.now) }
-    ensures shorter { IfOk result (λ x. length x.now < length bytes.now) }
-{
-    let lexeme = next(bytes);
-    match lexeme.token {
-        Token::Name(name) => {
-            if name == b"main".as_slice() {
-                return Ok(lexeme.rest);
-            }
-            Err(refused(TextKind::Form, lexeme))
-        }
         _ => Err(refused(TextKind::Form, lexeme)),
     }
 }

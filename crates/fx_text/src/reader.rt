@@ -3,7 +3,7 @@ ghost use Rattle.std.specs.Prelude.{◌+◌, ◌<◌, ◌≤◌, ◌∷◌, leng
 ghost use Rattle.fx_term.specs.Meaning.{term_of};
 ghost use Rattle.fx_term.specs.Tree.{children};
 ghost use Rattle.fx_term.specs.Turns.{most_turns};
-ghost use Rattle.fx_text.specs.Limits.{most_bytes, most_nodes, term_spares, form_spares};
+ghost use Rattle.fx_text.specs.Limits.{most_bytes, most_queues, most_nodes, term_spares, form_spares};
 ghost use Rattle.fx_text.specs.Group.{OfTerm};
 ghost use Rattle.fx_text.specs.Shape.{shape};
 ghost use Rattle.fx_text.specs.Reading.{term_at, groups_at, group_at, parts_at};
@@ -19,6 +19,7 @@ mod head;
 mod leaves;
 mod loops;
 mod masking;
+mod queues;
 mod races;
 mod resources;
 
@@ -108,6 +109,7 @@ impl<'a> Reader<'a> {
         requires outside { self.old.place.foreign ≤ length self.old.names.items }
         requires some { 0 < self.old.place.turns }
         requires few { self.old.place.turns ≤ most_turns }
+        requires queues { length self.old.place.queues.now ≤ most_queues }
         requires turns { TurnsFit self.old.place.turns inner }
         ensures { IfOk result (λ _. Enters inner.entry self.old self.new) }
     {

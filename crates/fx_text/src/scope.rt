@@ -1,11 +1,12 @@
 //! The names in scope.
-ghost use Rattle.std.specs.Prelude.{ℕ, ◌≡◌, ◌<◌, ◌≤◌, ◌&&◌, length, IfSome, bytes_eq};
+ghost use Rattle.std.specs.Prelude.{ℕ, ◌≡◌, ◌<◌, ◌≤◌, ◌&&◌, length, string_bytes, IfSome, bytes_eq};
 ghost use Rattle.std.specs.List.{list_any, position};
 ghost use Rattle.fx_text.specs.Scope.{is_taken, same_kind, slot_of};
 ghost use Rattle.fx_term.specs.Scope.{kind_elsewhere};
 ghost use Rattle.fx_text.specs.ScopeView.{view_names, seen_past, scope};
 
 use crate::place::Place;
+use crate::queues::QueueDecl;
 use fx_term::NameKind;
 
 /// A name in scope.
@@ -53,10 +54,20 @@ fn index_elsewhere(names: &[Bound<'_>], kind: NameKind, name: &[u8]) -> Option<u
         .position(|b| b.name == name && b.kind.elsewhere() == kind)
 }
 
-fn is_queue(queues: &[&[u8]], name: &[u8]) -> bool
-    ensures { result ≡ list_any (λ q. bytes_eq q.now name.now) queues.now }
+fn is_queue(queues: &[QueueDecl], name: &[u8]) -> bool
+    ensures { result ≡ list_any (λ q. bytes_eq (string_bytes q.name) name.now) queues.now }
 {
-    queues.iter().any(|queue| *queue == name)
+    queues.iter().any(|queue| queue.name.as_bytes() == name)
+}
+
+/// The number of the queue of that name.
+pub(crate) fn queue_of(queues: &[QueueDecl], name: &[u8]) -> Option<usize>
+    ensures number { result ≡ position (λ q. bytes_eq (string_bytes q.name) name.now) queues.now }
+    ensures within { IfSome result (λ i. i < length queues.now) }
+{
+    queues
+        .iter()
+        .position(|queue| queue.name.as_bytes() == name)
 }
 
 /// Whether the name is in scope there, of whatever kind.

@@ -3,16 +3,18 @@ ghost use Rattle.std.specs.Prelude.{◌≡◌, ◌≤◌, [], Ok, length, IfOk, 
 ghost use Rattle.fx_term.specs.Code.{IsCode};
 ghost use Rattle.fx_term.specs.Meaning.{root_term};
 ghost use Rattle.fx_term.specs.Tree.{IsOneTree};
-ghost use Rattle.fx_text.specs.Limits.{most_bytes, most_nodes};
+ghost use Rattle.fx_text.specs.Limits.{most_bytes, most_queues, most_nodes};
 ghost use Rattle.fx_text.specs.Token.{next};
-ghost use Rattle.fx_text.specs.Reading.{Meaning, last, top_opening_at, script_at, reading};
+ghost use Rattle.fx_text.specs.Reading.{Meaning, last, main_at, script_at, reading};
 ghost use Rattle.fx_text.specs.Grammar.{IsScript};
 ghost use Rattle.fx_text.specs.Given.{Gives};
+ghost use Rattle.fx_text.specs.QueuesView.{view_queues};
 ghost use Rattle.fx_text.specs.View.{Answers, meaning};
 
-use crate::fault::{Fault, ReadError, TextFault, TextKind};
-use crate::part::{closing, main_word, refused};
+use crate::fault::{ReadError, TextFault, TextKind};
+use crate::part::{closing, refused};
 use crate::place::Place;
+use crate::queues::{QueueDecl, queues};
 use crate::reader::Reader;
 use crate::token::{Token, next};
 use fx_term::{Code, CodeFault, Node};
@@ -23,13 +25,6 @@ const MOST_BYTES: usize = 65536;
 
 /// The most `(` that may be open inside main, which has the first of 100.
 const MOST_OPEN: usize = 99;
-
-/// A queue of a script.
-#[derive(Drop)]
-pub struct QueueDecl {
-    pub name: String,
-    pub cap: u32,
-}
 
 /// A script: its term as checked code, and its queues in the order of the text.
 #[derive(Drop)]
@@ -59,12 +54,15 @@ pub fn parse(alloc: Global, text: &[u8]) -> Result<Script, TextFault>
     ensures only { (m : Meaning) → IsScript text.now m → Answers meaning result (Ok m) }
     // Which fault it is, and where.
     ensures exact { Answers meaning result (reading text.now) }
+    // The nodes may name the queues of the script.
+    ensures queues { IfOk result (λ s. s.code.queues ≡ length s.queues.items) }
 {
     read_all(alloc, text)
 }
 
 fn read_all(alloc: Global, text: &[u8]) -> Result<Script, TextFault>
-    ensures { Answers meaning result (reading text.now) }
+    ensures read { Answers meaning result (reading text.now) }
+    ensures queues { IfOk result (λ s. s.code.queues ≡ length s.queues.items) }
 {
     if text.len() > MOST_BYTES {
         return Err(TextFault {
@@ -78,61 +76,47 @@ fn read_all(alloc: Global, text: &[u8]) -> Result<Script, TextFault>
     }
 }
 
+#[tactic(auto, unfolding(crate::specs::Reading::script_at))]
 fn read_script(alloc: Global, text: &[u8]) -> Result<Script, ReadError>
     requires { length text.now ≤ most_bytes }
-    ensures { Gives meaning result (script_at text.now) }
+    ensures read { Gives meaning result (script_at text.now) }
+    ensures queues { IfOk result (λ s. s.code.queues ≡ length s.queues.items) }
 {
-    let nodes = main_nodes(alloc, text)?;
-    let code = checked(alloc, nodes)?;
-    Ok(Script {
-        code,
-        queues: Vec::new(alloc),
-    })
+    let (queues, rest) = queues(alloc, text)?;
+    let nodes = main_nodes(alloc, &queues, rest)?;
+    let code = checked(alloc, nodes, queues.len() as u8)?;
+    Ok(Script { code, queues })
 }
 
-/// The nodes of main, of which the last is the root.
-#[tactic(auto, unfolding(crate::specs::Reading::script_at))]
-fn main_nodes(alloc: Global, text: &[u8]) -> Result<Vec<Node>, ReadError>
-    requires { length text.now ≤ most_bytes }
-    ensures read { Gives (λ nodes. record { queues = []; term = root_term nodes.items }) result
-        (script_at text.now) }
+/// The nodes of main, of which the last is the root, from what comes after the word `main`.
+fn main_nodes<'a>(
+    alloc: Global,
+    queues: &'a [QueueDecl],
+    bytes: &'a [u8],
+) -> Result<Vec<Node>, ReadError>
+    requires short { length bytes.now ≤ most_bytes }
+    requires few { length queues.now ≤ most_queues }
+    ensures read { Gives
+        (λ nodes. record { queues = view_queues queues.now; term = root_term nodes.items }) result
+        (main_at (view_queues queues.now) bytes.now) }
     ensures tree { IfOk result (λ nodes. IsOneTree nodes.items) }
     ensures short { IfOk result (λ nodes. length nodes.items ≤ most_nodes) }
 {
-    let rest = top_opening(text)?;
-    let rest = main_word(rest)?;
     let mut reader = Reader {
         alloc,
         names: Vec::new(alloc),
         place: Place {
             turns: 1,
             foreign: 0,
-            queues: &[],
+            queues,
         },
         nodes: Vec::new(alloc),
         needs: Vec::new(alloc),
     };
-    let (_root, rest) = reader.term(MOST_OPEN, rest)?;
+    let (_root, rest) = reader.term(MOST_OPEN, bytes)?;
     let rest = closing(rest)?;
     last(rest)?;
     Ok(reader.nodes)
-}
-
-/// The `(` of main.
-#[tactic(auto, unfolding(crate::specs::Reading::top_opening_at))]
-fn top_opening(bytes: &[u8]) -> Result<&[u8], ReadError>
-    ensures read { Gives (λ x. (tt, x.now)) result (top_opening_at bytes.now) }
-    ensures within { IfOk result (λ x. length x.now ≤ length bytes.now) }
-{
-    let lexeme = next(bytes);
-    match lexeme.token {
-        Token::Open => Ok(lexeme.rest),
-        Token::End => Err(ReadError::Fault(Fault {
-            kind: TextKind::Main,
-            left: lexeme.from,
-        })),
-        _ => Err(refused(TextKind::Form, lexeme)),
-    }
 }
 
 /// Nothing comes after main.
@@ -148,12 +132,13 @@ fn last(bytes: &[u8]) -> Result<(), ReadError>
 }
 
 /// The nodes as a code, which they are.
-fn checked(alloc: Global, nodes: Vec<Node>) -> Result<Code, ReadError>
-    requires { IsCode 0 nodes.items }
+fn checked(alloc: Global, nodes: Vec<Node>, queues: u8) -> Result<Code, ReadError>
+    requires { IsCode queues nodes.items }
     ensures code { IfOk result (λ code. code.nodes ≡ nodes.items) }
+    ensures queues { IfOk result (λ code. code.queues ≡ queues) }
     ensures only_memory { IsOkUnless result ReadError.Memory }
 {
-    match Code::build(alloc, nodes, 0) {
+    match Code::build(alloc, nodes, queues) {
         Ok(code) => Ok(code),
         Err(CodeFault::Memory) => Err(ReadError::Memory),
         Err(CodeFault::Child(_) | CodeFault::Slot(_) | CodeFault::Kind(_) | CodeFault::Limit(_)) =>

@@ -48,6 +48,7 @@ pub(crate) enum Double {
     If(Arg),
     Start(u32),
     Race(RaceSlots),
+    TryTake(u8, u32),
     OnCancel,
     Guarantee,
 }
@@ -107,6 +108,10 @@ impl<'a> Reader<'a> {
             Form::Cancel => self.cancel_head(bytes),
             Form::First => self.first_head(bytes),
             Form::Race => self.race_head(bytes),
+            Form::Offer => self.offer_head(bytes),
+            Form::Take => self.take_head(bytes),
+            Form::TryOffer => self.try_offer_head(bytes),
+            Form::TryTake => self.try_take_head(bytes),
         }
     }
 
@@ -156,6 +161,7 @@ impl<'a> Reader<'a> {
             Double::If(v) => self.add(Node::If(v, first, second)),
             Double::Start(slot) => self.add(Node::Start(slot, first, second)),
             Double::Race(slots) => self.race_node(slots, first, second),
+            Double::TryTake(queue, slot) => self.add(Node::TryTake(queue, slot, first, second)),
             Double::OnCancel => self.add(Node::OnCancel(first, second)),
             Double::Guarantee => self.guarantee_node(first, second),
         }

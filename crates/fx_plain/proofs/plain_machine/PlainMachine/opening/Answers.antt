@@ -14,8 +14,8 @@ use Rattle.fx_plain.proofs.PlainMachineSteps.{same_made}
 use Rattle.fx_plain.proofs.PlainMachineOpening.{opening_stands_for}
 use Rattle.fx_plain.proofs.plain_machine.PlainMachine.opening.Goals as goal
 
-pub returns : goal.returns
-returns g c =
+pub returns-clause-stands : goal.returns-clause-stands
+returns-clause-stands g c =
     let nodes = c.args.script.now.code.nodes in
     let script = script_of (meaning c.args.script.now) in
     let world = c.in_ok-world.ensures.world in

@@ -22,6 +22,7 @@ returns-in-Elsewhere c =
       outside = omega (arith, all);
       some_turns = c.requires.some;
       few_turns = c.requires.few;
+      few_queues = c.requires.queues;
     })
 
 pub returns-in_ok-push-in-RaceLeft : goal.returns-in_ok-push-in-RaceLeft
@@ -43,6 +44,7 @@ returns-in_ok-push-in-RaceLeft c =
       outside = omega (arith, all);
       some_turns = c.requires.some;
       few_turns = c.requires.few;
+      few_queues = c.requires.queues;
     })
 
 pub returns-in_ok-push-in-RaceRight-2 : goal.returns-in_ok-push-in-RaceRight-2
@@ -73,4 +75,5 @@ returns-in_ok-push-in-RaceRight-2 c =
       outside = omega (arith, all);
       some_turns = c.requires.some;
       few_turns = c.requires.few;
+      few_queues = c.requires.queues;
     })
