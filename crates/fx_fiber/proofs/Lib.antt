@@ -48,6 +48,7 @@ pub mod StepLabels
 pub mod StartLaws
 pub mod RangeLaws
 pub mod PutsLaws
+pub mod QueueNames
 pub mod OutcomeLaws
 pub mod WaitingLaws
 pub mod ShownLabels

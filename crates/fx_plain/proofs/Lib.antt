@@ -21,9 +21,13 @@ pub mod Rows
 pub mod TextRows
 pub mod WholeMachineWork
 pub mod Bits
+pub mod Capacities
+pub mod PutCounts
+pub mod WorldQueues
 pub mod Members
 pub mod Marks
 pub mod LeastMember
+pub mod LeastReady
 pub mod OnTheWay
 pub mod ReadyFibers
 pub mod ClassesKept
@@ -35,11 +39,13 @@ pub mod WorldLaws
 pub mod WorldSteps
 pub mod Written
 pub mod QueueNames
+pub mod TraceNames
 pub mod WorldClasses
 pub mod WaitSteps
 pub mod NumbersUpTo
 pub mod PlainMachineSteps
 pub mod PlainMachineTries
+pub mod PlainMachineWaking
 pub mod PlainMachineOpening
 pub mod PlainMachineWay
 pub mod PlainMachineWork

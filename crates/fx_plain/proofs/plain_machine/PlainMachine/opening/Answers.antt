@@ -32,4 +32,5 @@ returns-clause-stands g c =
     c.in_ok-fiber.ensures.trace c.in_ok-fiber.ensures.counts
     (ap (λ (n : List Node). progress n c.in_ok-fiber.fiber) (sym c.requires.code) ∙ c.in_ok-fiber.ensures.progress))
     (ap (λ (q : PortView). q.number) port)
+    (ap (λ (q : PortView). q.put_counts) port)
     c.in_ok-fiber.ensures.trace
