@@ -24,7 +24,7 @@ use Rattle.fx_fiber.proofs.StartLaws.{StartsRightly, IsStartRight, run_starts, S
 
 module _ (s : ScriptView) (r : ReportView) (starters : HasStarters r) (runs : HasRuns s r) (origins : HasOrigins s r runs) where
   -- the parent's trace starts the fiber once
-  started_once : (f p : ℕ) (x y : FiberReportView) → fiber_in r f ≡ Some x → x.parent ≡ Some p → fiber_in r p ≡ Some y → starts_of f y.trace ≡ 1
+  pub started_once : (f p : ℕ) (x y : FiberReportView) → fiber_in r f ≡ Some x → x.parent ≡ Some p → fiber_in r p ≡ Some y → starts_of f y.trace ≡ 1
   started_once f p x y at parent at_p =
       let named : parent_in r f ≡ Some p = rw at parent in
       starters.once p y at_p f ∙ (rw named (rw (eq-eqb p p refl) refl))

@@ -10,6 +10,7 @@ pub mod Nodes
 pub mod Leaves
 pub mod Results
 pub mod Loops
+pub mod Reports
 pub mod Resources
 pub mod Unwindings
 pub mod Ends
@@ -42,14 +43,12 @@ pub mod MaskedRuns
 pub mod MaskEntering
 pub mod MaskLaws
 pub mod Mapped
-pub mod Names
-pub mod Simple
 pub mod Moves
-pub mod Nexts
 pub mod StepLabels
 pub mod StartLaws
 pub mod RangeLaws
 pub mod PutsLaws
+pub mod QueueNames
 pub mod OutcomeLaws
 pub mod WaitingLaws
 pub mod ShownLabels
@@ -62,3 +61,8 @@ pub mod Starts
 pub mod AllWork
 pub mod LeavesBelow
 pub mod WaitsBelow
+pub mod Appended
+pub mod Takes
+pub mod OneOrder
+pub mod EventLabels
+pub mod CausesFound

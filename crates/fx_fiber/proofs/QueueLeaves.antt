@@ -9,13 +9,13 @@ use Rattle.fx_term.specs.declared.node.Node.TheVariants as node
 use Rattle.fx_term.specs.declared.done.Done.{Done}
 use Rattle.fx_term.specs.declared.done.Done.TheVariants.{Val}
 use Rattle.fx_term.specs.declared.event.Event.TheVariants as event
-use Rattle.fx_term.specs.Term.{Term, Offer, TryOffer, TryTake, Finished, put}
+use Rattle.fx_term.specs.Term.{Offer, TryOffer, Finished, put}
 use Rattle.fx_term.specs.Fill.{fill_arg}
 use Rattle.fx_term.specs.Registers.{with_number}
 use Rattle.fx_term.specs.Scope.{IsArgBelow, HasLevels}
 use Rattle.fx_term.specs.Meaning.{term_of}
 use Rattle.fx_term.proofs.RegisterLaws.{with_again, length_with}
-use Rattle.fx_fiber.specs.Row.{Counts, Shows, offered, tried_offer, refused, taken, tried_take, found_empty}
+use Rattle.fx_fiber.specs.Row.{Shows, offered, tried_offer, refused, taken, tried_take, found_empty}
 use Rattle.fx_fiber.specs.Step.{leaf_at, Step}
 use Rattle.fx_fiber.specs.declared.machine.focus.Focus.TheVariants.{Eval, Return}
 use Rattle.fx_fiber.specs.declared.machine.Machine.{Machine}

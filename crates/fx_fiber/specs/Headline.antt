@@ -1,5 +1,5 @@
 -- What a lawful report says once all its fibers have ended.
-use Rattle.std.specs.Prelude.{◌≡◌, ℕ, true, Some, None, List, ◌++◌, slice_get}
+use Rattle.std.specs.Prelude.{◌≡◌, ℕ, Bool, true, Some, None, List, ◌++◌, slice_get}
 use Rattle.fx_term.specs.declared.outcome.Outcome.{Outcome}
 use Rattle.fx_term.specs.declared.event.Event.{Event}
 use Rattle.fx_term.specs.declared.queue_event.QueueEvent.{QueueEvent}
@@ -10,7 +10,7 @@ use Rattle.fx_fiber.specs.Run.{first_counts}
 use Rattle.fx_fiber.specs.Balanced.{IsBalanced}
 use Rattle.fx_fiber.specs.PairedMasks.{CancelsWhereOpened}
 use Rattle.fx_fiber.specs.Report.{FiberReportView, ReportView, fiber_in, trace_in, left_in, outcome_shown}
-use Rattle.fx_fiber.specs.LawfulReport.{HasRuns, EndsWith}
+use Rattle.fx_fiber.specs.LawfulReport.{HasRuns, EndsWith, IsLawfulReport}
 
 -- One order of the events of a queue, which keeps each fiber's own and leaves what is left; its takes, then what is left, cut to one fiber's offers, are that
 -- fiber's accepted offers, each once
@@ -43,3 +43,8 @@ pub record HoldsWhatIsPromised (s : ScriptView) (r : ReportView) (runs : HasRuns
 -- every fiber of the report has ended
 abbrev pub AllEnded : ReportView → Type 0
 AllEnded r = (f : ℕ) (x : FiberReportView) → fiber_in r f ≡ Some x → x.has_ended ≡ true
+
+-- a lawful report that holds what is promised if every fiber of it has ended
+pub record KeepsWhatIsPromised (s : ScriptView) (may : ℕ → Bool) (r : ReportView) : Type 0 where
+  pub lawful : IsLawfulReport s may r
+  pub promised : AllEnded r → HoldsWhatIsPromised s r lawful.runs

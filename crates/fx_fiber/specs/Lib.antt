@@ -17,7 +17,6 @@ pub mod Balanced
 pub mod PairedMasks
 pub mod MaskLaws
 pub mod Work
-pub mod Simple
 pub mod Scopes
 pub mod Outside
 pub mod Closed

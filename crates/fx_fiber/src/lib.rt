@@ -24,7 +24,10 @@
 //! | `join`, once that fiber has ended | any or none | `joined` |
 //! | `cancel`; then, once that fiber has ended | any or none | `request`; `awaited` |
 //! | `first`, once the left fiber has ended; else the right one | any or none | `first_left`; `first_right` |
+//! | `offer`, once the queue has room; `take`, once it has an element | any or none | `offered`; `taken` |
 //! | one of these before | any or none | none: the fiber waits |
+//! | `tryoffer` where the queue has room; where it is full | any or none | `tried_offer`; `refused` |
+//! | `trytake` where the queue has an element; where it is empty | any or none | `tried_take`; `found_empty` |
 //! | a value | a `let`, or a turn of a loop; a `handle`; none | `let_value`; `handle_value`; `succeeds` |
 //! | an error | a `let`, or a turn of a loop; a `handle`; none | `let_error`; `handle_error`; `errs` |
 //! | a value or an error | a mask; a poll; an `oncancel` | `masked_ends`; `opened_ends`; `oncancel_ends` |
@@ -35,8 +38,10 @@
 //! Each rule is made by one method of its name, in the file of its forms. But `unwinds` makes the three
 //! rules `finalizer`, `release` and `unwound`; and a turn of a loop stands in a `let` without a name, so
 //! that its end is `let_value` or `let_error`, made by `turn_value` and `turn_error`. `join` makes the
-//! rule `joined`, `awaits` the rule `awaited`, and `first` the rules `first_left` and `first_right`; and
-//! `start` is a function beside the machine, since it makes a fiber over a port of its own.
+//! rule `joined`, `awaits` the rule `awaited`, and `first` the rules `first_left` and `first_right`;
+//! `offer` makes the rule `offered`, `take` the rule `taken`, `try_offer` the rules `tried_offer` and
+//! `refused`, and `try_take` the rules `tried_take` and `found_empty`; and `start` is a function beside
+//! the machine, since it makes a fiber over a port of its own.
 //!
 //! The answer of a step is [`Stepped::Gave`] exactly where its rule is `cede`, [`Stepped::Waits`]
 //! exactly where it made none, and [`Stepped::Child`] where it started a fiber. A fiber that waits at an

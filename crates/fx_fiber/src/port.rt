@@ -81,12 +81,7 @@ pub trait Port: Sized {
 
     /// Puts this value at the back of a queue, where it has room (`tryOffer`). A queue that there is
     /// not has none.
-    fn offer(
-        &mut self,
-        shared: &mut Self::Shared,
-        queue: u8,
-        value: u64,
-    ) -> Result<Offered, Memory>
+    fn offer(&mut self, shared: &mut Self::Shared, queue: u8, value: u64) -> Result<Offered, Memory>
         requires countable { puts self.old < 2 ^ 63 }
         ensures told { IfOk result (λ answer.
             calls.offers self.old shared.old queue value answer self.new shared.new) }

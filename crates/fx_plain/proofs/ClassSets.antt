@@ -1,16 +1,15 @@
 -- Lists of classes, and the sets that stand for them, as one fiber comes into another class.
-use Rattle.std.proofs.Common.{◌≡◌, ℕ, ◌<◌, Bool, false, List, length, map, replicate, sym, ◌∙◌, ap, inl, inr, arith}
+use Rattle.std.proofs.Common.{◌≡◌, ℕ, ◌<◌, List, length, map, replicate, refl, sym, ◌∙◌, ap, inl, inr, arith}
 use Rattle.std.proofs.Common.{get_or-set_same, get_or-set_other, length-set}
-use Rattle.std.specs.Prelude.{slice_set, Some, None, Option}
+use Rattle.std.specs.Prelude.{slice_set}
 use Rattle.std.proofs.Math.ListN.{get_or-map}
 use Rattle.std.proofs.lemmas.Bool.{cases_eq, cases_lt}
 use Rattle.std.proofs.lemmas.List.{get_or_past, get_or-replicate, length-map, length-replicate}
 use Rattle.fx_plain.specs.declared.class.Class.{Class}
 use Rattle.fx_plain.specs.declared.class.Class.TheVariants.{Unstarted, Over}
-use Rattle.fx_plain.specs.NumberSet.{IsLeastOf}
 use Rattle.fx_plain.specs.WholeMachine.{with_at}
 use Rattle.fx_plain.specs.Classes.{class_requested, class_at_end, requested_classes, ended_classes}
-use Rattle.fx_plain.specs.ClassSets.{class_at, with_request, with_end, is_able, waits_for_outcome, IsSetOf, AreSets}
+use Rattle.fx_plain.specs.ClassSets.{ClassesView, class_at, with_request, with_end}
 use Rattle.fx_plain.proofs.Maps.{at_that, at_other}
 
 -- before any start each is unstarted
@@ -54,31 +53,9 @@ module _ (classes : List Class) (f : ℕ) where
           ∙ sym (at_other f Over (λ h. class_at_end f (class_at classes h)) g apart)
     ]
 
-    -- the number is put into the set where its new class passes the test, and else taken out
-    pub set_moved : (k : Class) (test : Class → Bool) (set set' : ℕ → Bool) → IsSetOf test classes set → ((g : ℕ) → set' g ≡ with_at f (test k) set g)
-        → IsSetOf test (slice_set classes f k) set'
-    set_moved k test set set' is moved g = moved g ∙ elim (cases_eq g f) [
-      | inl same ↦ at_that f (test k) set g same ∙ sym (ap test (class_at_set k lt g ∙ at_that f k (class_at classes) g same))
-      | inr apart ↦ at_other f (test k) set g apart ∙ is g ∙ sym (ap test (class_at_set k lt g ∙ at_other f k (class_at classes) g apart))
-    ]
+abbrev pub as_view : List Class → ℕ → ClassesView
+as_view classes queues = record { of = classes; queues = queues }
 
-    pub sets_moved : (k : Class) (able able' for_outcomes for_outcomes' : ℕ → Bool) → AreSets classes able for_outcomes
-        → ((g : ℕ) → able' g ≡ with_at f (is_able k) able g) → ((g : ℕ) → for_outcomes' g ≡ with_at f (waits_for_outcome k) for_outcomes g)
-        → AreSets (slice_set classes f k) able' for_outcomes'
-    sets_moved k able able' for_outcomes for_outcomes' are e h = record {
-      able_is = set_moved k is_able able able' are.able_is e;
-      for_outcomes_is = set_moved k waits_for_outcome for_outcomes for_outcomes' are.for_outcomes_is h;
-    }
-
--- where no number is in a set, and each is unstarted
-pub empty_sets : (n : ℕ) (able for_outcomes : ℕ → Bool) → ((f : ℕ) → able f ≡ false) → ((f : ℕ) → for_outcomes f ≡ false)
-    → AreSets (replicate n Unstarted) able for_outcomes
-empty_sets n able for_outcomes e h = record {
-  able_is = λ f. e f ∙ sym (ap is_able (unstarted n f));
-  for_outcomes_is = λ f. h f ∙ sym (ap waits_for_outcome (unstarted n f));
-}
-
--- a set with the same numbers has the same least one
-pub least_same : (a b : ℕ → Bool) (least : Option ℕ) → ((n : ℕ) → a n ≡ b n) → IsLeastOf a least → IsLeastOf b least
-least_same a b None e h = λ n. sym (e n) ∙ h n
-least_same a b (Some m) e h = (sym (e m) ∙ h.0, λ k lt. sym (e k) ∙ h.1 k lt)
+pub same_view : {classes classes' : List Class} {queues queues' : ℕ} → classes ≡ classes' → queues ≡ queues'
+    → as_view classes queues ≡ as_view classes' queues'
+same_view e f = rw (e, f) refl

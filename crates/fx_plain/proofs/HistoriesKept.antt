@@ -26,7 +26,7 @@ use Rattle.fx_plain.proofs.WholeMachineSteps.{still_itself, still_other, still_n
 use Rattle.fx_plain.proofs.RangesKept.{HasRanges, fresh, child_is_another}
 use Rattle.fx_plain.proofs.FamilyKept.{labels_of_fiber, labels_of}
 
-abbrev capacity_of : ScriptView → ℕ → ℕ
+abbrev pub capacity_of : ScriptView → ℕ → ℕ
 capacity_of s q = slice_index s.capacities q
 
 pub record HasHistories (s : ScriptView) (m : WholeMachine) : Type 0 where
@@ -151,7 +151,7 @@ module _ (s : ScriptView) (m : WholeMachine) (f : ℕ) (x : StartedFiber) (d : C
 
   module _ (l : Label) (st : Step x.counts x.progress l d p) where
     -- the labels of the other fibers are as they were
-    labels_of_other : (g : ℕ) → (g ≡ f → ⊥) → labels_of (moved m f x l d p) g ≡ labels_of m g
+    pub labels_of_other : (g : ℕ) → (g ≡ f → ⊥) → labels_of (moved m f x l d p) g ≡ labels_of m g
     labels_of_other g ne = by_fiber (m.fibers g) refl
       where
         free : (l : Label) → Step x.counts x.progress l d p → m.fibers g ≡ None → labels_of (moved m f x l d p) g ≡ []
@@ -197,3 +197,8 @@ module _ (s : ScriptView) (m : WholeMachine) (f : ℕ) (x : StartedFiber) (d : C
       items = λ q. (goes_on q l (step_tells st).proper a).items_are;
       cuts = cuts_kept;
     }
+
+    -- each history grows by what the step did to its queue
+    pub histories_grow : (a : IsAnswered s m f l) (q : ℕ) → (histories_kept a).history q ≡ h.history q ++ queue_events q f (events (l ∷ []))
+    unfolding histories_kept
+    histories_grow a q = refl

@@ -4,7 +4,7 @@ use Rattle.std.proofs.Common.{arith, inl, inr, le_refl, Contains}
 use Rattle.std.specs.Prelude.{◌==◌, ◌||◌, slice_index}
 use Rattle.std.specs.List.{find, list_any}
 use Rattle.std.specs.List.Sorted.{IsStrictlyIncreasing}
-use Rattle.std.proofs.lemmas.Bool.{cases_order, cases_eq, eq-eqb, ne_eqb, or_cases, or_left, or_right}
+use Rattle.std.proofs.lemmas.Bool.{cases_order, cases_eq, eq-eqb, eqb-true, ne_eqb, or_cases, or_left, or_right}
 use Rattle.std.proofs.lemmas.Option.{none-some, same_Some}
 
 module _ {X : Type 0} (key : X → ℕ) where
@@ -101,3 +101,11 @@ pub contained_passes : (ns : List ℕ) (n : ℕ) → Contains ns n → list_any 
 contained_passes [] n h = absurd (let lt = h.1 in omega arith)
 contained_passes (m ∷ ns) n (zero, lt, e) = or_left (m == n) _ (eq-eqb m n e)
 contained_passes (m ∷ ns) n (suc k, lt, e) = or_right (m == n) _ (contained_passes ns n (k, omega arith, e))
+
+-- and one that passes is a number of the list
+pub passing_contained : (ns : List ℕ) (n : ℕ) → list_any (λ m. m == n) ns ≡ true → Contains ns n
+passing_contained [] n e = absurd cc
+passing_contained (m ∷ ns) n e = elim (or_cases (m == n) (list_any (λ m. m == n) ns) e) [
+  | inl here ↦ (0, omega arith, eqb-true m n here)
+  | inr later ↦ (let h = passing_contained ns n later in (suc h.0, (let lt = h.1 in omega arith), h.2))
+]

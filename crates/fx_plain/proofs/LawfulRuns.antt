@@ -19,13 +19,16 @@ use Rattle.fx_text.specs.declared.pick.Pick.{Pick}
 use Rattle.fx_term.specs.declared.item.Item.{Item}
 use Rattle.fx_term.specs.Queue.{queue_events}
 use Rattle.fx_fiber.specs.Outside.{outcome_at, Outside, can_step}
+use Rattle.fx_term.specs.Forms.{IsCore}
 use Rattle.fx_term.specs.Script.{ScriptView, total}
 use Rattle.fx_fiber.specs.Report.{FiberReportView, ReportView, fiber_in, parent_of_report, parent_in, trace_of_report, trace_in, outcome_shown, is_request_for}
 use Rattle.fx_fiber.specs.Report.{is_requested_in, final_outside}
 use Rattle.fx_fiber.specs.LawfulReport.{starts_of, is_parent, HasStarters, HasRun, HasRuns, BeginsAs, HasOrigins, HasHistory, IsLearnt, IsSeenRightly}
 use Rattle.fx_fiber.specs.LawfulReport.{IsLawfulReport}
+use Rattle.fx_fiber.specs.Headline.{KeepsWhatIsPromised}
+use Rattle.fx_fiber.proofs.HeadlineLaws.{ended_report_holds}
 use Rattle.fx_plain.specs.WholeMachine.{StartedFiber, WholeMachine, Move, opening, outcome_of_fiber, outcome_of, outside_of, can_step_fiber, can_step_in}
-use Rattle.fx_plain.specs.WholeMachine.{FiberSteps, requested_from_outside}
+use Rattle.fx_plain.specs.WholeMachine.{moved, FiberSteps, requested_from_outside}
 use Rattle.fx_plain.specs.Chosen.{IsChosen, step, no_step, request, no_request, least, rests, report_of_fiber, IsReportOf, IsReplay}
 use Rattle.fx_plain.proofs.Maps.{same_tests}
 use Rattle.fx_plain.proofs.RangesKept.{HasRanges, opening_has_ranges, ranges_kept}
@@ -55,16 +58,24 @@ opening_is_kept s =
           opening_has_histories s;
     }
 
-pub step_keeps : (s : ScriptView) (m : WholeMachine) (f : ℕ) (l : Label) (m' : WholeMachine) → FiberSteps s m f l m' → IsKept s m → IsKept s m'
-step_keeps s m f l m' st k = rw st.after (record {
+-- what a step leaves
+abbrev pub after_step : {s : ScriptView} {m : WholeMachine} {f : ℕ} {l : Label} {m' : WholeMachine} → FiberSteps s m f l m' → WholeMachine
+after_step {m = m} {f = f} {l = l} st = moved m f st.fiber l st.counts st.progress
+
+abbrev pub moved_keeps : (s : ScriptView) (m : WholeMachine) (f : ℕ) (l : Label) (m' : WholeMachine) (st : FiberSteps s m f l m') → IsKept s m
+    → IsKept s (after_step st)
+moved_keeps s m f l m' st k = record {
   ranges = ranges_kept s m f st.fiber st.counts st.progress st.started k.ranges l st.step;
   family = family_kept s m f st.fiber st.counts st.progress st.started k.ranges k.family l st.step;
   so = are_so_kept s m f st.fiber st.counts st.progress st.started k.ranges l st.step st.answered k.so;
   requests = requests_kept s m f st.fiber st.counts st.progress st.started k.ranges l st.step k.requests;
   histories = histories_kept s m f st.fiber st.counts st.progress st.started k.ranges k.histories l st.step st.answered;
-})
+}
 
-pub request_keeps : (s : ScriptView) (m : WholeMachine) (f : ℕ) → f < total s → IsKept s m → IsKept s (requested_from_outside f m)
+pub step_keeps : (s : ScriptView) (m : WholeMachine) (f : ℕ) (l : Label) (m' : WholeMachine) → FiberSteps s m f l m' → IsKept s m → IsKept s m'
+step_keeps s m f l m' st k = rw st.after (moved_keeps s m f l m' st k)
+
+abbrev pub request_keeps : (s : ScriptView) (m : WholeMachine) (f : ℕ) → f < total s → IsKept s m → IsKept s (requested_from_outside f m)
 request_keeps s m f lt k = record {
   ranges = record {
     room = k.ranges.room;
@@ -136,7 +147,7 @@ module _ (s : ScriptView) (m : WholeMachine) (r : ReportView) (rep : IsReportOf 
   parent_same : (f : ℕ) → parent_in r f ≡ parent_of m f
   parent_same f = ap parent_of_report (rep.fibers f) ∙ parent_of_told f (m.fibers f)
 
-  trace_same : (f : ℕ) → trace_in r f ≡ events (labels_of m f)
+  pub trace_same : (f : ℕ) → trace_in r f ≡ events (labels_of m f)
   trace_same f = ap trace_of_report (rep.fibers f) ∙ trace_of_told f (m.fibers f)
 
   starters_told : HasStarters r
@@ -286,6 +297,21 @@ module _ (s : ScriptView) (m : WholeMachine) (r : ReportView) (rep : IsReportOf 
       outside_named = λ f h. (kept.requests.below f (sym (rep.outside f) ∙ contained_passes r.outside f h), refl);
     }
 
+    -- it is so by the labels of the whole machine's fibers, and by the queues as they are left
+    pub labels_told : report_is_lawful.runs.labels ≡ labels_of m
+    unfolding report_is_lawful runs_told
+    labels_told = refl
+
+    pub queues_told : (q capacity : ℕ) (at : slice_get s.capacities q ≡ Some capacity)
+        → (report_is_lawful.histories q capacity at).leaves.last ≡ kept.histories.state q
+    unfolding report_is_lawful runs_told history_told
+    queues_told q capacity at = refl
+
 -- the report of the run that picks choose is lawful, where every number may be requested from outside
 pub replay_is_lawful : (s : ScriptView) (ps : List Pick) (r : ReportView) → IsReplay s ps r → IsLawfulReport s (λ f. true) r
 replay_is_lawful s ps r h = report_is_lawful s h.last r h.report (chosen_keeps s h.chosen (opening_is_kept s)) (chosen_rests s h.chosen)
+
+-- where its fibers have all ended it holds what is promised
+pub replay_keeps_promises : (s : ScriptView) (ps : List Pick) (r : ReportView) → IsCore s.term → IsReplay s ps r → KeepsWhatIsPromised s (λ f. true) r
+replay_keeps_promises s ps r core h =
+    let lawful = replay_is_lawful s ps r h in record { lawful = lawful; promised = ended_report_holds s (λ f. true) r core lawful }

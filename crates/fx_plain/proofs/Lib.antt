@@ -7,6 +7,9 @@ pub mod RunsKept
 pub mod Keys
 pub mod LawfulRuns
 pub mod RunLaws
+pub mod Moments
+pub mod CausesKept
+pub mod ReplayOrder
 pub mod StepsCan
 pub mod ComputedSteps
 pub mod ComputedRuns
@@ -18,9 +21,13 @@ pub mod Rows
 pub mod TextRows
 pub mod WholeMachineWork
 pub mod Bits
+pub mod Capacities
+pub mod PutCounts
+pub mod WorldQueues
 pub mod Members
 pub mod Marks
 pub mod LeastMember
+pub mod LeastReady
 pub mod OnTheWay
 pub mod ReadyFibers
 pub mod ClassesKept
@@ -32,11 +39,13 @@ pub mod WorldLaws
 pub mod WorldSteps
 pub mod Written
 pub mod QueueNames
+pub mod TraceNames
 pub mod WorldClasses
 pub mod WaitSteps
 pub mod NumbersUpTo
 pub mod PlainMachineSteps
 pub mod PlainMachineTries
+pub mod PlainMachineWaking
 pub mod PlainMachineOpening
 pub mod PlainMachineWay
 pub mod PlainMachineWork

@@ -1,7 +1,8 @@
 -- Maps by number, and lists.
-use Rattle.std.proofs.Common.{◌≡◌, ℕ, Bool, true, false, refl, sym}
-use Rattle.std.specs.Prelude.{◌==◌}
-use Rattle.std.proofs.lemmas.Bool.{eq-eqb, ne_eqb}
+use Rattle.std.proofs.Common.{◌≡◌, ℕ, Bool, true, false, replicate, refl, sym, inl, inr, arith}
+use Rattle.std.specs.Prelude.{◌==◌, slice_index_or}
+use Rattle.std.proofs.lemmas.Bool.{eq-eqb, ne_eqb, cases_lt}
+use Rattle.std.proofs.lemmas.List.{get_or_past, get_or-replicate, length-replicate}
 use Rattle.fx_plain.specs.WholeMachine.{with_at}
 
 pub same_number : (n : ℕ) → (n == n) ≡ true
@@ -21,3 +22,10 @@ pub same_tests : (a b : Bool) → (a ≡ true → b ≡ true) → (b ≡ true �
 same_tests true b f g = sym (f refl)
 same_tests false true f g = g refl
 same_tests false false f g = refl
+
+-- a list of one element many times has it everywhere, where it is what is read past the end
+pub replicated : {A : Type 0} (n i : ℕ) (a : A) → slice_index_or (replicate n a) i a ≡ a
+replicated n i a = elim (cases_lt i n) [
+  | inl lt ↦ get_or-replicate n i a a lt
+  | inr le ↦ get_or_past (replicate n a) i a (let e = length-replicate n a in omega arith)
+]

@@ -1,17 +1,17 @@
 -- The machine before any step stands for the whole machine before any step.
-use Rattle.std.proofs.Common.{◌≡◌, ℕ, zero, suc, ◌+◌, Option, Some, None, option_map, List, [], ◌∷◌, ◌++◌, map, replicate, refl, sym, ◌∙◌, ap, subst, arith, inl, inr}
-use Rattle.std.specs.Prelude.{slice_index_or}
+use Rattle.std.proofs.Common.{◌≡◌, ℕ, zero, suc, ◌+◌, Option, Some, None, option_map, List, [], ◌∷◌, ◌++◌, length, map, replicate, refl, sym, ◌∙◌, ap, subst, arith, inl, inr}
+use Rattle.std.specs.Prelude.{slice_index, slice_index_or}
 use Rattle.std.proofs.lemmas.Bool.{cases_lt}
 use Rattle.std.proofs.lemmas.List.{get_or_past, get_or-replicate, length-replicate, replicate_more}
-use Rattle.std.proofs.lemmas.List.Elements.{All-nil}
 use Rattle.fx_term.specs.declared.node.Node.{Node}
+use Rattle.fx_term.specs.declared.event.Event.{Event}
+use Rattle.fx_term.specs.Queue.{values_put}
 use Rattle.fx_term.specs.Need.{need}
 use Rattle.fx_term.specs.Script.{ScriptView}
 use Rattle.fx_fiber.specs.Origin.{main_origin}
 use Rattle.fx_plain.specs.declared.plain_machine.Started.{Started}
 use Rattle.fx_plain.specs.declared.plain_machine.PlainMachine.{PlainMachine}
 use Rattle.fx_plain.specs.WholeMachine.{begun, opening}
-use Rattle.fx_term.specs.QueuesNamed.{NamesQueueBelow}
 use Rattle.fx_plain.specs.World.{HeldFiber, held_of, opening_world, opening_held}
 use Rattle.fx_plain.specs.PlainMachine.{held, all_held, IsNumbered, StandsForRun}
 use Rattle.fx_plain.proofs.WorldLaws.{opening_stands}
@@ -30,13 +30,14 @@ module _ {J : Type 0} (nodes : List Node) (s : ScriptView) (p : PlainMachine J) 
   no_places (suc n) = ap (λ (xs : List (Option HeldFiber)). None ∷ xs) (no_places n)
 
   module _ (world : p.world ≡ opening_world s) (fibers : p.fibers.items ≡ Some x ∷ replicate (need s.term) None)
-      (is : held nodes x ≡ held_of (begun None (main_origin s.term))) (number : x.fiber.port.number ≡ 0) (trace : x.fiber.trace ≡ []) where
+      (is : held nodes x ≡ held_of (begun None (main_origin s.term))) (number : x.fiber.port.number ≡ 0) (counts : x.fiber.port.put_counts ≡ [])
+      (trace : x.fiber.trace ≡ []) where
     all_are : all_held nodes p ≡ opening_held s
     all_are = ap (map (option_map (held nodes))) fibers ∙ ap (λ (xs : List (Option HeldFiber)). Some (held nodes x) ∷ xs) (no_places (need s.term))
         ∙ ap (λ (h : HeldFiber). Some h ∷ replicate (need s.term) None) is
 
     numbered : (f : ℕ) → IsNumbered nodes f (slice_index_or (Some x ∷ replicate (need s.term) None) f None)
-    numbered zero = (number, rw trace (All-nil (NamesQueueBelow 0)))
+    numbered zero = (number, λ q. ap (λ (ns : List ℕ). slice_index ns q) counts ∙ sym (ap (λ (es : List Event). length (values_put q es)) trace))
     numbered (suc f) = subst (IsNumbered nodes (suc f)) (sym (none_there f)) tt
       where
         none_there : (i : ℕ) → slice_index_or (replicate (need s.term) nobody) i None ≡ None

@@ -1,10 +1,10 @@
 -- The report of a machine is that of the whole machine for which it stands.
-use Rattle.std.proofs.Common.{◌≡◌, ℕ, zero, suc, ◌+◌, ◌<◌, ◌≤◌, Bool, false, Option, Some, None, option_map, List, [], ◌∷◌, All, length, map, replicate, refl, sym, ◌∙◌, ap, subst, arith}
+use Rattle.std.proofs.Common.{◌≡◌, ℕ, zero, suc, ◌+◌, ◌<◌, ◌≤◌, Bool, false, Option, Some, None, option_map, List, [], ◌∷◌, All, length, map, refl, sym, ◌∙◌, ap, subst, arith}
 use Rattle.std.specs.Prelude.{slice_index_or, if◌then◌else◌}
 use Rattle.std.specs.List.{range_with_len, filter, filter_map, cons_option}
 use Rattle.std.proofs.lemmas.Option.{none-some, same_Some}
-use Rattle.std.proofs.lemmas.List.{length-map, length-replicate}
-use Rattle.std.proofs.lemmas.List.Elements.{All-nil, All-cons, All-weaker}
+use Rattle.std.proofs.lemmas.List.{length-map}
+use Rattle.std.proofs.lemmas.List.Elements.{All-nil, All-cons}
 use Rattle.fx_term.specs.declared.node.Node.{Node}
 use Rattle.fx_term.specs.declared.event.Event.{Event}
 use Rattle.fx_term.specs.declared.event.Event.TheVariants as event
@@ -19,7 +19,8 @@ use Rattle.fx_plain.specs.declared.plain_machine.PlainMachine.{PlainMachine}
 use Rattle.fx_plain.specs.WholeMachine.{StartedFiber, WholeMachine}
 use Rattle.fx_plain.specs.Chosen.{report_of_fiber, IsReportOf, IsReplay}
 use Rattle.fx_plain.specs.Text.{ends, IsWritableFiber, IsWritable}
-use Rattle.fx_term.specs.QueuesNamed.{NamesQueueBelow}
+use Rattle.fx_term.specs.QueuesNamed.{NamesQueuesBelow}
+use Rattle.fx_plain.specs.PlainQueue.{QueueView, queue_at}
 use Rattle.fx_plain.specs.World.{HeldFiber, held_of}
 use Rattle.fx_plain.specs.OnTheWay.{IsOnTheWay}
 use Rattle.fx_plain.specs.PlainMachine.{held, reported, all_reported, all_held, StandsForRun, Rests}
@@ -29,7 +30,8 @@ use Rattle.fx_plain.proofs.Endings.{run_ends}
 use Rattle.fx_plain.proofs.LawfulRuns.{IsKept}
 use Rattle.fx_plain.proofs.RunLaws.{run_keeps}
 use Rattle.fx_plain.proofs.OnTheWay.{way_ends}
-use Rattle.fx_plain.proofs.WorldClasses.{unable_cannot_step}
+use Rattle.fx_plain.proofs.TraceNames.{run_names}
+use Rattle.fx_plain.proofs.WorldClasses.{unready_cannot}
 use Rattle.fx_plain.proofs.PlainMachineSteps.{at_number, held_at, is_fiber}
 
 -- a list by number, and what its elements give
@@ -56,16 +58,14 @@ same_filter p q a (suc n) e =
     rw (e a (omega arith) (omega arith)) (ap (λ (ks : List ℕ). if q a then a ∷ ks else ks)
     (same_filter p q (a + 1) n (λ k low high. e k (omega arith) (omega arith))))
 
-nothing_in : (queues : ℕ → List Item) (a n : ℕ) → ((q : ℕ) → queues q ≡ []) → replicate n [] ≡ map queues (range_with_len a n)
-nothing_in queues a zero e = refl
-nothing_in queues a (suc n) e = rw (e a) (ap (λ (left : List (List Item)). [] ∷ left) (nothing_in queues (a + 1) n e))
-
-names_none_below : (n : ℕ) (e : Event) → NamesQueueBelow 0 e → NamesQueueBelow n e
-names_none_below n (event.Put q v) lt = absurd (omega arith)
-names_none_below n (event.Got q v) lt = absurd (omega arith)
-names_none_below n (event.Refused q) lt = absurd (omega arith)
-names_none_below n (event.Empty q) lt = absurd (omega arith)
-names_none_below n _ h = tt
+-- queues by number
+left_by_number : (items : ℕ → List Item) (queues : List QueueView) (a : ℕ) → ((i : ℕ) → (queue_at queues i).items ≡ items (a + i))
+    → map (λ (q : QueueView). q.items) queues ≡ map items (range_with_len a (length queues))
+left_by_number items [] a e = refl
+left_by_number items (q ∷ queues) a e =
+    let here : q.items ≡ items a = e 0 ∙ ap items (let z : a + 0 ≡ a = omega arith in z) in
+    rw here (ap (λ (left : List (List Item)). items a ∷ left) (left_by_number items queues (a + 1)
+    (λ i. e (suc i) ∙ ap items (let z : a + suc i ≡ a + 1 + i = omega arith in z))))
 
 -- what is reported of a fiber as the whole machine has it
 report_of_held : ℕ → HeldFiber → FiberReportView
@@ -103,34 +103,38 @@ module _ {J : Type 0} (nodes : List Node) (s : ScriptView) (p : PlainMachine J) 
       by_place None here = none_is f here
       by_place (Some x) here = reported_is f x here
 
-  module _ (fibers : List FiberReportView) (left : List (List Item)) (outside : List ℕ) (queues : ℕ)
-      (fibers_are : fibers ≡ all_reported nodes p.fibers.items) (left_is : left ≡ replicate queues [])
+  module _ (fibers : List FiberReportView) (left : List (List Item)) (outside : List ℕ)
+      (fibers_are : fibers ≡ all_reported nodes p.fibers.items) (left_is : left ≡ map (λ (q : QueueView). q.items) p.world.queues)
       (outside_is : outside ≡ filter (λ f. slice_index_or p.world.from_outside f false) (range_with_len 0 (length p.world.classes))) where
     abbrev pub machine_report : ReportView
     machine_report = record { fibers = fibers; left = left; outside = outside; late = 0 }
 
-    is_report : length s.capacities ≡ queues → machine_report ≡ report s m
-    is_report by_queue =
+    many : length p.world.queues ≡ length s.capacities
+    many = sym (length-map p.world.queues (λ (q : QueueView). q.capacity)) ∙ ap length so.stands.capacities
+
+    is_report : machine_report ≡ report s m
+    is_report =
         let fibers_so : fibers ≡ (report s m).fibers =
         fibers_are ∙ by_number (option_map (reported nodes)) (λ f. report_of_fiber f (m.fibers f)) p.fibers.items 0
         (λ i lt. each_is i ∙ ap (λ f. report_of_fiber f (m.fibers f)) (let e : i ≡ 0 + i = omega arith in e))
         ∙ ap (λ (n : ℕ). filter_map (λ f. report_of_fiber f (m.fibers f)) (range_with_len 0 n)) places in
         let left_so : left ≡ (report s m).left =
-        left_is ∙ ap (λ (n : ℕ). replicate n []) (sym by_queue) ∙ nothing_in m.queues 0 (length s.capacities) so.stands.queues in
+        left_is ∙ left_by_number m.queues p.world.queues 0 (λ q. so.stands.queues q ∙ ap m.queues (let e : q ≡ 0 + q = omega arith in e))
+        ∙ ap (λ (n : ℕ). map m.queues (range_with_len 0 n)) many in
         let outside_so : outside ≡ (report s m).outside =
         outside_is ∙ ap (λ (n : ℕ). filter (λ f. slice_index_or p.world.from_outside f false) (range_with_len 0 n)) so.tells.long
         ∙ same_filter (λ f. slice_index_or p.world.from_outside f false) m.from_outside 0 (total s) (λ f low high. so.stands.from_outside f (omega arith)) in
         rw (fibers_so, left_so, outside_so) refl
 
-    is_report_of : length s.capacities ≡ queues → IsReportOf s m machine_report
-    is_report_of by_queue = rw (is_report by_queue) (report_is_report s m kept)
+    is_report_of : IsReportOf s m machine_report
+    is_report_of = rw is_report (report_is_report s m kept)
 
-    pub is_replay : (all : List Pick) → length s.capacities ≡ queues → IsOnTheWay s all [] m → Rests p → IsReplay s all machine_report
-    is_replay all by_queue way rests =
-        way_ends s all m way machine_report (λ f. unable_cannot_step s p.world (all_held nodes p) m so.stands so.tells f (rests f)) (is_report_of by_queue)
+    pub is_replay : (all : List Pick) → IsOnTheWay s all [] m → Rests p → IsReplay s all machine_report
+    is_replay all way rests =
+        way_ends s all m way machine_report (λ f. unready_cannot s p.world (all_held nodes p) m so.stands so.tells f (rests f)) is_report_of
 
-    writable_fiber : (n i : ℕ) (y : FiberReportView) → option_map (reported nodes) (at_number nodes p i) ≡ Some y → IsWritableFiber n y
-    writable_fiber n i y e = by_place (at_number nodes p i) refl e
+    writable_fiber : (n i : ℕ) (y : FiberReportView) → NamesQueuesBelow n s.term → option_map (reported nodes) (at_number nodes p i) ≡ Some y → IsWritableFiber n y
+    writable_fiber n i y named e = by_place (at_number nodes p i) refl e
       where
         by_place : (z : Option (Started J)) → at_number nodes p i ≡ z → option_map (reported nodes) z ≡ Some y → IsWritableFiber n y
         by_place None here e = absurd (none-some y e)
@@ -140,12 +144,14 @@ module _ {J : Type 0} (nodes : List Node) (s : ScriptView) (p : PlainMachine J) 
             let trace : x.fiber.trace ≡ events is.fiber.labels = ap (λ (h : HeldFiber). h.trace) is.is in
             let at : progress nodes x.fiber ≡ is.fiber.progress = ap (λ (h : HeldFiber). h.progress) is.is in
             subst (IsWritableFiber n) (same_Some (reported nodes x) y e) (record {
-              named = All-weaker (NamesQueueBelow 0) (NamesQueueBelow n) (names_none_below n) x.fiber.trace (rw here at (so.numbered i)).1;
+              named = rw trace (run_names n s so.moves m i is.fiber named so.run is.at);
               state = ap ends trace ∙ run_ends is.fiber.origin is.fiber.labels is.fiber.counts is.fiber.progress run ∙ sym (ap has_ended at);
             })
 
-    pub is_writable : (names : List (List ℕ)) → length names ≡ queues → IsWritable names machine_report
-    is_writable names by_queue = record {
-      left_by_queue = ap length left_is ∙ length-replicate queues [] ∙ sym by_queue;
-      fibers = rw fibers_are (all_given (option_map (reported nodes)) (IsWritableFiber (length names)) p.fibers.items (writable_fiber (length names)));
+    pub is_writable : (names : List (List ℕ)) → length names ≡ length s.capacities → NamesQueuesBelow (length names) s.term
+        → IsWritable names machine_report
+    is_writable names by_queue named = record {
+      left_by_queue = ap length left_is ∙ length-map p.world.queues (λ (q : QueueView). q.items) ∙ many ∙ sym by_queue;
+      fibers = rw fibers_are (all_given (option_map (reported nodes)) (IsWritableFiber (length names)) p.fibers.items
+          (λ i y. writable_fiber (length names) i y named));
     }

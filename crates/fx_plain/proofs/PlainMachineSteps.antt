@@ -1,16 +1,15 @@
 -- A step of a fiber of a machine that stands for a whole machine: the machine after it stands for the whole machine after it.
-use Rattle.std.proofs.Common.{◌≡◌, ℕ, ◌<◌, true, Option, Some, None, option_map, List, [], ◌∷◌, ◌++◌, All, length, refl, sym, ◌∙◌, ap, subst, inl, inr}
-use Rattle.std.specs.Prelude.{slice_index_or}
+use Rattle.std.proofs.Common.{◌≡◌, ℕ, ◌<◌, true, Option, Some, None, option_map, List, [], ◌∷◌, ◌++◌, length, refl, sym, ◌∙◌, ap, subst, inl, inr}
+use Rattle.std.specs.Prelude.{slice_index, slice_index_or}
 use Rattle.std.proofs.lemmas.Bool.{cases_eq}
 use Rattle.std.proofs.lemmas.Option.{none-some, same_Some}
 use Rattle.std.proofs.lemmas.List.{length-map}
-use Rattle.std.proofs.lemmas.List.Elements.{All-append, All-nil, All-push}
 use Rattle.std.proofs.Math.ListN.{get_or-map}
 use Rattle.fx_term.specs.declared.node.Node.{Node}
 use Rattle.fx_term.specs.declared.event.Event.{Event}
-use Rattle.fx_term.specs.declared.event.Event.TheVariants as event
+use Rattle.fx_term.specs.Queue.{values_put}
 use Rattle.fx_term.specs.Script.{ScriptView, total}
-use Rattle.fx_fiber.specs.Row.{Counts, Label, Silent, Shows, Learns, Starts}
+use Rattle.fx_fiber.specs.Row.{Counts, Label, Starts}
 use Rattle.fx_fiber.specs.Origin.{Origin, origin_of}
 use Rattle.fx_fiber.specs.Step.{Progress, leaf_at, Step}
 use Rattle.fx_fiber.specs.Run.{events}
@@ -18,46 +17,28 @@ use Rattle.fx_fiber.specs.Fiber.{FiberView, progress}
 use Rattle.fx_fiber.specs.declared.stepped.Stepped.{Stepped}
 use Rattle.fx_fiber.specs.MakesStep.{looks_first, Calls, MakesStep}
 use Rattle.fx_fiber.proofs.Keeping.{events_append}
-use Rattle.fx_fiber.proofs.StepLabels.{IsProper, step_tells}
+use Rattle.fx_fiber.proofs.StepLabels.{step_tells}
 use Rattle.fx_plain.specs.declared.plain_machine.Started.{Started}
 use Rattle.fx_plain.specs.declared.plain_machine.PlainMachine.{PlainMachine}
 use Rattle.fx_plain.specs.WholeMachine.{StartedFiber, WholeMachine, Move, Steps, fibers_after, opening, stepped, moved, FiberSteps, WholeMachineLeads}
 use Rattle.fx_plain.specs.Chosen.{ChosenStep}
-use Rattle.fx_term.specs.QueuesNamed.{NamesQueueBelow}
 use Rattle.fx_plain.specs.declared.class.Class.{Class}
 use Rattle.fx_plain.specs.declared.class.Class.TheVariants.{Able}
 use Rattle.fx_plain.specs.ClassSets.{class_at, is_able}
-use Rattle.fx_plain.specs.World.{WorldView, IsOfNoQueue, HeldFiber, held_of, StandsFor}
+use Rattle.fx_plain.specs.World.{WorldView, HeldFiber, held_of, StandsFor}
 use Rattle.fx_plain.specs.PlainCalls.{PortView, plain_calls}
 use Rattle.fx_plain.specs.PlainMachine.{held, all_held, IsNumbered, StandsForRun, Tries, steps}
 use Rattle.fx_plain.proofs.Maps.{at_that, at_other}
 use Rattle.fx_plain.proofs.LawfulRuns.{IsKept}
 use Rattle.fx_plain.proofs.RunLaws.{run_keeps, start_finds}
 use Rattle.fx_plain.proofs.WorldClasses as classes
-use Rattle.fx_plain.proofs.WorldSteps.{of_no_queue, world_is, steps_so, chosen_so, stands_so}
+use Rattle.fx_plain.proofs.WorldSteps.{world_is, counts_after, steps_so, chosen_so, stands_so}
 
 -- one more step at the end of a run
 pub leads_one_more : (s : ScriptView) (m : WholeMachine) (vs : List Move) (last : WholeMachine) (f : ℕ) (l : Label) (m' : WholeMachine)
     → WholeMachineLeads s m vs last → FiberSteps s last f l m' → WholeMachineLeads s m (vs ++ Steps f l ∷ []) m'
 leads_one_more s m [] last f l m' r st = (m', rw r at st, refl)
 leads_one_more s m (v ∷ vs) last f l m' r st = (r.0, r.1, leads_one_more s r.0 vs last f l m' r.2 st)
-
-one : (e : Event) → NamesQueueBelow 0 e → All (NamesQueueBelow 0) (e ∷ [])
-one e h = All-push (NamesQueueBelow 0) [] e (All-nil (NamesQueueBelow 0)) h
-
--- an event of a proper label of no queue names none
-label_names_none : (l : Label) → IsProper l → IsOfNoQueue l → All (NamesQueueBelow 0) (events (l ∷ []))
-label_names_none Silent proper none = All-nil (NamesQueueBelow 0)
-label_names_none (Starts f b) proper none = one _ tt
-label_names_none (Shows (event.Put q n)) proper none = absurd none
-label_names_none (Shows (event.Got q n)) proper none = absurd none
-label_names_none (Shows (event.Refused q)) proper none = absurd none
-label_names_none (Shows (event.Empty q)) proper none = absurd none
-label_names_none (Shows _) proper none = one _ tt
-label_names_none (Learns f o (event.Joined g v)) proper none = one _ tt
-label_names_none (Learns f o (event.Awaited g)) proper none = one _ tt
-label_names_none (Learns f o (event.First n)) proper none = one _ tt
-label_names_none (Learns f o _) proper none = absurd proper
 
 able_class : (k : Class) → is_able k ≡ true → k ≡ Able
 able_class Able e = refl
@@ -107,8 +88,10 @@ module _ {J : Type 0} (nodes : List Node) where
     pub own_number : x.fiber.port.number ≡ f
     own_number = (rw here at (so.numbered f)).0
 
-    pub names_none : All (NamesQueueBelow 0) x.fiber.trace
-    names_none = (rw here at (so.numbered f)).1
+    -- its port counts what it puts into each queue
+    pub puts_counted_so : (q : ℕ) → slice_index x.fiber.port.put_counts q ≡ length (values_put q (events is.fiber.labels))
+    puts_counted_so q =
+        (rw here at (so.numbered f)).1 q ∙ ap (λ (es : List Event). length (values_put q es)) (ap (λ (h : HeldFiber). h.trace) is.is)
 
     module _ (w' : WorldView) (answer : Stepped PortView WorldView) (new : FiberView PortView)
         (made : MakesStep plain_calls nodes x.fiber p.world answer new w') where
@@ -131,19 +114,16 @@ module _ {J : Type 0} (nodes : List Node) where
       st : Step y.counts y.progress l new.counts (progress nodes new)
       st = rw (counts_are, progress_is) at made.step
 
-      none : IsOfNoQueue l
-      none = of_no_queue nodes l answer x.fiber.port new.port p.world w' made.calls_are.told
-
       calls : Calls plain_calls nodes (looks_first y.counts.known y.progress) (leaf_at y.progress) l answer x.fiber.port p.world new.port w'
       calls = rw (counts_are, progress_is) at made.calls_are
 
       step_made : FiberSteps s m f l after
       step_made = steps_so s p.world (all_held nodes p) m so.stands kept nodes f y l new.counts (progress nodes new) is.at st answer x.fiber.port
-          new.port w' own_number calls
+          new.port w' own_number puts_counted_so calls
 
       chosen : ChosenStep s m f l after
       chosen = chosen_so s p.world (all_held nodes p) m so.stands kept nodes f y l new.counts (progress nodes new) is.at st answer x.fiber.port
-          new.port w' own_number calls
+          new.port w' own_number puts_counted_so calls
 
       pub child_is_free : (g : ℕ) (b : Origin) → l ≡ Starts g b → (m.fibers g ≡ None) × (g < total s)
       child_is_free g b starts =
@@ -155,15 +135,17 @@ module _ {J : Type 0} (nodes : List Node) where
           (long : length p'.fibers.items ≡ length p.fibers.items) (there : at_number p' f ≡ Some x')
           (others : (h : ℕ) → (h ≡ f → ⊥) → held_option (at_number p' h) ≡ option_map held_of (fibers_after f l m.fibers h))
           (numbered : (h : ℕ) → (h ≡ f → ⊥) → IsNumbered nodes h (at_number p' h)) where
+        trace_is : x'.fiber.trace ≡ events (y.labels ++ l ∷ [])
+        trace_is =
+            ap (λ (v : FiberView PortView). v.trace) fiber ∙ made.trace
+            ∙ ap (λ (es : List Event). es ++ events (l ∷ [])) (ap (λ (h : HeldFiber). h.trace) is.is) ∙ sym (events_append y.labels (l ∷ []))
+
         new_is : held nodes x' ≡ held_of (stepped y l new.counts (progress nodes new))
         new_is =
             let parents : x.parent ≡ y.parent = ap (λ (h : HeldFiber). h.parent) is.is in
             let origins : origin_of nodes x.fiber.port.beginning ≡ y.origin = ap (λ (h : HeldFiber). h.origin) is.is in
-            let traces : x.fiber.trace ≡ events y.labels = ap (λ (h : HeldFiber). h.trace) is.is in
             same_made (parent ∙ parents) (ap (λ (v : FiberView PortView). origin_of nodes v.port.beginning) fiber ∙ ap (origin_of nodes) beginning ∙ origins)
-            (ap (λ (v : FiberView PortView). v.trace) fiber ∙ made.trace ∙ ap (λ (es : List Event). es ++ events (l ∷ [])) traces
-            ∙ sym (events_append y.labels (l ∷ [])))
-            (ap (λ (v : FiberView PortView). v.counts) fiber) (ap (progress nodes) fiber)
+            trace_is (ap (λ (v : FiberView PortView). v.counts) fiber) (ap (progress nodes) fiber)
 
         all_are : (h : ℕ) → slice_index_or (all_held nodes p') h None ≡ option_map held_of (after.fibers h)
         all_are h = held_at p' h ∙ elim (cases_eq h f) [
@@ -178,7 +160,10 @@ module _ {J : Type 0} (nodes : List Node) where
         own_numbered : IsNumbered nodes f (Some x')
         own_numbered = (
           ap (λ (v : FiberView PortView). v.port.number) fiber ∙ number ∙ own_number,
-          rw (fiber, made.trace) (All-append (NamesQueueBelow 0) x.fiber.trace (events (l ∷ [])) names_none (label_names_none l (step_tells st).proper none)),
+          λ q. ap (λ (v : FiberView PortView). slice_index v.port.put_counts q) fiber
+              ∙ counts_after nodes (leaf_at y.progress) f y.labels x.fiber.port own_number puts_counted_so l answer new.port p.world w' (step_tells st).proper
+              calls.told q
+              ∙ sym (ap (λ (es : List Event). length (values_put q es)) trace_is),
         )
 
         all_numbered : (h : ℕ) → IsNumbered nodes h (at_number p' h)
@@ -190,7 +175,7 @@ module _ {J : Type 0} (nodes : List Node) where
         stands : StandsFor s p'.world (all_held nodes p') after
         stands =
             let t = stands_so s p.world (all_held nodes p) m so.stands kept nodes f y l new.counts (progress nodes new) is.at st answer x.fiber.port
-            new.port w' own_number calls in
+            new.port w' own_number puts_counted_so calls in
             let long_before : length p.fibers.items ≡ total s = sym (length-map p.fibers.items held_option) ∙ so.stands.held_long in
             rw world (record {
               held_long = length-map p'.fibers.items held_option ∙ long ∙ long_before;
@@ -201,6 +186,7 @@ module _ {J : Type 0} (nodes : List Node) where
               requested = t.requested;
               from_outside = t.from_outside;
               outcomes = t.outcomes;
+              capacities = t.capacities;
               queues = t.queues;
             })
 
@@ -210,7 +196,7 @@ module _ {J : Type 0} (nodes : List Node) where
           moves = so.moves ++ Steps f l ∷ [];
           run = leads_one_more s (opening s) so.moves m f l after so.run step_made;
           stands = stands;
-          tells = rw (world ∙ world_is nodes f l answer x.fiber.port new.port p.world w' own_number made.calls_are.told)
+          tells = rw (world ∙ world_is nodes (leaf_at y.progress) f y.labels x.fiber.port own_number puts_counted_so l answer new.port p.world w' calls.told)
               (classes.step_tells s p.world m so.tells f y new.counts (progress nodes new) (able_class (class_at p.world.classes f) able) below_total
               so.stands.outcomes_long l
               (λ g b starts. (child_is_free g b starts).1) st);

@@ -1,15 +1,16 @@
 -- What a machine comes to that lets a fiber make a step: the fiber is taken out of its place, makes a step or waits, and is laid down there.
-use Rattle.std.proofs.Common.{◌≡◌, ◌⊎◌, ℕ, ◌+◌, ◌<◌, Bool, true, false, Option, Some, None, option_map, List, length, refl, sym, ◌∙◌, ap, subst, inl, inr, arith}
+use Rattle.std.proofs.Common.{◌≡◌, ◌⊎◌, ℕ, ◌+◌, ◌<◌, Bool, true, false, Option, Some, None, option_map, List, [], length, refl, sym, ◌∙◌, ap, subst, inl, inr, arith}
 use Rattle.std.proofs.Common.{get_or-set_same, get_or-set_other, length-set}
-use Rattle.std.specs.Prelude.{if◌then◌else◌, option_and_then, slice_index_or, slice_set}
+use Rattle.std.specs.Prelude.{if◌then◌else◌, option_and_then, slice_index, slice_index_or, slice_set}
 use Rattle.std.proofs.lemmas.Bool.{cases_eq}
 use Rattle.std.proofs.lemmas.Option.{same_Some}
 use Rattle.std.proofs.lemmas.List.{length-map}
 use Rattle.std.proofs.lemmas.List.Sums.{sum_by-set}
-use Rattle.std.proofs.lemmas.List.Elements.{All-nil}
 use Rattle.fx_term.specs.declared.node.Node.{Node}
 use Rattle.fx_term.specs.declared.event.Event.TheVariants as event
 use Rattle.fx_term.specs.Term.{Term}
+use Rattle.fx_term.specs.declared.event.Event.{Event}
+use Rattle.fx_term.specs.Queue.{values_put}
 use Rattle.fx_term.specs.Script.{ScriptView, total}
 use Rattle.fx_fiber.specs.Row.{Label, Silent, Shows, Learns, Starts}
 use Rattle.fx_fiber.specs.Origin.{Origin, origin_of}
@@ -18,23 +19,24 @@ use Rattle.fx_fiber.specs.Fiber.{FiberView, progress, IsAtFirst}
 use Rattle.fx_fiber.specs.declared.source.Source.{Source}
 use Rattle.fx_fiber.specs.declared.stepped.Stepped.{Stepped}
 use Rattle.fx_fiber.specs.declared.stepped.Stepped.TheVariants.{Went, Child, Waits, Gave, Ended}
-use Rattle.fx_fiber.specs.Waiting.{wait_at}
+use Rattle.fx_fiber.specs.Waiting.{wait_at, value_offered}
 use Rattle.fx_fiber.specs.MakesStep.{is_yielding, AnswersSilently, Answers, StartsChild, Tells, MakesStep, OnlyWaits, DoesStep}
 use Rattle.fx_plain.specs.declared.class.Class.TheVariants as class
 use Rattle.fx_plain.specs.declared.plain_machine.Started.{Started}
 use Rattle.fx_plain.specs.declared.plain_machine.PlainMachine.{PlainMachine}
 use Rattle.fx_plain.specs.WholeMachine.{StartedFiber, WholeMachine, with_at, begun, fibers_after}
+use Rattle.fx_plain.specs.PlainQueue.{have_room, have_element}
+use Rattle.fx_plain.specs.Classes.{is_ready}
 use Rattle.fx_plain.specs.ClassSets.{class_at, is_able}
-use Rattle.fx_plain.specs.World.{WorldView, HeldFiber, held_of, StandsFor}
+use Rattle.fx_plain.specs.World.{WorldView, is_ready_in, HeldFiber, held_of, StandsFor}
 use Rattle.fx_plain.specs.WorldClasses.{TellsWhoSteps}
-use Rattle.fx_term.specs.QueuesNamed.{NamesQueueBelow}
 use Rattle.fx_plain.specs.PlainCalls.{PortView, plain_calls}
 use Rattle.fx_plain.specs.PlainMachine.{held, all_held, IsNumbered, able_count, StandsForRun, Tries, waits}
 use Rattle.fx_plain.proofs.Maps.{at_itself, at_that, at_other}
-use Rattle.fx_plain.proofs.WorldClasses.{unable_cannot_step}
+use Rattle.fx_plain.proofs.WorldClasses.{unready_cannot}
 use Rattle.fx_plain.proofs.ClassSets.{class_at_set}
-use Rattle.fx_plain.proofs.WaitSteps.{noted_wait_tells}
-use Rattle.fx_plain.proofs.PlainMachineSteps.{at_number, held_option, held_at, same_made, IsFiber, is_fiber, below_total, own_number, names_none, child_is_free, step_is_tried}
+use Rattle.fx_plain.proofs.WaitSteps.{refused_unready, noted_wait_tells}
+use Rattle.fx_plain.proofs.PlainMachineSteps.{at_number, held_option, held_at, same_made, IsFiber, is_fiber, below_total, own_number, child_is_free, step_is_tried}
 
 -- what a step does, by another name of the world before it and of its answer
 pub does_as : (nodes : List Node) (old new : FiberView PortView) (w world w' : WorldView) (answer named : Stepped PortView WorldView) → w ≡ world
@@ -117,6 +119,7 @@ module _ {J : Type 0} (nodes : List Node) (s : ScriptView) (p : PlainMachine J) 
     pub origin : Origin
     pub is : l ≡ Starts number origin
     pub number_is : c.port.number ≡ number
+    pub counts_none : c.port.put_counts ≡ []
     pub begins : origin_of nodes c.port.beginning ≡ origin
     pub first : IsAtFirst nodes origin c
     pub free : m.fibers number ≡ None
@@ -127,13 +130,14 @@ module _ {J : Type 0} (nodes : List Node) (s : ScriptView) (p : PlainMachine J) 
     beginning_of =
         let start = start_told nodes (leaf_at (progress nodes x.fiber)) f m.fibers made.label c made.answers in
         let told : StartsChild plain_calls nodes start.number start.origin c.port x.fiber.port p.world new.port w' =
-        subst (λ (l : Label). Tells plain_calls nodes l (Child c) x.fiber.port p.world new.port w') start.is made.calls_are.told in
+        subst (λ (l : Label). Tells plain_calls nodes (leaf_at (progress nodes x.fiber)) l (Child c) x.fiber.port p.world new.port w') start.is made.calls_are.told in
         let free = child_is_free nodes s p m so f x here is w' (Child c) new made start.number start.origin start.is in
         record {
           number = start.number;
           origin = start.origin;
           is = start.is;
           number_is = ap (λ (q : PortView). q.number) told.told.0;
+          counts_none = ap (λ (q : PortView). q.put_counts) told.told.0;
           begins = ap (λ (q : PortView). origin_of nodes q.beginning) told.told.0 ∙ told.begins;
           first = subst (λ (l : Label). Answers {S = WorldView} nodes (leaf_at (progress nodes x.fiber)) l (Child c)) start.is made.answers;
           free = free.0;
@@ -205,10 +209,16 @@ module _ {J : Type 0} (nodes : List Node) (s : ScriptView) (p : PlainMachine J) 
               (ap (λ (v : FiberView PortView). v.counts) its_fiber ∙ start.first.counts)
               (ap (progress nodes) its_fiber ∙ start.first.progress_is)
 
+          -- it has put nothing
+          child_counts : (q : ℕ) → slice_index child.fiber.port.put_counts q ≡ length (values_put q child.fiber.trace)
+          child_counts q =
+              ap (λ (v : FiberView PortView). slice_index v.port.put_counts q) its_fiber ∙ ap (λ (ns : List ℕ). slice_index ns q) start.counts_none
+              ∙ sym (ap (λ (es : List Event). length (values_put q es)) (ap (λ (v : FiberView PortView). v.trace) its_fiber ∙ start.first.trace))
+
           child_numbered : IsNumbered nodes g (Some child)
           child_numbered = (
             ap (λ (v : FiberView PortView). v.port.number) its_fiber ∙ start.number_is,
-            rw (ap (λ (v : FiberView PortView). v.trace) its_fiber ∙ start.first.trace) (All-nil (NamesQueueBelow 0)),
+            child_counts,
           )
 
           in_place_long : length middle ≡ length p.fibers.items
@@ -273,7 +283,9 @@ module _ {J : Type 0} (nodes : List Node) (s : ScriptView) (p : PlainMachine J) 
         still_numbered : IsNumbered nodes f (Some x')
         still_numbered = (
           ap (λ (v : FiberView PortView). v.port.number) fiber ∙ number ∙ own_number nodes s p m so f x here is,
-          rw (ap (λ (v : FiberView PortView). v.trace) fiber ∙ wait.unchanged.trace) (names_none nodes s p m so f x here is),
+          λ q. ap (λ (v : FiberView PortView). slice_index v.port.put_counts q) fiber ∙ ap (λ (r : PortView). slice_index r.put_counts q) wait.unchanged.port
+              ∙ (rw here at (so.numbered f)).1 q
+              ∙ sym (ap (λ (es : List Event). length (values_put q es)) (ap (λ (v : FiberView PortView). v.trace) fiber ∙ wait.unchanged.trace)),
         )
 
         others_there : (h : ℕ) → (h ≡ f → ⊥) → at_number nodes p' h ≡ at_number nodes p h
@@ -303,6 +315,7 @@ module _ {J : Type 0} (nodes : List Node) (s : ScriptView) (p : PlainMachine J) 
           requested = so.stands.requested;
           from_outside = so.stands.from_outside;
           outcomes = so.stands.outcomes;
+          capacities = so.stands.capacities;
           queues = so.stands.queues;
         })
 
@@ -310,9 +323,11 @@ module _ {J : Type 0} (nodes : List Node) (s : ScriptView) (p : PlainMachine J) 
         tells = rw world_is (noted_wait_tells s p.world (all_held nodes p) m so.stands nodes f below x.fiber new w' (own_number nodes s p m so f x here is)
             wait so.tells is.fiber is.at (sym (ap (λ (h : HeldFiber). h.counts) is.is)) (sym (ap (λ (h : HeldFiber). h.progress) is.is)))
 
-        unable : is_able (class_at p'.world.classes f) ≡ false
-        unable = rw world_is (ap is_able (class_at_set p.world.classes f (class.Waits wait.wait)
-            (let lt = below in let n = so.tells.long in omega arith) f ∙ at_itself f (class.Waits wait.wait) (class_at p.world.classes)))
+        unready : is_ready_in p'.world f ≡ false
+        unready =
+            rw world_is (ap (is_ready (have_room p.world.queues) (have_element p.world.queues)) (class_at_set p.world.classes f (class.Waits wait.wait)
+            (let lt = below in let n = so.tells.long in omega arith) f ∙ at_itself f (class.Waits wait.wait) (class_at p.world.classes))
+            ∙ refused_unready p.world x.fiber.port (value_offered (leaf_at (progress nodes x.fiber))) wait.wait wait.refused)
 
         fewer : is_able (class_at p.world.classes f) ≡ true → able_count p'.world.classes < able_count p.world.classes
         fewer able =
@@ -327,5 +342,5 @@ module _ {J : Type 0} (nodes : List Node) (s : ScriptView) (p : PlainMachine J) 
             rw e (one_less (able_count after) (able_count before) less)
 
         pub tries_waiting : is_able (class_at p.world.classes f) ≡ true → Tries nodes s m f p p'
-        tries_waiting able = waits (unable_cannot_step s p'.world (all_held nodes p') m stands tells f unable)
+        tries_waiting able = waits (unready_cannot s p'.world (all_held nodes p') m stands tells f unready)
             (record { moves = so.moves; run = so.run; stands = stands; tells = tells; numbered = all_numbered }) (fewer able)

@@ -9,12 +9,12 @@ use Rattle.fx_text.specs.declared.pick.Pick.TheVariants as pick
 use Rattle.fx_plain.specs.declared.plain_machine.PlainMachine.{PlainMachine}
 use Rattle.fx_plain.specs.WholeMachine.{WholeMachine, Move, Requests, opening, WholeMachineLeads, requested_from_outside}
 use Rattle.fx_plain.specs.Classes.{class_requested}
-use Rattle.fx_plain.specs.ClassSets.{class_at, is_able}
-use Rattle.fx_plain.specs.World.{WorldView, after_request_from_outside}
+use Rattle.fx_plain.specs.ClassSets.{class_at}
+use Rattle.fx_plain.specs.World.{WorldView, is_ready_in, after_request_from_outside}
 use Rattle.fx_plain.specs.PlainMachine.{all_held, StandsForRun, StandsForSome, IsUnderWay, Tries, steps, waits}
 use Rattle.fx_plain.proofs.OnTheWay.{after_step, after_skipped_step, after_request, after_skipped_request, after_least}
 use Rattle.fx_plain.proofs.WorldLaws.{stands_after_request}
-use Rattle.fx_plain.proofs.WorldClasses.{unable_cannot_step, request_tells}
+use Rattle.fx_plain.proofs.WorldClasses.{unready_cannot, request_tells}
 
 -- a request from outside at the end of a run
 leads_one_request : (s : ScriptView) (m : WholeMachine) (vs : List Move) (last : WholeMachine) (f : ℕ) → f < total s
@@ -37,14 +37,14 @@ module _ {J : Type 0} (nodes : List Node) (s : ScriptView) where
       by_try (steps {l = l} {m' = m'} chosen so) = record { machine = m'; stands = so; way = after_step s all u.machine f left l m' u.way chosen }
       by_try (waits cannot so fewer) = record { machine = u.machine; stands = so; way = after_skipped_step s all u.machine f left u.way cannot }
 
-  -- a pick of a fiber that is not able is skipped
-  pub skipped_pick : (all left : List Pick) (f : ℕ) (p : PlainMachine J) → is_able (class_at p.world.classes f) ≡ false
+  -- a pick of a fiber that is not ready is skipped
+  pub skipped_pick : (all left : List Pick) (f : ℕ) (p : PlainMachine J) → is_ready_in p.world f ≡ false
       → IsUnderWay nodes s all (pick.Step f ∷ left) p → IsUnderWay nodes s all left p
-  skipped_pick all left f p unable u = record {
+  skipped_pick all left f p unready u = record {
     machine = u.machine;
     stands = u.stands;
     way = after_skipped_step s all u.machine f left u.way
-        (unable_cannot_step s p.world (all_held nodes p) u.machine u.stands.stands u.stands.tells f unable);
+        (unready_cannot s p.world (all_held nodes p) u.machine u.stands.stands u.stands.tells f unready);
   }
 
   -- after a request from outside
@@ -85,9 +85,9 @@ module _ {J : Type 0} (nodes : List Node) (s : ScriptView) where
       | inr le ↦ (record { machine = u.machine; stands = past_stands u.machine u.stands le; way = after_skipped_request s all u.machine f left u.way le })
     ]
 
-  -- by a step of the least fiber that is able, after the last pick
+  -- by a step of the least fiber that is ready, after the last pick
   pub tried_least : (all : List Pick) (f : ℕ) (p p' : PlainMachine J) → ((m : WholeMachine) → StandsForRun nodes s p m → Tries nodes s m f p p')
-      → ((g : ℕ) → g < f → is_able (class_at p.world.classes g) ≡ false) → IsUnderWay nodes s all [] p → IsUnderWay nodes s all [] p'
+      → ((g : ℕ) → g < f → is_ready_in p.world g ≡ false) → IsUnderWay nodes s all [] p → IsUnderWay nodes s all [] p'
   tried_least all f p p' tries least u = by_try (tries u.machine u.stands)
     where
       by_try : Tries nodes s u.machine f p p' → IsUnderWay nodes s all [] p'
@@ -95,7 +95,7 @@ module _ {J : Type 0} (nodes : List Node) (s : ScriptView) where
         machine = m';
         stands = so;
         way = after_least s all u.machine u.way f l m'
-            (λ g lt. unable_cannot_step s p.world (all_held nodes p) u.machine u.stands.stands u.stands.tells g (least g lt)) chosen;
+            (λ g lt. unready_cannot s p.world (all_held nodes p) u.machine u.stands.stands u.stands.tells g (least g lt)) chosen;
       }
       by_try (waits cannot so fewer) = record { machine = u.machine; stands = so; way = u.way }
 

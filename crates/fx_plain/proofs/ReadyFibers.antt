@@ -12,7 +12,8 @@ use Rattle.fx_fiber.specs.Outside.{Outside, can_step}
 use Rattle.fx_fiber.proofs.WaitingLaws.{waiting_steps}
 use Rattle.fx_plain.specs.declared.class.Class.{Class}
 use Rattle.fx_plain.specs.declared.class.Class.TheVariants.{Unstarted, Able, Waits, Over}
-use Rattle.fx_plain.specs.WholeMachine.{StartedFiber, WholeMachine, outside_of, outcome_of, can_step_fiber, can_step_in}
+use Rattle.fx_plain.specs.WholeMachine.{StartedFiber, WholeMachine, has_room, outside_of, outcome_of, can_step_fiber, can_step_in}
+use Rattle.fx_plain.specs.ClassSets.{is_able}
 use Rattle.fx_plain.specs.Classes.{IsOfClass, AreOfClasses, may_step, outcome_has_come, AwaitWhatIsToCome, is_ready}
 
 over_cannot : (o : Outside) (f : ℕ) (c : Counts) (p : Progress) → has_ended p ≡ true → can_step o f c p ≡ false
@@ -30,7 +31,7 @@ class_tells o f (Some x) Over h e = over_cannot o f x.counts x.progress h
 class_tells o f (Some x) Unstarted h e = absurd h
 
 -- a fiber that may step by its class is ready, if the outcome for which it waits is to come
-ready_is : (o : Outside) (k : Class) → outcome_has_come o.outcome k ≡ false → may_step o k ≡ is_ready o k
+ready_is : (o : Outside) (k : Class) → outcome_has_come o.outcome k ≡ false → may_step o k ≡ is_ready o.has_room o.has_element k
 ready_is o Able e = refl
 ready_is o (Waits Nothing) e = refl
 ready_is o (Waits (Outcome g)) e = e
@@ -39,6 +40,13 @@ ready_is o (Waits (Room q)) e = refl
 ready_is o (Waits (Element q)) e = refl
 ready_is o Over e = refl
 ready_is o Unstarted e = refl
+
+-- by the same tests the same are ready
+pub same_ready : (room room' element element' : ℕ → Bool) → ((q : ℕ) → room q ≡ room' q) → ((q : ℕ) → element q ≡ element' q) → (k : Class)
+    → is_ready room element k ≡ is_ready room' element' k
+same_ready room room' element element' e h (Waits (Room q)) = e q
+same_ready room room' element element' e h (Waits (Element q)) = h q
+same_ready room room' element element' e h _ = refl
 
 -- a fiber that has started and has not ended
 pub record IsGoing (m : WholeMachine) (f : ℕ) : Type 0 where
@@ -54,15 +62,15 @@ waiting_goes r c (CleansUp k t rest) w h = refl
 
 module _ (s : ScriptView) (m : WholeMachine) (class : ℕ → Class) (are : AreOfClasses m class) (f : ℕ) where
   -- who is not ready cannot step
-  pub unready_cannot_step : AwaitWhatIsToCome (outcome_of m) class → is_ready (outside_of s m) (class f) ≡ false → can_step_in s m f ≡ false
+  pub unready_cannot_step : AwaitWhatIsToCome (outcome_of m) class → is_ready (has_room s m) (outside_of s m).has_element (class f) ≡ false → can_step_in s m f ≡ false
   unready_cannot_step to_come e =
       class_tells (outside_of s m) f (m.fibers f) (class f) (are f) (ready_is (outside_of s m) (class f) (to_come f) ∙ e)
 
   -- who is ready has started and has not ended
-  pub ready_is_going : is_ready (outside_of s m) (class f) ≡ true → IsGoing m f
+  pub ready_is_going : is_ready (has_room s m) (outside_of s m).has_element (class f) ≡ true → IsGoing m f
   ready_is_going e = by_fiber (m.fibers f) (class f) refl (are f) e
     where
-      by_fiber : (z : Option StartedFiber) (k : Class) → m.fibers f ≡ z → IsOfClass (m.requested f) z k → is_ready (outside_of s m) k ≡ true → IsGoing m f
+      by_fiber : (z : Option StartedFiber) (k : Class) → m.fibers f ≡ z → IsOfClass (m.requested f) z k → is_ready (has_room s m) (outside_of s m).has_element k ≡ true → IsGoing m f
       by_fiber None Unstarted at h e = absurd cc
       by_fiber None Able at h e = absurd h
       by_fiber None (Waits w) at h e = absurd h
@@ -71,3 +79,16 @@ module _ (s : ScriptView) (m : WholeMachine) (class : ℕ → Class) (are : AreO
       by_fiber (Some x) (Waits w) at h e = record { fiber = x; at = at; goes = waiting_goes (m.requested f) x.counts x.progress w h }
       by_fiber (Some x) Over at h e = absurd cc
       by_fiber (Some x) Unstarted at h e = absurd h
+
+  -- who waits and is ready can step
+  pub ready_can_step : is_able (class f) ≡ false → is_ready (has_room s m) (outside_of s m).has_element (class f) ≡ true → can_step_in s m f ≡ true
+  ready_can_step unable e = by_fiber (m.fibers f) (class f) (are f) unable e
+    where
+      by_fiber : (z : Option StartedFiber) (k : Class) → IsOfClass (m.requested f) z k → is_able k ≡ false
+          → is_ready (has_room s m) (outside_of s m).has_element k ≡ true → can_step_fiber (outside_of s m) f z ≡ true
+      by_fiber (Some x) (Waits (Room q)) h n e = waiting_steps (outside_of s m) f x.counts x.progress (Room q) h ∙ e
+      by_fiber (Some x) (Waits (Element q)) h n e = waiting_steps (outside_of s m) f x.counts x.progress (Element q) h ∙ e
+      by_fiber None (Waits (Room q)) h n e = absurd h
+      by_fiber None (Waits (Element q)) h n e = absurd h
+      by_fiber z Able h n e = absurd cc
+      by_fiber z _ h n e = absurd cc

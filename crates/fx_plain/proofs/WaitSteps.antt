@@ -1,34 +1,42 @@
 -- A fiber that answers over the world of one thread that it waits does so in the whole machine, for what has not come.
-use Rattle.std.proofs.Common.{◌≡◌, ℕ, ◌<◌, Bool, true, false, Option, Some, List, refl, sym, ◌∙◌, ap}
-use Rattle.std.specs.Prelude.{is_some, slice_set}
+use Rattle.std.proofs.Common.{◌≡◌, ℕ, ◌<◌, Bool, true, false, Option, Some, List, length, refl, sym, ◌∙◌, ap}
+use Rattle.std.specs.Prelude.{is_some, nat_lt, slice_set}
+use Rattle.fx_term.specs.declared.item.Item.{Item}
 use Rattle.fx_term.specs.declared.node.Node.{Node}
 use Rattle.fx_term.specs.Script.{ScriptView, total}
 use Rattle.fx_fiber.specs.declared.source.Source.{Source}
 use Rattle.fx_fiber.specs.declared.source.Source.TheVariants.{Nothing, Outcome, Either, Room, Element}
 use Rattle.fx_fiber.specs.Fiber.{FiberView, progress}
-use Rattle.fx_fiber.specs.Waiting.{IsRefused}
+use Rattle.fx_fiber.specs.Step.{leaf_at}
+use Rattle.fx_fiber.specs.Waiting.{value_offered, IsRefused}
 use Rattle.fx_fiber.specs.WaitsFor.{IsWaiting}
 use Rattle.fx_fiber.specs.MakesStep.{looks_first, LooksInVain, OnlyWaits}
 use Rattle.fx_plain.specs.declared.class.Class.TheVariants.{Waits}
 use Rattle.fx_plain.specs.WholeMachine.{StartedFiber, WholeMachine}
-use Rattle.fx_plain.specs.Classes.{outcome_has_come}
+use Rattle.fx_plain.specs.PlainQueue.{have_room, have_element}
+use Rattle.fx_plain.specs.Classes.{outcome_has_come, is_ready}
 use Rattle.fx_plain.specs.World.{WorldView, outcome_in, HeldFiber, StandsFor}
 use Rattle.fx_plain.specs.PlainCalls.{PortView, plain_calls}
-use Rattle.fx_plain.specs.WorldClasses.{waits_at_queue, TellsWhoSteps}
+use Rattle.fx_plain.specs.WorldClasses.{TellsWhoSteps}
 use Rattle.fx_plain.proofs.WorldClasses.{wait_tells}
 
 -- what was refused has not come
-refused_to_come : (w : WorldView) (p : PortView) (source : Source) → IsRefused plain_calls source p w → outcome_has_come (outcome_in w) (Waits source) ≡ false
-refused_to_come w p Nothing r = refl
-refused_to_come w p (Outcome g) r = ap is_some (sym r.0)
-refused_to_come w p (Either g h) r = rw (← r.0.0, ← r.1.0) refl
-refused_to_come w p (Room q) r = absurd r
-refused_to_come w p (Element q) r = absurd r
+refused_to_come : (w : WorldView) (p : PortView) (offered : ℕ) (source : Source) → IsRefused plain_calls offered source p w
+    → outcome_has_come (outcome_in w) (Waits source) ≡ false
+refused_to_come w p offered Nothing r = refl
+refused_to_come w p offered (Outcome g) r = ap is_some (sym r.0)
+refused_to_come w p offered (Either g h) r = rw (← r.0.0, ← r.1.0) refl
+refused_to_come w p offered (Room q) r = refl
+refused_to_come w p offered (Element q) r = refl
 
-refused_at_no_queue : (w : WorldView) (p : PortView) (source : Source) → IsRefused plain_calls source p w → waits_at_queue (Waits source) ≡ false
-refused_at_no_queue w p (Room q) r = absurd r
-refused_at_no_queue w p (Element q) r = absurd r
-refused_at_no_queue w p _ r = refl
+-- nor is it there now
+pub refused_unready : (w : WorldView) (p : PortView) (offered : ℕ) (source : Source) → IsRefused plain_calls offered source p w
+    → is_ready (have_room w.queues) (have_element w.queues) (Waits source) ≡ false
+refused_unready w p offered (Room q) r = r.0
+refused_unready w p offered (Element q) r = ap (λ (xs : List Item). nat_lt 0 (length xs)) r.0
+refused_unready w p offered Nothing r = refl
+refused_unready w p offered (Outcome g) r = refl
+refused_unready w p offered (Either g h) r = refl
 
 module _ (s : ScriptView) (w : WorldView) (held : List (Option HeldFiber)) (m : WholeMachine) (stands : StandsFor s w held m) (nodes : List Node)
     (f : ℕ) (lt : f < total s) (old new : FiberView PortView) (w' : WorldView) (own : old.port.number ≡ f) (h : OnlyWaits plain_calls nodes old w new w') where
@@ -43,5 +51,4 @@ module _ (s : ScriptView) (w : WorldView) (held : List (Option HeldFiber)) (m : 
   pub noted_wait_tells : TellsWhoSteps s w m → (x : StartedFiber) → m.fibers f ≡ Some x → x.counts ≡ old.counts → x.progress ≡ progress nodes old
       → TellsWhoSteps s (record w { classes = slice_set w.classes f (Waits h.wait) }) m
   noted_wait_tells tells x at counts progress_is =
-      wait_tells s w m tells f x h.wait lt at (rw (counts, progress_is) waits_so) (refused_to_come w old.port h.wait h.refused)
-      (refused_at_no_queue w old.port h.wait h.refused)
+      wait_tells s w m tells f x h.wait lt at (rw (counts, progress_is) waits_so) (refused_to_come w old.port (value_offered (leaf_at (progress nodes old))) h.wait h.refused)

@@ -44,16 +44,16 @@ module _ (f : ℕ) (old : List Class) where
           (λ g lt. woken_to (length now) (λ h le _. sym (is h) ∙ none h le) g lt ∙ sym (get_or-map (class_at_end f) old g Unstarted))
 
       -- the next one that waits for an outcome, of class k
+      pub waiter_within : (g : ℕ) → set g ≡ true → g < length now
+      waiter_within g member = elim (cases_lt g (length now)) [
+        | inl lt ↦ lt
+        | inr past ↦ absurd (let e : true ≡ false = sym member ∙ is g ∙ ap waits_for_outcome (get_or_past now g Unstarted past) in cc)
+      ]
+
       module _ (g : ℕ) (le : from ≤ g) (member : set g ≡ true) (least : (h : ℕ) → from ≤ h → h < g → set h ≡ false)
           (k : Class) (read : k ≡ get_or now g k) where
-        within : g < length now
-        within = elim (cases_lt g (length now)) [
-          | inl lt ↦ lt
-          | inr past ↦ absurd (let e : true ≡ false = sym member ∙ is g ∙ ap waits_for_outcome (get_or_past now g Unstarted past) in cc)
-        ]
-
         here : k ≡ class_at now g
-        here = get_or_read now g k within read Unstarted
+        here = get_or_read now g k (waiter_within g member) read Unstarted
 
         before : (h : ℕ) → h < g → class_at now h ≡ class_at_end f (class_at old h)
         before = woken_to g (λ h le lt. sym (is h) ∙ least h le lt)
@@ -74,9 +74,9 @@ module _ (f : ℕ) (old : List Class) where
         pub woken_one : waits_for_end f k ≡ true → AreWoken (g + 1) (slice_set now g Able)
         woken_one e = record {
           long = length-set now g Able ∙ woken.long;
-          below = λ h lt. class_at_set now g Able within h ∙ elim (cases_eq h g) [
+          below = λ h lt. class_at_set now g Able (waiter_within g member) h ∙ elim (cases_eq h g) [
             | inl same ↦ at_that g Able (class_at now) h same ∙ sym (at_end true e) ∙ sym (ap (λ (i : ℕ). class_at_end f (class_at old i)) same)
             | inr apart ↦ at_other g Able (class_at now) h apart ∙ before h (omega arith)
           ];
-          above = λ h past. class_at_set now g Able within h ∙ at_other g Able (class_at now) h (λ e. omega arith) ∙ woken.above h (omega arith);
+          above = λ h past. class_at_set now g Able (waiter_within g member) h ∙ at_other g Able (class_at now) h (λ e. omega arith) ∙ woken.above h (omega arith);
         }

@@ -79,7 +79,7 @@ pub record Grows (m m' : WholeMachine) : Type 0 where
   pub fibers : (h : ℕ) (y : StartedFiber) → m.fibers h ≡ Some y → GoesOn m' h y
   pub requested : (h : ℕ) → m.requested h ≡ true → m'.requested h ≡ true
 
-with_true : (g : ℕ) (requested : ℕ → Bool) (h : ℕ) → requested h ≡ true → with_at g true requested h ≡ true
+pub with_true : (g : ℕ) (requested : ℕ → Bool) (h : ℕ) → requested h ≡ true → with_at g true requested h ≡ true
 with_true g requested h e = elim (cases_eq h g) [ inl same ↦ at_that g true requested h same | inr apart ↦ at_other g true requested h apart ∙ e ]
 
 requests_stay : (l : Label) (requested : ℕ → Bool) (h : ℕ) → requested h ≡ true → requested_after l requested h ≡ true

@@ -2,8 +2,8 @@
 use Rattle.std.proofs.Common.{◌≡◌, ℕ, zero, suc, ◌<◌, Bool, true, false, Option, Some, None, List, [], length, refl, sym, ◌∙◌, ap, arith, inl, inr}
 use Rattle.std.proofs.Common.{get_or-set_same, get_or-set_other, length-set}
 use Rattle.std.specs.Prelude.{option_map, slice_index_or, slice_set, replicate}
-use Rattle.std.proofs.lemmas.Bool.{cases_eq, cases_lt}
-use Rattle.std.proofs.lemmas.List.{get_or_past, get_or-replicate, length-replicate}
+use Rattle.std.proofs.lemmas.Bool.{cases_eq}
+use Rattle.std.proofs.lemmas.List.{length-replicate}
 use Rattle.fx_term.specs.declared.outcome.Outcome.{Outcome}
 use Rattle.fx_term.specs.declared.event.Event.TheVariants as event
 use Rattle.fx_term.specs.Need.{need}
@@ -16,14 +16,15 @@ use Rattle.fx_fiber.proofs.RangeLaws.{step_need}
 use Rattle.fx_fiber.proofs.StepLabels.{StartsNext, step_tells}
 use Rattle.fx_fiber.proofs.OutcomeLaws.{end_of, step_end_of, no_step_after_end}
 use Rattle.fx_plain.specs.WholeMachine.{StartedFiber, WholeMachine, with_at, begun, opening, outcome_of_fiber, outcome_of, fibers_after}
-use Rattle.fx_plain.specs.WholeMachine.{requested_after, queues_after, stepped}
+use Rattle.fx_plain.specs.WholeMachine.{requested_after, IsAnswered, stepped}
 use Rattle.fx_plain.specs.WholeMachine.{moved, requested_from_outside}
-use Rattle.fx_plain.specs.World.{WorldView, is_requested_in, outcome_in, after_request_from_outside, world_after, IsOfNoQueue}
+use Rattle.fx_plain.specs.World.{WorldView, is_requested_in, outcome_in, after_request_from_outside, world_after}
 use Rattle.fx_plain.specs.World.{HeldFiber, held_of, with_child, held_after}
 use Rattle.fx_plain.specs.World.{StandsFor, opening_world, opening_held}
-use Rattle.fx_plain.proofs.Maps.{at_that, at_other}
+use Rattle.fx_plain.proofs.Maps.{at_that, at_other, replicated}
 use Rattle.fx_plain.proofs.RangesKept.{fresh}
 use Rattle.fx_plain.proofs.LawfulRuns.{IsKept}
+use Rattle.fx_plain.proofs.WorldQueues.{capacities_after, items_after, opening_capacities, opening_items}
 
 module _ (s : ScriptView) (w : WorldView) (held : List (Option HeldFiber)) (m : WholeMachine) (stands : StandsFor s w held m) (kept : IsKept s m)
     (f : ℕ) (x : StartedFiber) (d : Counts) (q : Progress) (at : m.fibers f ≡ Some x) where
@@ -73,7 +74,7 @@ module _ (s : ScriptView) (w : WorldView) (held : List (Option HeldFiber)) (m : 
         ∙ sym (ap (option_map held_of) (at_other f (Some (stepped x l d q)) (fibers_after f l m.fibers) h apart))
   ]
 
-  requested_after_step : (l : Label) (h : ℕ) → h < total s → is_requested_in (world_after f l w) h ≡ requested_after l m.requested h
+  requested_after_step : (l : Label) (h : ℕ) → h < total s → is_requested_in (world_after f x.labels l w) h ≡ requested_after l m.requested h
   requested_after_step (Shows (event.Request g)) h below = elim (cases_eq h g) [
     | inl same ↦
         ap (λ (k : ℕ). slice_index_or (slice_set w.requested g true) k false) same
@@ -105,30 +106,25 @@ module _ (s : ScriptView) (w : WorldView) (held : List (Option HeldFiber)) (m : 
       by_outcome None e = e
       by_outcome (Some o) e = absurd (no_step_after_end o st e)
 
-  own_outcome : (l : Label) → Step x.counts x.progress l d q → outcome_in (world_after f l w) f ≡ end_of l
+  own_outcome : (l : Label) → Step x.counts x.progress l d q → outcome_in (world_after f x.labels l w) f ≡ end_of l
   own_outcome (Shows (event.Ended o)) st = get_or-set_same w.outcomes f (Some o) None (let n = stands.outcomes_long in let p = lt in omega arith)
   own_outcome (Shows (event.Request g)) st = stands.outcomes f ∙ none_before (Shows (event.Request g)) st
   own_outcome (Starts g b) st = stands.outcomes f ∙ none_before (Starts g b) st
   own_outcome l st = stands.outcomes f ∙ none_before l st
 
-  other_outcome : (l : Label) (h : ℕ) → (h ≡ f → ⊥) → outcome_in (world_after f l w) h ≡ outcome_in w h
+  other_outcome : (l : Label) (h : ℕ) → (h ≡ f → ⊥) → outcome_in (world_after f x.labels l w) h ≡ outcome_in w h
   other_outcome (Shows (event.Ended o)) h ne = get_or-set_other w.outcomes f h (Some o) None ne
   other_outcome (Shows (event.Request g)) h ne = refl
   other_outcome (Starts g b) h ne = refl
   other_outcome _ h ne = refl
 
-  outcomes_after_step : (l : Label) → Step x.counts x.progress l d q → (h : ℕ) → outcome_in (world_after f l w) h ≡ outcome_of (moved m f x l d q) h
+  outcomes_after_step : (l : Label) → Step x.counts x.progress l d q → (h : ℕ) → outcome_in (world_after f x.labels l w) h ≡ outcome_of (moved m f x l d q) h
   outcomes_after_step l st h = elim (cases_eq h f) [
     | inl same ↦
-        ap (outcome_in (world_after f l w)) same ∙ own_outcome l st ∙ sym (step_end_of st)
+        ap (outcome_in (world_after f x.labels l w)) same ∙ own_outcome l st ∙ sym (step_end_of st)
         ∙ sym (ap outcome_of_fiber (at_that f (Some (stepped x l d q)) (fibers_after f l m.fibers) h same))
     | inr apart ↦ other_outcome l h apart ∙ stands.outcomes h ∙ sym (outcome_of_other l st h apart)
   ]
-
-  queues_after_step : (l : Label) → IsOfNoQueue l → (r : ℕ) → queues_after f x.labels l m.queues r ≡ []
-  queues_after_step (Shows (event.Put k n)) none r = absurd none
-  queues_after_step (Shows (event.Got k n)) none r = absurd none
-  queues_after_step _ none r = stands.queues r
 
   -- what a step leaves as it was, and as long
   record Keeps (w' : WorldView) : Type 0 where
@@ -136,16 +132,16 @@ module _ (s : ScriptView) (w : WorldView) (held : List (Option HeldFiber)) (m : 
     pub requested_long : length w'.requested ≡ length w.requested
     pub outcomes_long : length w'.outcomes ≡ length w.outcomes
 
-  keeps : (l : Label) → Keeps (world_after f l w)
+  keeps : (l : Label) → Keeps (world_after f x.labels l w)
   keeps (Shows (event.Request g)) = record { from_outside = refl; requested_long = length-set w.requested g true; outcomes_long = refl }
   keeps (Shows (event.Ended o)) = record { from_outside = refl; requested_long = refl; outcomes_long = length-set w.outcomes f (Some o) }
   keeps (Starts g b) = record { from_outside = refl; requested_long = refl; outcomes_long = refl }
   keeps _ = record { from_outside = refl; requested_long = refl; outcomes_long = refl }
 
   -- the world after a step stands for the whole machine after it
-  pub stands_after : (l : Label) → Step x.counts x.progress l d q → IsOfNoQueue l
-      → StandsFor s (world_after f l w) (held_after f x l d q held) (moved m f x l d q)
-  stands_after l st none =
+  pub stands_after : (l : Label) → Step x.counts x.progress l d q → IsAnswered s m f l
+      → StandsFor s (world_after f x.labels l w) (held_after f x l d q held) (moved m f x l d q)
+  stands_after l st answered =
       let k = keeps l in
       record {
         held_long = length-set (with_child f l held) f (Some (held_of (stepped x l d q))) ∙ length_with_child l ∙ stands.held_long;
@@ -156,7 +152,8 @@ module _ (s : ScriptView) (w : WorldView) (held : List (Option HeldFiber)) (m : 
         requested = requested_after_step l;
         from_outside = λ h below. ap (λ (bs : List Bool). slice_index_or bs h false) k.from_outside ∙ stands.from_outside h below;
         outcomes = outcomes_after_step l st;
-        queues = queues_after_step l none;
+        capacities = capacities_after s m w.queues stands.capacities stands.queues w refl f x.labels l;
+        queues = items_after s m w.queues stands.capacities stands.queues w refl f x.labels l answered;
       }
 
 -- the world after a request from outside stands for the whole machine after it
@@ -171,6 +168,7 @@ stands_after_request s w held m f lt stands = record {
   requested = λ h below. set_as w.requested m.requested stands.requested_long h (stands.requested h below);
   from_outside = λ h below. set_as w.from_outside m.from_outside stands.outside_long h (stands.from_outside h below);
   outcomes = stands.outcomes;
+  capacities = stands.capacities;
   queues = stands.queues;
 }
   where
@@ -183,12 +181,6 @@ stands_after_request s w held m f lt stands = record {
       | inr apart ↦ get_or-set_other bs f h true false apart ∙ e ∙ sym (at_other f true map h apart)
     ]
 
-replicated : {A : Type 0} (n i : ℕ) (a : A) → slice_index_or (replicate n a) i a ≡ a
-replicated n i a = elim (cases_lt i n) [
-  | inl lt ↦ get_or-replicate n i a a lt
-  | inr le ↦ get_or_past (replicate n a) i a (let e = length-replicate n a in omega arith)
-]
-
 -- the world before any step stands for the whole machine before any step
 pub opening_stands : (s : ScriptView) → StandsFor s (opening_world s) (opening_held s) (opening s)
 opening_stands s = record {
@@ -200,7 +192,8 @@ opening_stands s = record {
   requested = λ f lt. replicated (total s) f false;
   from_outside = λ f lt. replicated (total s) f false;
   outcomes = λ f. replicated (total s) f None ∙ no_outcome f;
-  queues = λ q. refl;
+  capacities = opening_capacities s.capacities;
+  queues = opening_items s.capacities;
 }
   where
     fiber_at : (f : ℕ) → slice_index_or (opening_held s) f None ≡ option_map held_of ((opening s).fibers f)

@@ -1,62 +1,115 @@
 -- A step of a fiber over the plain world is one that a schedule makes, and the world after it stands for the whole machine after it.
-use Rattle.std.proofs.Common.{◌≡◌, ℕ, suc, ◌<◌, Bool, true, false, Option, Some, List, refl, sym, ◌∙◌}
+use Rattle.std.proofs.Common.{◌≡◌, ℕ, suc, ◌+◌, ◌<◌, Bool, true, false, Option, Some, List, [], ◌∷◌, ◌++◌, length, refl, sym, ◌∙◌, ap, inl, inr, arith}
+use Rattle.std.specs.Prelude.{slice_index}
+use Rattle.std.proofs.lemmas.Bool.{cases_eq, eq-eqb, ne_eqb}
 use Rattle.fx_term.specs.declared.node.Node.{Node}
 use Rattle.fx_term.specs.declared.node.Arg.TheVariants.{Number}
 use Rattle.fx_term.specs.declared.event.Event.TheVariants as event
 use Rattle.fx_term.specs.Term.{Term, First}
+use Rattle.fx_term.specs.declared.item.Item.{Item}
+use Rattle.fx_term.specs.Queue.{values_put}
 use Rattle.fx_term.specs.Script.{ScriptView, total}
 use Rattle.fx_fiber.specs.Row.{Counts, Label, Shows, Learns, Starts}
 use Rattle.fx_fiber.specs.Step.{Progress, leaf_at, Step}
+use Rattle.fx_fiber.specs.Run.{events}
+use Rattle.fx_fiber.proofs.StepLabels.{IsProper}
 use Rattle.fx_fiber.specs.declared.stepped.Stepped.{Stepped}
 use Rattle.fx_fiber.specs.declared.stepped.Stepped.TheVariants.{Went, Child, Waits, Gave, Ended}
 use Rattle.fx_fiber.specs.MakesStep.{looks_first, LooksBefore, PeeksLeft, Tells, Calls}
-use Rattle.fx_plain.specs.WholeMachine.{StartedFiber, WholeMachine, IsAnswered, moved, FiberSteps}
+use Rattle.fx_plain.specs.WholeMachine.{StartedFiber, WholeMachine, front, IsAnswered, moved, FiberSteps}
 use Rattle.fx_plain.specs.Chosen.{LooksLeftFirst, ChosenStep}
-use Rattle.fx_plain.specs.World.{WorldView, IsOfNoQueue, world_after, HeldFiber, held_after, StandsFor}
+use Rattle.fx_plain.specs.PutCounts.{one_more_put}
+use Rattle.fx_plain.specs.World.{WorldView, after_put, world_after, HeldFiber, held_after, StandsFor}
 use Rattle.fx_plain.specs.PlainCalls.{PortView, plain_calls}
 use Rattle.fx_plain.proofs.LawfulRuns.{IsKept}
 use Rattle.fx_plain.proofs.StepsCan.{steps_can}
+use Rattle.fx_plain.proofs.Maps.{at_that, at_other}
+use Rattle.fx_plain.proofs.PutCounts.{count_after}
+use Rattle.fx_plain.proofs.WorldQueues.{room_is, puts_counted}
 use Rattle.fx_plain.proofs.WorldLaws.{stands_after}
 
--- a step that calls so is that of no queue
-pub of_no_queue : (nodes : List Node) (l : Label) (answer : Stepped PortView WorldView) (p p' : PortView) (w w' : WorldView)
-    → Tells plain_calls nodes l answer p w p' w' → IsOfNoQueue l
-of_no_queue nodes (Shows (event.Put q n)) answer p p' w w' h = h
-of_no_queue nodes (Shows (event.Got q n)) answer p p' w w' h = h
-of_no_queue nodes (Shows (event.Refused q)) answer p p' w w' h = h
-of_no_queue nodes (Shows (event.Empty q)) answer p p' w w' h = h
-of_no_queue nodes _ answer p p' w w' h = tt
+abbrev item_of : ℕ → ℕ → ℕ → Item
+item_of f i n = record { fiber = f; nth = i; value = n }
 
--- the calls of a step leave the world as its label says
-pub world_is : (nodes : List Node) (f : ℕ) (l : Label) (answer : Stepped PortView WorldView) (p p' : PortView) (w w' : WorldView) → p.number ≡ f
-    → Tells plain_calls nodes l answer p w p' w' → w' ≡ world_after f l w
-world_is nodes f (Learns g o e) answer p p' w w' own h = h.2
-world_is nodes f (Shows (event.Request g)) answer p p' w w' own h = h.1
-world_is nodes f (Shows event.Seen) answer p p' w w' own h = h.2
-world_is nodes f (Shows (event.Ended o)) answer p p' w w' own h = rw (← own) h.1
-world_is nodes f (Starts g b) (Child child) p p' w w' own h = h.told.2
-world_is nodes f (Starts g b) Went p p' w w' own h = absurd h
-world_is nodes f (Starts g b) Waits p p' w w' own h = absurd h
-world_is nodes f (Starts g b) Gave p p' w w' own h = absurd h
-world_is nodes f (Starts g b) Ended p p' w w' own h = absurd h
-world_is nodes f (Shows (event.Put q n)) answer p p' w w' own h = absurd h
-world_is nodes f (Shows (event.Got q n)) answer p p' w w' own h = absurd h
-world_is nodes f (Shows (event.Refused q)) answer p p' w w' own h = absurd h
-world_is nodes f (Shows (event.Empty q)) answer p p' w w' own h = absurd h
-world_is nodes f _ answer p p' w w' own h = h.1
+-- the element that the port puts next is the fiber's next
+same_item : {f g n : ℕ} {i j : ℕ} → f ≡ g → i ≡ j → item_of f i n ≡ item_of g j n
+same_item e h = rw (e, h) refl
+
+module _ (nodes : List Node) (leaf : Option Term) (f : ℕ) (ls : List Label) (p : PortView) (own : p.number ≡ f)
+    (counted : (q : ℕ) → slice_index p.put_counts q ≡ length (values_put q (events ls))) where
+  -- the calls of a step leave the world as its label says
+  pub world_is : (l : Label) (answer : Stepped PortView WorldView) (p' : PortView) (w w' : WorldView) → Tells plain_calls nodes leaf l answer p w p' w'
+      → w' ≡ world_after f ls l w
+  world_is (Learns g o e) answer p' w w' h = h.2
+  world_is (Shows (event.Request g)) answer p' w w' h = h.1
+  world_is (Shows event.Seen) answer p' w w' h = h.2
+  world_is (Shows (event.Ended o)) answer p' w w' h = rw (← own) h.1
+  world_is (Starts g b) (Child child) p' w w' h = h.told.2
+  world_is (Starts g b) Went p' w w' h = absurd h
+  world_is (Starts g b) Waits p' w w' h = absurd h
+  world_is (Starts g b) Gave p' w w' h = absurd h
+  world_is (Starts g b) Ended p' w w' h = absurd h
+  world_is (Shows (event.Put q n)) answer p' w w' h = h.2 ∙ ap (λ (x : Item). after_put q x w) (same_item own (counted q))
+  world_is (Shows (event.Got q n)) answer p' w w' h = h.2
+  world_is (Shows (event.Refused q)) answer p' w w' h = h.2
+  world_is (Shows (event.Empty q)) answer p' w w' h = h.2
+  world_is _ answer p' w w' h = h.1
+
+  unchanged : (counts : List ℕ) (q : ℕ) → counts ≡ p.put_counts → slice_index counts q ≡ length (values_put q (events ls)) + 0
+  unchanged counts q e = let same : slice_index counts q ≡ slice_index p.put_counts q = ap (λ (ns : List ℕ). slice_index ns q) e in
+      let c = counted q in omega arith
+
+  one_more : (k n q : ℕ) (counts : List ℕ) → counts ≡ one_more_put k p.put_counts
+      → slice_index counts q ≡ length (values_put q (events ls)) + length (values_put q (event.Put k n ∷ []))
+  one_more k n q counts e = ap (λ (ns : List ℕ). slice_index ns q) e ∙ count_after k p.put_counts q ∙ elim (cases_eq q k) [
+    | inl same ↦
+        at_that k (suc (slice_index p.put_counts k)) (slice_index p.put_counts) q same
+        ∙ rw (eq-eqb k q (sym same)) (let c = counted k in let d : length (values_put k (events ls)) ≡ length (values_put q (events ls)) =
+        ap (λ (i : ℕ). length (values_put i (events ls))) (sym same) in omega arith)
+    | inr apart ↦
+        at_other k (suc (slice_index p.put_counts k)) (slice_index p.put_counts) q apart
+        ∙ rw (ne_eqb k q (λ same. apart (sym same))) (let c = counted q in omega arith)
+  ]
+
+  -- and the port, which goes on to count what its fiber puts
+  counted_one : (l : Label) (answer : Stepped PortView WorldView) (p' : PortView) (w w' : WorldView) → IsProper l
+      → Tells plain_calls nodes leaf l answer p w p' w' → (q : ℕ)
+      → slice_index p'.put_counts q ≡ length (values_put q (events ls)) + length (values_put q (events (l ∷ [])))
+  counted_one (Learns g o (event.Joined k v)) answer p' w w' proper h q = unchanged p'.put_counts q (ap (λ (r : PortView). r.put_counts) h.1)
+  counted_one (Learns g o (event.Awaited k)) answer p' w w' proper h q = unchanged p'.put_counts q (ap (λ (r : PortView). r.put_counts) h.1)
+  counted_one (Learns g o (event.First k)) answer p' w w' proper h q = unchanged p'.put_counts q (ap (λ (r : PortView). r.put_counts) h.1)
+  counted_one (Learns g o e) answer p' w w' proper h q = absurd proper
+  counted_one (Shows (event.Start g)) answer p' w w' proper h q = absurd proper
+  counted_one (Shows (event.Request g)) answer p' w w' proper h q = unchanged p'.put_counts q (ap (λ (r : PortView). r.put_counts) h.0)
+  counted_one (Shows event.Seen) answer p' w w' proper h q = unchanged p'.put_counts q (ap (λ (r : PortView). r.put_counts) h.1)
+  counted_one (Shows (event.Ended o)) answer p' w w' proper h q = unchanged p'.put_counts q (ap (λ (r : PortView). r.put_counts) h.0)
+  counted_one (Starts g b) (Child child) p' w w' proper h q = unchanged p'.put_counts q (ap (λ (r : PortView). r.put_counts) h.told.1)
+  counted_one (Starts g b) Went p' w w' proper h q = absurd h
+  counted_one (Starts g b) Waits p' w w' proper h q = absurd h
+  counted_one (Starts g b) Gave p' w w' proper h q = absurd h
+  counted_one (Starts g b) Ended p' w w' proper h q = absurd h
+  counted_one (Shows (event.Put k n)) answer p' w w' proper h q = one_more k n q p'.put_counts (ap (λ (r : PortView). r.put_counts) h.1)
+  counted_one (Shows (event.Got k n)) answer p' w w' proper h q = unchanged p'.put_counts q (ap (λ (r : PortView). r.put_counts) h.1)
+  counted_one (Shows (event.Refused k)) answer p' w w' proper h q = unchanged p'.put_counts q (ap (λ (r : PortView). r.put_counts) h.1)
+  counted_one (Shows (event.Empty k)) answer p' w w' proper h q = unchanged p'.put_counts q (ap (λ (r : PortView). r.put_counts) h.1)
+  counted_one _ answer p' w w' proper h q = unchanged p'.put_counts q (ap (λ (r : PortView). r.put_counts) h.0)
+
+  pub counts_after : (l : Label) (answer : Stepped PortView WorldView) (p' : PortView) (w w' : WorldView) → IsProper l
+      → Tells plain_calls nodes leaf l answer p w p' w' → (q : ℕ) → slice_index p'.put_counts q ≡ length (values_put q (events (ls ++ l ∷ [])))
+  counts_after l answer p' w w' proper h q = counted_one l answer p' w w' proper h q ∙ sym (puts_counted q ls l)
 
 module _ (s : ScriptView) (w : WorldView) (held : List (Option HeldFiber)) (m : WholeMachine) (stands : StandsFor s w held m) (nodes : List Node)
     (f : ℕ) (lt : f < total s) (p : PortView) (own : p.number ≡ f) where
   -- the answers of the world are those of the whole machine
-  answers_are_so : (l : Label) (answer : Stepped PortView WorldView) (p' : PortView) (w' : WorldView) → IsOfNoQueue l
-      → Tells plain_calls nodes l answer p w p' w' → IsAnswered s m f l
-  answers_are_so (Learns g o e) answer p' w' none h = sym (stands.outcomes g) ∙ sym h.0
-  answers_are_so (Shows event.Seen) answer p' w' none h = sym (stands.requested f lt) ∙ sym (rw own at h.0)
-  answers_are_so (Shows (event.Put q n)) answer p' w' none h = absurd none
-  answers_are_so (Shows (event.Got q n)) answer p' w' none h = absurd none
-  answers_are_so (Shows (event.Refused q)) answer p' w' none h = absurd none
-  answers_are_so (Shows (event.Empty q)) answer p' w' none h = absurd none
-  answers_are_so _ answer p' w' none h = tt
+  answers_are_so : (leaf : Option Term) (l : Label) (answer : Stepped PortView WorldView) (p' : PortView) (w' : WorldView)
+      → Tells plain_calls nodes leaf l answer p w p' w' → IsAnswered s m f l
+  answers_are_so leaf (Learns g o e) answer p' w' h = sym (stands.outcomes g) ∙ sym h.0
+  answers_are_so leaf (Shows event.Seen) answer p' w' h = sym (stands.requested f lt) ∙ sym (rw own at h.0)
+  answers_are_so leaf (Shows (event.Put q n)) answer p' w' h = sym (room_is s m w.queues stands.capacities stands.queues q) ∙ h.0
+  answers_are_so leaf (Shows (event.Got q n)) answer p' w' h = ap front (sym (stands.queues q)) ∙ h.0
+  answers_are_so leaf (Shows (event.Refused q)) answer p' w' h = sym (room_is s m w.queues stands.capacities stands.queues q) ∙ h.0
+  answers_are_so leaf (Shows (event.Empty q)) answer p' w' h = sym (stands.queues q) ∙ h.0
+  answers_are_so leaf _ answer p' w' h = tt
 
   -- a request that is there is seen, where a look is due
   looks_are_so : (due : Bool) (l : Label) → LooksBefore plain_calls due l p w → due ≡ true → m.requested f ≡ true → l ≡ Shows event.Seen
@@ -72,9 +125,10 @@ module _ (s : ScriptView) (w : WorldView) (held : List (Option HeldFiber)) (m : 
 module _ (s : ScriptView) (w : WorldView) (held : List (Option HeldFiber)) (m : WholeMachine) (stands : StandsFor s w held m) (kept : IsKept s m)
     (nodes : List Node) (f : ℕ) (x : StartedFiber) (l : Label) (d : Counts) (q : Progress) (at : m.fibers f ≡ Some x)
     (st : Step x.counts x.progress l d q) (answer : Stepped PortView WorldView) (p p' : PortView) (w' : WorldView) (own : p.number ≡ f)
+    (counted : (r : ℕ) → slice_index p.put_counts r ≡ length (values_put r (events x.labels)))
     (calls : Calls plain_calls nodes (looks_first x.counts.known x.progress) (leaf_at x.progress) l answer p w p' w') where
-  none : IsOfNoQueue l
-  none = of_no_queue nodes l answer p p' w w' calls.told
+  answered : IsAnswered s m f l
+  answered = answers_are_so s w held m stands nodes f (kept.ranges.started_below f x at) p own (leaf_at x.progress) l answer p' w' calls.told
 
   pub steps_so : FiberSteps s m f l (moved m f x l d q)
   steps_so =
@@ -85,7 +139,7 @@ module _ (s : ScriptView) (w : WorldView) (held : List (Option HeldFiber)) (m : 
         counts = d;
         progress = q;
         step = st;
-        answered = answers_are_so s w held m stands nodes f lt p own l answer p' w' none calls.told;
+        answered = answered;
         seen_first = looks_are_so s w held m stands nodes f lt p own (looks_first x.counts.known x.progress) l calls.looked;
         after = refl;
       }
@@ -101,4 +155,6 @@ module _ (s : ScriptView) (w : WorldView) (held : List (Option HeldFiber)) (m : 
       }
 
   pub stands_so : StandsFor s w' (held_after f x l d q held) (moved m f x l d q)
-  stands_so = rw (world_is nodes f l answer p p' w w' own calls.told) (stands_after s w held m stands kept f x d q at l st none)
+  stands_so =
+      rw (world_is nodes (leaf_at x.progress) f x.labels p own counted l answer p' w w' calls.told)
+      (stands_after s w held m stands kept f x d q at l st answered)

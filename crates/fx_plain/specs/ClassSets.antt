@@ -1,9 +1,17 @@
 -- A list of classes by fiber number, and the sets of numbers that stand for it.
-use Rattle.std.specs.Prelude.{◌≡◌, ℕ, Bool, true, false, List, map, slice_index_or, slice_set}
-use Rattle.fx_fiber.specs.declared.source.Source.TheVariants.{Outcome, Either}
+use Rattle.std.specs.Prelude.{◌≡◌, ℕ, ◌<◌, ◌==◌, ◌||◌, ◌&&◌, Bool, true, false, if◌then◌else◌, List, length, map, slice_index_or, slice_set}
+use Rattle.fx_fiber.specs.declared.source.Source.TheVariants.{Outcome, Either, Room, Element}
 use Rattle.fx_plain.specs.declared.class.Class.{Class}
 use Rattle.fx_plain.specs.declared.class.Class.TheVariants.{Unstarted, Able, Waits, Over}
 use Rattle.fx_plain.specs.Classes.{class_requested, class_at_end}
+use Rattle.fx_plain.specs.NumberSet.{is_member, is_member_of}
+use Rattle.fx_plain.specs.PlainQueue.{QueueView, has_room_in, has_element_in}
+use Rattle.fx_plain.specs.WholeMachine.{with_at}
+
+-- what classes are seen as: the class of each fiber, and how many queues have sets
+pub record ClassesView : Type 0 where
+  pub of : List Class
+  pub queues : ℕ
 
 -- the class of that number; what is past the list has not started
 abbrev pub class_at : List Class → ℕ → Class
@@ -16,7 +24,14 @@ with_request f classes = slice_set classes f (class_requested (class_at classes 
 abbrev pub with_end : ℕ → List Class → List Class
 with_end f classes = slice_set (map (class_at_end f) classes) f Over
 
--- the tests of two sets: those who are able, and those who wait for an outcome
+-- a set that is kept: those who are able, those who wait for an outcome, and by queue those who wait for room in it, and for an element of it
+pub data Kind : Type 0 where
+  AreAble : Kind
+  ForOutcomes : Kind
+  ForRoom : ℕ → Kind
+  ForElement : ℕ → Kind
+
+-- the test of that set
 abbrev pub is_able : Class → Bool
 is_able Able = true
 is_able _ = false
@@ -26,11 +41,54 @@ waits_for_outcome (Waits (Outcome g)) = true
 waits_for_outcome (Waits (Either g h)) = true
 waits_for_outcome _ = false
 
+abbrev pub waits_for_room : ℕ → Class → Bool
+waits_for_room q (Waits (Room r)) = r == q
+waits_for_room q _ = false
+
+abbrev pub waits_for_element : ℕ → Class → Bool
+waits_for_element q (Waits (Element r)) = r == q
+waits_for_element q _ = false
+
+abbrev pub passes : Kind → Class → Bool
+passes AreAble k = is_able k
+passes ForOutcomes k = waits_for_outcome k
+passes (ForRoom q) k = waits_for_room q k
+passes (ForElement q) k = waits_for_element q k
+
+-- the sets as they are kept, each by its words
+pub record SetsView : Type 0 where
+  pub able : List ℕ
+  pub for_outcomes : List ℕ
+  pub for_room : List (List ℕ)
+  pub for_element : List (List ℕ)
+
+-- the number is in the set of that kind
+abbrev pub members : SetsView → Kind → ℕ → Bool
+members sets AreAble f = is_member sets.able f
+members sets ForOutcomes f = is_member sets.for_outcomes f
+members sets (ForRoom q) f = is_member_of sets.for_room q f
+members sets (ForElement q) f = is_member_of sets.for_element q f
+
+-- there is a set of that kind, where so many queues have sets
+abbrev pub IsKept : ℕ → Kind → Type 0
+IsKept queues (ForRoom q) = q < queues
+IsKept queues (ForElement q) = q < queues
+IsKept queues _ = Unit {0}
+
+-- the sets that a class is in have that number, or have it not; the others are as they were
+pub record AreWith (b : Bool) (f : ℕ) (k : Class) (old new : SetsView) : Type 0 where
+  pub count : length new.for_room ≡ length old.for_room
+  pub are : (kind : Kind) → IsKept (length old.for_room) kind → (g : ℕ)
+      → members new kind g ≡ (if passes kind k then with_at f b (members old kind) g else members old kind g)
+
 -- the set has the numbers whose class passes that test, and no others
 abbrev pub IsSetOf : (Class → Bool) → List Class → (ℕ → Bool) → Type 0
 IsSetOf test classes set = (f : ℕ) → set f ≡ test (class_at classes f)
 
--- the sets that are kept beside the classes
-pub record AreSets (classes : List Class) (able for_outcomes : ℕ → Bool) : Type 0 where
-  pub able_is : IsSetOf is_able classes able
-  pub for_outcomes_is : IsSetOf waits_for_outcome classes for_outcomes
+-- the sets that are kept beside the classes; who waits at a queue without sets is in none
+abbrev pub AreSets : List Class → SetsView → Type 0
+AreSets classes sets = (kind : Kind) → IsKept (length sets.for_room) kind → IsSetOf (passes kind) classes (members sets kind)
+
+-- those who wait at this queue for room, if it has some, or for an element, if it has one
+abbrev pub is_ready_there : SetsView → ℕ → QueueView → ℕ → Bool
+is_ready_there sets q own f = (has_room_in own && members sets (ForRoom q) f) || (has_element_in own && members sets (ForElement q) f)

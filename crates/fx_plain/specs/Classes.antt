@@ -73,8 +73,8 @@ abbrev pub AwaitWhatIsToCome : (ℕ → Option outcome.Outcome) → (ℕ → Cla
 AwaitWhatIsToCome outcomes class = (f : ℕ) → outcome_has_come outcomes (class f) ≡ false
 
 -- it is able, or waits at a queue that has the room or the element for which it waits
-abbrev pub is_ready : Outside → Class → Bool
-is_ready o Able = true
-is_ready o (Waits (Room q)) = o.has_room q
-is_ready o (Waits (Element q)) = o.has_element q
-is_ready o _ = false
+abbrev pub is_ready : (has_room has_element : ℕ → Bool) → Class → Bool
+is_ready has_room has_element Able = true
+is_ready has_room has_element (Waits (Room q)) = has_room q
+is_ready has_room has_element (Waits (Element q)) = has_element q
+is_ready has_room has_element _ = false

@@ -3,6 +3,8 @@ pub mod Chosen
 pub mod Text
 pub mod Output
 pub mod NumberSet
+pub mod PlainQueue
+pub mod PutCounts
 pub mod OnTheWay
 pub mod Classes
 pub mod ClassSets

@@ -1,11 +1,16 @@
 -- A set of numbers as bits in two levels.
-use Rattle.std.specs.Prelude.{◌≡◌, ℕ, ◌/◌, ◌%◌, ◌<◌, ◌≤◌, Bool, true, false, ◌==◌, nat_lt, Option, MatchOption, List, slice_index}
+use Rattle.std.specs.Prelude.{◌≡◌, ℕ, ◌/◌, ◌%◌, ◌<◌, ◌≤◌, Bool, true, false, ◌==◌, nat_lt, min, Option, Some, None, MatchOption, List, [], slice_index}
+use Rattle.std.specs.Prelude.{slice_index_or}
 use Rattle.std.specs.Int.{bit_at}
 use Rattle.fx_plain.specs.declared.number_set.TheConstants.{BITS, WORDS}
 
 -- the number is in the set: its bit is set in its word
 abbrev pub is_member : List ℕ → ℕ → Bool
 is_member words n = bit_at (slice_index words (n / BITS)) (n % BITS) == 1
+
+-- the number is in the set of that index
+abbrev pub is_member_of : List (List ℕ) → ℕ → ℕ → Bool
+is_member_of sets i n = is_member (slice_index_or sets i []) n
 
 -- the bit of a word in the level above is set exactly where some bit of that word is
 abbrev pub AreMarked : ℕ → List ℕ → Type 0
@@ -19,3 +24,9 @@ IsLeastOf test least = MatchOption least ((n : ℕ) → test n ≡ false) (λ n.
 abbrev pub IsLeastFrom : ℕ → (ℕ → Bool) → Option ℕ → Type 0
 IsLeastFrom from test least =
     MatchOption least ((n : ℕ) → from ≤ n → test n ≡ false) (λ n. (from ≤ n) × (test n ≡ true) × ((k : ℕ) → from ≤ k → k < n → test k ≡ false))
+
+-- the lesser of two numbers, of those that there are
+abbrev pub lesser : Option ℕ → Option ℕ → Option ℕ
+lesser None b = b
+lesser (Some m) None = Some m
+lesser (Some m) (Some n) = Some (min m n)

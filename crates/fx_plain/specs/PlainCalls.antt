@@ -1,20 +1,32 @@
 -- The ports of the fibers of one thread, and what their calls answer and change.
-use Rattle.std.specs.Prelude.{◌≡◌, ℕ, Bool, true, false, Option}
+use Rattle.std.specs.Prelude.{◌≡◌, ℕ, Bool, true, false, Option, Some, None, List, [], slice_index}
 use Rattle.fx_term.specs.declared.begin.Begin.{Begin}
+use Rattle.fx_term.specs.declared.item.Item.{Item}
+use Rattle.fx_term.specs.declared.offered.Offered.{Offered}
+use Rattle.fx_term.specs.declared.offered.Offered.TheVariants.{Done, Full}
 use Rattle.fx_term.specs.declared.outcome.Outcome.{Outcome}
 use Rattle.fx_fiber.specs.Calls.{PortCalls, Range, first_range, range_after}
-use Rattle.fx_plain.specs.World.{WorldView, is_requested_in, outcome_in, after_request, after_start, after_end}
+use Rattle.fx_plain.specs.WholeMachine.{front}
+use Rattle.fx_plain.specs.PlainQueue.{queue_at, have_room}
+use Rattle.fx_plain.specs.PutCounts.{one_more_put}
+use Rattle.fx_plain.specs.World.{WorldView, is_requested_in, outcome_in, after_request, after_start, after_end, after_put, after_take}
 
--- a port: its fiber's number, what that began with, the numbers that it has left, and whether its end was told
+-- a port: its fiber's number, what that began with, the numbers that it has left, how many elements it has put into each queue, and whether its end was
+-- told
 pub record PortView : Type 0 where
   pub number : ℕ
   pub beginning : Begin
   pub rest : Range
+  pub put_counts : List ℕ
   pub has_finished : Bool
 
 -- the port of a fiber that begins so
 abbrev pub new_port : ℕ → Begin → PortView
-new_port f begin = record { number = f; beginning = begin; rest = first_range begin; has_finished = false }
+new_port f begin = record { number = f; beginning = begin; rest = first_range begin; put_counts = []; has_finished = false }
+
+-- the element that it puts next into queue q
+abbrev pub next_of : PortView → ℕ → ℕ → Item
+next_of p q n = record { fiber = p.number; nth = slice_index p.put_counts q; value = n }
 
 -- the calls of these ports, over this world
 abbrev pub LooksIn : PortView → WorldView → Bool → PortView → WorldView → Type 0
@@ -26,6 +38,15 @@ RequestsIn p w g p' w' = (p' ≡ p) × (w' ≡ after_request g w)
 abbrev pub PeeksIn : PortView → WorldView → ℕ → Option Outcome → PortView → WorldView → Type 0
 PeeksIn p w g answer p' w' = (answer ≡ outcome_in w g) × (p' ≡ p) × (w' ≡ w)
 
+abbrev pub OffersIn : PortView → WorldView → ℕ → ℕ → Offered → PortView → WorldView → Type 0
+OffersIn p w q n Done p' w' =
+    (have_room w.queues q ≡ true) × (p' ≡ record p { put_counts = one_more_put q p.put_counts }) × (w' ≡ after_put q (next_of p q n) w)
+OffersIn p w q n Full p' w' = (have_room w.queues q ≡ false) × (p' ≡ p) × (w' ≡ w)
+
+abbrev pub TakesIn : PortView → WorldView → ℕ → Option ℕ → PortView → WorldView → Type 0
+TakesIn p w q (Some n) p' w' = (front (queue_at w.queues q).items ≡ Some n) × (p' ≡ p) × (w' ≡ after_take q w)
+TakesIn p w q None p' w' = ((queue_at w.queues q).items ≡ []) × (p' ≡ p) × (w' ≡ w)
+
 abbrev pub StartsIn : PortView → WorldView → ℕ → Begin → PortView → PortView → WorldView → Type 0
 StartsIn p w g begin child p' w' = (child ≡ new_port g begin) × (p' ≡ record p { rest = range_after begin p.rest }) × (w' ≡ after_start g w)
 
@@ -33,4 +54,12 @@ abbrev pub FinishesIn : PortView → WorldView → Outcome → PortView → Worl
 FinishesIn p w o p' w' = (p' ≡ record p { has_finished = true }) × (w' ≡ after_end p.number o w)
 
 abbrev pub plain_calls : PortCalls PortView WorldView
-plain_calls = record { looks = LooksIn; requests = RequestsIn; peeks = PeeksIn; starts = StartsIn; finishes = FinishesIn }
+plain_calls = record {
+  looks = LooksIn;
+  requests = RequestsIn;
+  peeks = PeeksIn;
+  offers = OffersIn;
+  takes = TakesIn;
+  starts = StartsIn;
+  finishes = FinishesIn;
+}

@@ -1,7 +1,8 @@
 -- All fibers of a script as code holds them, and the whole machine that they and their world stand for.
-use Rattle.std.specs.Prelude.{◌≡◌, ℕ, ◌<◌, false, if◌then◌else◌, Option, Some, None, option_map, List, All, map, slice_index_or}
+use Rattle.std.specs.Prelude.{◌≡◌, ℕ, ◌<◌, false, if◌then◌else◌, Option, Some, None, option_map, List, length, map, slice_index, slice_index_or}
 use Rattle.std.specs.List.{filter_map, sum_by}
 use Rattle.fx_term.specs.declared.node.Node.{Node}
+use Rattle.fx_term.specs.Queue.{values_put}
 use Rattle.fx_term.specs.Script.{ScriptView}
 use Rattle.fx_fiber.specs.Row.{Label}
 use Rattle.fx_fiber.specs.Origin.{origin_of}
@@ -13,19 +14,18 @@ use Rattle.fx_plain.specs.declared.plain_machine.PlainMachine.{PlainMachine}
 use Rattle.fx_plain.specs.WholeMachine.{WholeMachine, Move, can_step_in, IsWholeMachineRun}
 use Rattle.fx_plain.specs.Chosen.{ChosenStep}
 use Rattle.fx_plain.specs.declared.class.Class.{Class}
-use Rattle.fx_plain.specs.ClassSets.{class_at, is_able}
-use Rattle.fx_plain.specs.World.{HeldFiber, StandsFor}
+use Rattle.fx_plain.specs.ClassSets.{is_able}
+use Rattle.fx_plain.specs.World.{HeldFiber, is_ready_in, StandsFor}
 use Rattle.fx_plain.specs.WorldClasses.{TellsWhoSteps}
 use Rattle.fx_plain.specs.OnTheWay.{IsOnTheWay}
-use Rattle.fx_term.specs.QueuesNamed.{NamesQueueBelow}
 
 -- how many are able
 abbrev pub able_count : List Class → ℕ
 able_count classes = sum_by (λ k. if is_able k then 1 else 0) classes
 
--- no fiber is able
+-- no fiber is ready
 abbrev pub Rests : {J : Type 0} → PlainMachine J → Type 0
-Rests p = (f : ℕ) → is_able (class_at p.world.classes f) ≡ false
+Rests p = (f : ℕ) → is_ready_in p.world f ≡ false
 
 module _ {J : Type 0} (nodes : List Node) where
   -- a fiber that has started
@@ -54,10 +54,10 @@ module _ {J : Type 0} (nodes : List Node) where
   abbrev pub all_held : PlainMachine J → List (Option HeldFiber)
   all_held p = map (option_map held) p.fibers.items
 
-  -- the fiber with this number, if it has started, has a port of that number, and its trace names no queue
+  -- the fiber with this number, if it has started, has a port of that number, which counts what the fiber puts into each queue
   abbrev pub IsNumbered : ℕ → Option (Started J) → Type 0
   IsNumbered f None = Unit {0}
-  IsNumbered f (Some x) = (x.fiber.port.number ≡ f) × All (NamesQueueBelow 0) x.fiber.trace
+  IsNumbered f (Some x) = (x.fiber.port.number ≡ f) × ((q : ℕ) → slice_index x.fiber.port.put_counts q ≡ length (values_put q x.fiber.trace))
 
   -- it stands for that whole machine, to which some run leads
   pub record StandsForRun (s : ScriptView) (p : PlainMachine J) (m : WholeMachine) : Type 0 where

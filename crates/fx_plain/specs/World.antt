@@ -1,8 +1,9 @@
 -- The world that the fibers of one thread share, and the whole machine that it and they stand for.
-use Rattle.std.specs.Prelude.{◌≡◌, ℕ, ◌<◌, Bool, true, false, Option, Some, None, option_map, List, [], ◌∷◌, length, replicate, slice_set, slice_index_or}
+use Rattle.std.specs.Prelude.{◌≡◌, ℕ, ◌<◌, Bool, true, false, Option, Some, None, option_map, List, ◌∷◌, length, map, replicate, slice_set, slice_index_or}
 use Rattle.fx_term.specs.declared.outcome.Outcome.{Outcome}
 use Rattle.fx_term.specs.declared.event.Event.{Event}
 use Rattle.fx_term.specs.declared.event.Event.TheVariants as event
+use Rattle.fx_term.specs.declared.item.Item.{Item}
 use Rattle.fx_term.specs.Need.{need}
 use Rattle.fx_term.specs.Script.{ScriptView, total}
 use Rattle.fx_fiber.specs.Origin.{Origin, main_origin}
@@ -11,21 +12,28 @@ use Rattle.fx_fiber.specs.Step.{Progress}
 use Rattle.fx_fiber.specs.Run.{events}
 use Rattle.fx_plain.specs.declared.class.Class.{Class}
 use Rattle.fx_plain.specs.declared.class.Class.TheVariants.{Unstarted, Able}
-use Rattle.fx_plain.specs.ClassSets.{with_request, with_end}
-use Rattle.fx_plain.specs.WholeMachine.{StartedFiber, WholeMachine, begun, stepped, outcome_of}
+use Rattle.fx_plain.specs.PlainQueue.{QueueView, empty_queue, queue_at, have_room, have_element, with_item, without_front}
+use Rattle.fx_plain.specs.Classes.{is_ready}
+use Rattle.fx_plain.specs.ClassSets.{class_at, with_request, with_end}
+use Rattle.fx_plain.specs.WholeMachine.{StartedFiber, WholeMachine, begun, stepped, next_item, outcome_of}
 
--- by fiber number: who is requested, who of these from outside, how each ended, and its class
+-- by fiber number: who is requested, who of these from outside, how each ended, and its class; and the queues by number
 pub record WorldView : Type 0 where
   pub requested : List Bool
   pub from_outside : List Bool
   pub outcomes : List (Option Outcome)
   pub classes : List Class
+  pub queues : List QueueView
 
 abbrev pub is_requested_in : WorldView → ℕ → Bool
 is_requested_in w f = slice_index_or w.requested f false
 
 abbrev pub outcome_in : WorldView → ℕ → Option Outcome
 outcome_in w f = slice_index_or w.outcomes f None
+
+-- by its class the fiber is able, or waits at a queue that has what it waits for
+abbrev pub is_ready_in : WorldView → ℕ → Bool
+is_ready_in w f = is_ready (have_room w.queues) (have_element w.queues) (class_at w.classes f)
 
 -- the world after a request, after one from outside, after a start and after an end
 abbrev pub after_request : ℕ → WorldView → WorldView
@@ -44,20 +52,21 @@ after_start g w = record w { classes = slice_set w.classes g Able }
 abbrev pub after_end : ℕ → Outcome → WorldView → WorldView
 after_end f o w = record w { outcomes = slice_set w.outcomes f (Some o); classes = with_end f w.classes }
 
--- the label is that of no queue
-abbrev pub IsOfNoQueue : Label → Type 0
-IsOfNoQueue (Shows (event.Put q n)) = ⊥
-IsOfNoQueue (Shows (event.Got q n)) = ⊥
-IsOfNoQueue (Shows (event.Refused q)) = ⊥
-IsOfNoQueue (Shows (event.Empty q)) = ⊥
-IsOfNoQueue _ = Unit {0}
+-- the world after this element was put into queue q, and after the front was taken out of it
+abbrev pub after_put : ℕ → Item → WorldView → WorldView
+after_put q x w = record w { queues = slice_set w.queues q (with_item x (queue_at w.queues q)) }
 
--- the world after a step of fiber f with this label
-abbrev pub world_after : ℕ → Label → WorldView → WorldView
-world_after f (Starts g b) w = after_start g w
-world_after f (Shows (event.Request g)) w = after_request g w
-world_after f (Shows (event.Ended o)) w = after_end f o w
-world_after f _ w = w
+abbrev pub after_take : ℕ → WorldView → WorldView
+after_take q w = record w { queues = slice_set w.queues q (without_front (queue_at w.queues q)) }
+
+-- the world after a step with this label of fiber f, which comes after steps with those labels
+abbrev pub world_after : ℕ → List Label → Label → WorldView → WorldView
+world_after f ls (Starts g b) w = after_start g w
+world_after f ls (Shows (event.Request g)) w = after_request g w
+world_after f ls (Shows (event.Ended o)) w = after_end f o w
+world_after f ls (Shows (event.Put q n)) w = after_put q (next_item f ls q n) w
+world_after f ls (Shows (event.Got q n)) w = after_take q w
+world_after f ls _ w = w
 
 -- a fiber as code holds it: who started it, what it began with, its trace, its counts and how far it is
 pub record HeldFiber : Type 0 where
@@ -79,7 +88,7 @@ with_child f _ held = held
 abbrev pub held_after : ℕ → StartedFiber → Label → Counts → Progress → List (Option HeldFiber) → List (Option HeldFiber)
 held_after f x l c p held = slice_set (with_child f l held) f (Some (held_of (stepped x l c p)))
 
--- a world and its fibers stand for a whole machine. No script has a queue's form yet, so its queues are empty
+-- a world and its fibers stand for a whole machine
 pub record StandsFor (s : ScriptView) (w : WorldView) (held : List (Option HeldFiber)) (m : WholeMachine) : Type 0 where
   pub held_long : length held ≡ total s
   pub requested_long : length w.requested ≡ total s
@@ -89,7 +98,8 @@ pub record StandsFor (s : ScriptView) (w : WorldView) (held : List (Option HeldF
   pub requested : (f : ℕ) → f < total s → is_requested_in w f ≡ m.requested f
   pub from_outside : (f : ℕ) → f < total s → slice_index_or w.from_outside f false ≡ m.from_outside f
   pub outcomes : (f : ℕ) → outcome_in w f ≡ outcome_of m f
-  pub queues : (q : ℕ) → m.queues q ≡ []
+  pub capacities : map (λ (q : QueueView). q.capacity) w.queues ≡ s.capacities
+  pub queues : (q : ℕ) → (queue_at w.queues q).items ≡ m.queues q
 
 -- the world before any step, and its one fiber
 abbrev pub opening_world : ScriptView → WorldView
@@ -98,6 +108,7 @@ opening_world s = record {
   from_outside = replicate (total s) false;
   outcomes = replicate (total s) None;
   classes = Able ∷ replicate (need s.term) Unstarted;
+  queues = map empty_queue s.capacities;
 }
 
 abbrev pub opening_held : ScriptView → List (Option HeldFiber)

@@ -1,6 +1,8 @@
 //! Replays a script: makes the run of its fibers that a schedule chooses.
-ghost use Rattle.std.specs.Prelude.{◌≡◌, true, IfOk};
+ghost use Rattle.std.specs.Prelude.{◌≡◌, ◌≤◌, true, IfOk, length};
 ghost use Rattle.fx_fiber.specs.LawfulReport.{IsLawfulReport};
+ghost use Rattle.fx_fiber.specs.Causes.{IsLawfulInOneOrder};
+ghost use Rattle.fx_fiber.specs.Headline.{KeepsWhatIsPromised};
 ghost use Rattle.fx_text.specs.View.{meaning};
 ghost use Rattle.fx_plain.specs.Chosen.{IsReplay};
 ghost use Rattle.fx_plain.specs.Replay.{script_of};
@@ -22,27 +24,34 @@ fn replay_named<J: CodeBrand>(
     requires code { script.now.code.nodes ≡ J.nodes }
     ensures replayed { IfOk result
         (λ report. IsReplay (script_of (meaning script.now)) picks.now report) }
-    ensures writable { IfOk result
-        (λ report. IsWritable (queue_names (meaning script.now)) report) }
+    ensures writable { script.now.code.queues ≤ length script.now.queues.items
+        → IfOk result (λ report. IsWritable (queue_names (meaning script.now)) report) }
+    ensures promised { IfOk result
+        (λ report. KeepsWhatIsPromised (script_of (meaning script.now)) (λ f. true) report) }
 {
     let mut machine: PlainMachine<J> = PlainMachine::opening(alloc, script)?;
     for pick in picks {
         machine.take_pick(&script.code, *pick)?;
     }
     machine.run_to_rest(&script.code)?;
-    machine.into_report(alloc, script.queues.len())
+    machine.into_report(alloc)
 }
 
 /// The report of the run that the picks choose: each pick makes its step or is skipped, and after the
 /// last one the fiber with the least number that can step makes one step, again and again, until none
-/// can. A fiber that has not ended by then is blocked: it waits for good.
+/// can. A fiber that has not ended by then is blocked: it waits for good. The writers take it where the
+/// code names no queue that is not declared.
 pub fn replay(alloc: Global, script: &Script, picks: &[Pick]) -> Result<Report, Memory>
     ensures replayed { IfOk result
         (λ report. IsReplay (script_of (meaning script.now)) picks.now report) }
     ensures lawful { IfOk result
         (λ report. IsLawfulReport (script_of (meaning script.now)) (λ f. true) report) }
-    ensures writable { IfOk result
-        (λ report. IsWritable (queue_names (meaning script.now)) report) }
+    ensures causes { IfOk result
+        (λ report. IsLawfulInOneOrder (script_of (meaning script.now)) (λ f. true) report) }
+    ensures promised { IfOk result
+        (λ report. KeepsWhatIsPromised (script_of (meaning script.now)) (λ f. true) report) }
+    ensures writable { script.now.code.queues ≤ length script.now.queues.items
+        → IfOk result (λ report. IsWritable (queue_names (meaning script.now)) report) }
 {
     replay_named::<Brand>(alloc, script, picks)
 }

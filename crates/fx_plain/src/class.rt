@@ -1,7 +1,6 @@
 //! The class of a fiber.
 ghost use Rattle.std.specs.Prelude.{◌≡◌};
 ghost use Rattle.fx_plain.specs.Classes.{waits_for_end};
-ghost use Rattle.fx_plain.specs.ClassSets.{waits_for_outcome};
 
 use fx_fiber::Source;
 
@@ -19,13 +18,6 @@ pub(crate) enum Class {
 }
 
 impl Class {
-    /// Whether it waits for the outcome of some fiber.
-    pub fn waits_for_outcome(self) -> bool
-        ensures { result ≡ waits_for_outcome self }
-    {
-        matches!(self, Class::Waits(Source::Outcome(_) | Source::Either(..)))
-    }
-
     /// Whether it waits for the end of that fiber.
     pub fn waits_for_end(self, fiber: u32) -> bool
         ensures { result ≡ waits_for_end fiber self }

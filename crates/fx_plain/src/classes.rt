@@ -2,105 +2,116 @@
 ghost use Rattle.std.specs.Prelude.{◌≡◌, ◌<◌, ◌≤◌, IfOk, length, map, replicate, slice_set};
 ghost use Rattle.fx_plain.specs.declared.class.Class.TheVariants.{Unstarted, Able, Waits};
 ghost use Rattle.fx_plain.specs.NumberSet.{IsLeastOf};
-ghost use Rattle.fx_plain.specs.Classes.{class_at_end};
-ghost use Rattle.fx_plain.specs.ClassSets.{class_at, with_request, with_end, is_able};
+ghost use Rattle.fx_plain.specs.PlainQueue.{have_room, have_element};
+ghost use Rattle.fx_plain.specs.Classes.{class_at_end, is_ready};
+ghost use Rattle.fx_plain.specs.ClassSets.{class_at, with_request, with_end};
 
 use crate::class::Class;
-use crate::number_set::{NUMBERS, NumberSet};
+use crate::class_sets::{ClassSets, lesser};
+use crate::number_set::NUMBERS;
+use crate::plain_queue::PlainQueue;
 use fx_fiber::Source;
 use fx_term::Memory;
 use std::alloc::Global;
 use std::marker::Model;
 
-/// The class of each fiber, by its number. The sets beside them spare a search for who is able, and for
+/// The class of each fiber, by its number. The sets beside them spare a search for who is ready, and for
 /// those whom an end wakes. A number of no fiber changes nothing, but that an end wakes who waits for it.
 /// No call but the first takes memory.
 #[derive(Drop)]
 pub(crate) struct Classes {
     of: Vec<Class>,
-    able: NumberSet,
-    for_outcomes: NumberSet,
+    sets: ClassSets,
 }
 
 impl Model for Classes {
-    ghost use Rattle.std.specs.Prelude.{List, ◌≤◌, length};
-    ghost use Rattle.fx_plain.specs.declared.class.Class.{Class};
+    ghost use Rattle.std.specs.Prelude.{◌≤◌, length};
     ghost use Rattle.fx_plain.specs.declared.number_set.TheConstants.{NUMBERS};
-    ghost use Rattle.fx_plain.specs.NumberSet.{is_member};
-    ghost use Rattle.fx_plain.specs.ClassSets.{AreSets};
+    ghost use Rattle.fx_plain.specs.ClassSets.{ClassesView, AreSets};
 
-    ghost Value = { List Class };
+    ghost Value = { ClassesView };
 
-    ghost view = { λ c. c.of.items };
+    ghost view = { λ c. record { of = c.of.items; queues = length c.sets.for_room } };
 
-    ghost invariant = { λ c. (length c.of.items ≤ NUMBERS)
-        × AreSets c.of.items (is_member c.able) (is_member c.for_outcomes) };
+    ghost invariant = { λ c. (length c.of.items ≤ NUMBERS) × AreSets c.of.items c.sets };
 }
 
 impl Classes {
-    /// So many fibers, none of which has started.
-    pub fn new(alloc: Global, total: u32) -> Result<Classes, Memory>
+    /// So many fibers, none of which has started, and so many queues.
+    pub fn new(alloc: Global, total: u32, queues: usize) -> Result<Classes, Memory>
         requires { total ≤ NUMBERS }
-        ensures { IfOk result (λ classes. classes ≡ replicate total Unstarted) }
+        ensures { IfOk result (λ classes. classes
+            ≡ record { of = replicate total Unstarted; queues = queues }) }
     {
         Ok(Classes {
             of: vec![in alloc; Class::Unstarted; total as usize]?,
-            able: NumberSet::new(),
-            for_outcomes: NumberSet::new(),
+            sets: ClassSets::new(alloc, queues)?,
         })
     }
 
     /// How many fibers there are, started or not.
     pub fn total(&self) -> u32
-        ensures { result ≡ length self.now }
+        ensures { result ≡ length self.now.of }
     {
         self.of.len() as u32
     }
 
-    /// Whether the fiber is able.
-    pub fn is_able(&self, fiber: u32) -> bool
-        ensures { result ≡ is_able (class_at self.now fiber) }
+    /// The class of the fiber.
+    pub fn class(&self, fiber: u32) -> Class
+        ensures { result ≡ class_at self.now.of fiber }
     {
-        matches!(self.of.get(fiber as usize), Some(Class::Able))
+        self.of
+            .get(fiber as usize)
+            .copied()
+            .unwrap_or(Class::Unstarted)
     }
 
-    /// The least number of a fiber that is able.
-    pub fn least(&self) -> Option<u32>
-        ensures { IsLeastOf (λ f. is_able (class_at self.now f)) result }
+    /// The least number of a fiber that is ready, where the queues are these. It looks at who waits at
+    /// a queue only for what that queue has.
+    pub fn least(&self, queues: &[PlainQueue]) -> Option<u32>
+        requires { length queues.now ≡ self.now.queues }
+        ensures { IsLeastOf (λ f. is_ready (have_room queues.now) (have_element queues.now)
+            (class_at self.now.of f)) result }
     {
-        self.able.least()
+        let mut least = self.sets.least_able();
+        for (queue, own) in queues.iter().enumerate() {
+            least = lesser(least, self.sets.least_there(queue, own));
+        }
+        least
+    }
+
+    /// The fiber comes into that class.
+    fn come_into(&mut self, fiber: u32, class: Class)
+        requires { fiber < length self.old.of }
+        ensures { self.new ≡ record self.old { of = slice_set self.old.of fiber class } }
+    {
+        self.sets.remove(fiber, self.of[fiber as usize]);
+        self.of[fiber as usize] = class;
+        self.sets.insert(fiber, class);
     }
 
     /// The fiber may step.
     pub fn become_able(&mut self, fiber: u32)
-        ensures { self.new ≡ slice_set self.old fiber Able }
+        ensures { self.new ≡ record self.old { of = slice_set self.old.of fiber Able } }
     {
-        let Some(class) = self.of.get_mut(fiber as usize) else {
-            return;
-        };
-        *class = Class::Able;
-        self.able.insert(fiber);
-        self.for_outcomes.remove(fiber);
+        match self.of.get(fiber as usize) {
+            None | Some(Class::Able) => {}
+            Some(_) => self.come_into(fiber, Class::Able),
+        }
     }
 
     /// The fiber waits for that.
     pub fn wait(&mut self, fiber: u32, source: Source)
-        requires { fiber < length self.old }
-        ensures { self.new ≡ slice_set self.old fiber (Waits source) }
+        requires { fiber < length self.old.of }
+        ensures { self.new
+            ≡ record self.old { of = slice_set self.old.of fiber (Waits source) } }
     {
-        let class = Class::Waits(source);
-        self.of[fiber as usize] = class;
-        self.able.remove(fiber);
-        if class.waits_for_outcome() {
-            self.for_outcomes.insert(fiber);
-        } else {
-            self.for_outcomes.remove(fiber);
-        }
+        self.come_into(fiber, Class::Waits(source));
     }
 
     /// The fiber is requested. One that waits may step then, to see it.
     pub fn request(&mut self, fiber: u32)
-        ensures { self.new ≡ with_request fiber self.old }
+        ensures { self.new ≡ record self.old { of = with_request fiber self.old.of } }
     {
         if let Some(Class::Waits(_)) = self.of.get(fiber as usize) {
             self.become_able(fiber);
@@ -109,24 +120,21 @@ impl Classes {
 
     /// The fiber has ended. Those that waited for its end may step.
     pub fn end(&mut self, fiber: u32)
-        ensures { self.new ≡ with_end fiber self.old }
+        ensures { self.new ≡ record self.old { of = with_end fiber self.old.of } }
     {
         self.wake(fiber);
-        let Some(class) = self.of.get_mut(fiber as usize) else {
-            return;
-        };
-        *class = Class::Over;
-        self.able.remove(fiber);
-        self.for_outcomes.remove(fiber);
+        if (fiber as usize) < self.of.len() {
+            self.come_into(fiber, Class::Over);
+        }
     }
 
     /// Those that wait for the end of the fiber may step. It is one pass over those that wait for
     /// outcomes.
     fn wake(&mut self, fiber: u32)
-        ensures { self.new ≡ map (class_at_end fiber) self.old }
+        ensures { self.new ≡ record self.old { of = map (class_at_end fiber) self.old.of } }
     {
         let mut from = 0;
-        while let Some(waiter) = self.for_outcomes.least_from(from) {
+        while let Some(waiter) = self.sets.least_for_outcome(from) {
             if self.of[waiter as usize].waits_for_end(fiber) {
                 self.become_able(waiter);
             }

@@ -37,8 +37,11 @@
 //! | a fiber answers that it waits | its own: it waits for that |
 //! | a fiber is requested | its own, if it waits: it is able, since it may see the request |
 //! | a fiber ends | its own: it is over; and those that waited for its end are able |
+//! | an element is put or taken | nobody's |
 //!
-//! Who is not able cannot step. Who is able may still wait: it is asked once, and then noted so.
+//! Who waits at a queue is found by the queue: who waits for room in it may step while it has room, and
+//! who waits for an element of it while it has one. With those who are able these are the ready ones, and
+//! who is not ready cannot step. Who is able may still wait: it is asked once, and then noted so.
 //!
 //! The report of that run has each fiber that started, ascending by number, with its parent, whether it
 //! has ended, and its trace; what is left in each queue; and which numbers were requested from outside.
@@ -51,17 +54,21 @@
 
 mod chosen_run;
 mod class;
+mod class_sets;
 mod classes;
 mod input;
 pub mod laws;
 mod lines;
 mod number_set;
+mod number_sets;
 mod out_fault;
 mod output;
 mod plain_fault;
 mod plain_machine;
 mod plain_port;
+mod plain_queue;
 mod plain_world;
+mod put_counts;
 mod refusal;
 mod text_replay;
 mod write;

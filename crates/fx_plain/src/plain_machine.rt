@@ -1,5 +1,8 @@
 //! All fibers of a script on one thread.
-ghost use Rattle.std.specs.Prelude.{◌≡◌, ℕ, ◌<◌, ◌-◌, ◌∷◌, [], true, Some, None, List, IfOk, OnOk, length, map, replicate, slice_index_or, slice_set};
+ghost use Rattle.std.specs.Prelude.{◌≡◌, ℕ, ◌<◌, ◌-◌, ◌∷◌, [], true, Some, None, List, IfOk, OnOk};
+ghost use Rattle.std.specs.Prelude.{length, replicate, slice_index_or, slice_set};
+ghost use Rattle.fx_term.specs.QueuesNamed.{NamesQueuesBelow};
+ghost use Rattle.fx_term.specs.Code.{IsCode};
 ghost use Rattle.fx_term.specs.Script.{ScriptView};
 ghost use Rattle.fx_text.specs.View.{meaning};
 ghost use Rattle.fx_text.specs.declared.pick.Pick.{Pick};
@@ -7,13 +10,14 @@ ghost use Rattle.fx_plain.specs.WholeMachine.{WholeMachine, opening};
 ghost use Rattle.fx_plain.specs.Chosen.{IsReplay};
 ghost use Rattle.fx_plain.specs.Text.{IsWritable};
 ghost use Rattle.fx_plain.specs.ClassSets.{class_at, is_able};
+ghost use Rattle.fx_plain.specs.World.{is_ready_in};
 ghost use Rattle.fx_plain.specs.PlainMachine.{reported, all_reported, StandsForRun, StandsForSome, Tries, IsUnderWay, Rests};
 ghost use Rattle.fx_plain.specs.Replay.{script_of};
 
 use crate::plain_port::PlainPort;
 use crate::plain_world::PlainWorld;
 use fx_fiber::{Fiber, FiberReport, Report, State, Stepped};
-use fx_term::{Code, CodeBrand, Item, Memory};
+use fx_term::{Code, CodeBrand, Memory};
 use fx_text::{Pick, Script};
 use std::alloc::Global;
 
@@ -59,18 +63,6 @@ fn reports_of<J: CodeBrand>(
     Ok(reports)
 }
 
-/// Nothing is left in any of so many queues: no form puts into one yet.
-fn nothing_left(alloc: Global, queues: usize) -> Result<Vec<Vec<Item>>, Memory>
-    ensures { IfOk result
-        (λ left. map (λ items. items.items) left.items ≡ replicate queues []) }
-{
-    let mut left = Vec::new(alloc);
-    for _queue in 0..queues {
-        left.push(Vec::new(alloc))?;
-    }
-    Ok(left)
-}
-
 /// The main fiber at its place, and the places of all others, of which none has started.
 fn alone<J: CodeBrand>(
     alloc: Global,
@@ -101,8 +93,9 @@ impl<J: CodeBrand> PlainMachine<J> {
     /// Before any step: the main fiber alone has started.
     pub fn opening(alloc: Global, script: &Script) -> Result<PlainMachine<J>, Memory>
         requires code { script.now.code.nodes ≡ J.nodes }
-        ensures { IfOk result (λ machine. let s = script_of (meaning script.now) in
+        ensures stands { IfOk result (λ machine. let s = script_of (meaning script.now) in
             StandsForRun J.nodes s machine (opening s)) }
+        ensures code { OnOk result (IsCode script.now.code.queues script.now.code.nodes) }
     {
         let (world, port) = PlainWorld::new(alloc, script)?;
         let fiber = Fiber::new(alloc, &script.code, port)?;
@@ -131,7 +124,7 @@ impl<J: CodeBrand> PlainMachine<J> {
     }
 
     /// Lets a fiber that is able make one step; or notes that it waits.
-    fn try_step(&mut self, code: &Code, id: u32) -> Result<(), Memory>
+    fn step_able(&mut self, code: &Code, id: u32) -> Result<(), Memory>
         requires code { code.now.nodes ≡ J.nodes }
         requires able { is_able (class_at self.old.world.classes id) ≡ true }
         requires stands { StandsForSome J.nodes self.old }
@@ -158,6 +151,19 @@ impl<J: CodeBrand> PlainMachine<J> {
         Ok(())
     }
 
+    /// Lets a fiber that is ready make one step; or notes that it waits. One that waited at a queue may
+    /// step, and does.
+    fn try_step(&mut self, code: &Code, id: u32) -> Result<(), Memory>
+        requires code { code.now.nodes ≡ J.nodes }
+        requires ready { is_ready_in self.old.world id ≡ true }
+        requires stands { StandsForSome J.nodes self.old }
+        ensures tries { OnOk result ((s : ScriptView) (m : WholeMachine)
+            → StandsForRun J.nodes s self.old m → Tries J.nodes s m id self.old self.new) }
+    {
+        self.world.wake(id);
+        self.step_able(code, id)
+    }
+
     /// Takes a pick: the step of a fiber, or a request from outside. What cannot be done is skipped.
     pub fn take_pick(&mut self, code: &Code, pick: Pick) -> Result<(), Memory>
         requires code { code.now.nodes ≡ J.nodes }
@@ -169,7 +175,7 @@ impl<J: CodeBrand> PlainMachine<J> {
     {
         match pick {
             Pick::Step(fiber) => {
-                if self.world.is_able(fiber) {
+                if self.world.is_ready(fiber) {
                     self.try_step(code, fiber)?;
                 }
             }
@@ -178,7 +184,7 @@ impl<J: CodeBrand> PlainMachine<J> {
         Ok(())
     }
 
-    /// Lets the able fiber with the least number make one step, again and again, until none is able.
+    /// Lets the ready fiber with the least number make one step, again and again, until none is ready.
     pub fn run_to_rest(&mut self, code: &Code) -> Result<(), Memory>
         requires code { code.now.nodes ≡ J.nodes }
         requires stands { StandsForSome J.nodes self.old }
@@ -192,19 +198,20 @@ impl<J: CodeBrand> PlainMachine<J> {
         Ok(())
     }
 
-    /// The report of a script with so many queues, once no fiber is able.
-    pub fn into_report(self, alloc: Global, queues: usize) -> Result<Report, Memory>
+    /// The report, once no fiber is ready.
+    pub fn into_report(self, alloc: Global) -> Result<Report, Memory>
         requires rests { Rests self }
         ensures replay { IfOk result (λ report. (s : ScriptView) (all : List Pick)
-            → length s.capacities ≡ queues → IsUnderWay J.nodes s all [] self
-            → IsReplay s all report) }
-        ensures writable { IfOk result (λ report. (names : List (List ℕ))
-            → length names ≡ queues → StandsForSome J.nodes self → IsWritable names report) }
+            → IsUnderWay J.nodes s all [] self → IsReplay s all report) }
+        ensures writable { IfOk result (λ report. (s : ScriptView) (m : WholeMachine)
+            (names : List (List ℕ)) → StandsForRun J.nodes s self m
+            → length names ≡ length s.capacities → NamesQueuesBelow (length names) s.term
+            → IsWritable names report) }
     {
         Ok(Report {
             outside: self.world.outside(alloc)?,
             fibers: reports_of(alloc, self.fibers)?,
-            left: nothing_left(alloc, queues)?,
+            left: self.world.into_left(alloc)?,
             late: 0,
         })
     }

@@ -1,18 +1,22 @@
 //! The port of a fiber of one thread.
-ghost use Rattle.std.specs.Prelude.{◌≡◌};
+ghost use Rattle.std.specs.Prelude.{◌≡◌, sum};
 ghost use Rattle.fx_plain.specs.PlainCalls.{new_port};
 
 use crate::plain_world::PlainWorld;
+use crate::put_counts::PutCounts;
 use fx_fiber::Port;
-use fx_term::{Begin, CodeBrand, Memory, Outcome};
+use fx_term::{Begin, CodeBrand, Item, Memory, Offered, Outcome};
+use std::alloc::Global;
 use std::marker::{Model, PhantomData};
 use std::snapshot::Snapshot;
 
-/// The port of a fiber of one thread: its fiber's number. What that began with, the numbers that it has
-/// left, and whether its end was told are known to proofs alone.
+/// The port of a fiber of one thread: its fiber's number, and how many elements that has put into each
+/// queue. What it began with, the numbers that it has left, and whether its end was told are known to
+/// proofs alone.
 #[derive(Drop)]
 pub struct PlainPort<J: CodeBrand> {
     id: u32,
+    puts: PutCounts,
     begin: Snapshot<Begin>,
     next: Snapshot<u32>,
     has_finished: Snapshot<bool>,
@@ -28,17 +32,19 @@ impl<J: CodeBrand> Model for PlainPort<J> {
       number = p.id;
       beginning = p.begin.value;
       rest = record { next = p.next.value; end = p.begin.value.end };
+      put_counts = p.puts.of.items;
       has_finished = p.has_finished.value;
     } };
 }
 
 impl<J: CodeBrand> PlainPort<J> {
     /// The port of a fiber of that number that begins so.
-    pub(crate) fn new(id: u32, begin: &Begin) -> PlainPort<J>
+    pub(crate) fn new(alloc: Global, id: u32, begin: &Begin) -> PlainPort<J>
         ensures { result ≡ new_port id begin.now }
     {
         PlainPort {
             id,
+            puts: PutCounts::new(alloc),
             begin: Snapshot::of(begin),
             next: Snapshot::of(&begin.next),
             has_finished: Snapshot::of(&false),
@@ -62,6 +68,8 @@ impl<J: CodeBrand> Port for PlainPort<J> {
 
     ghost rest = { λ port. port.rest };
 
+    ghost puts = { λ port. sum port.put_counts };
+
     // the calls say all
     ghost agrees = { λ port deeds. Unit {0} };
 
@@ -79,6 +87,31 @@ impl<J: CodeBrand> Port for PlainPort<J> {
         world.outcome(id)
     }
 
+    fn offer(
+        &mut self,
+        world: &mut PlainWorld,
+        queue: u8,
+        value: u64,
+    ) -> Result<Offered, Memory> {
+        if !world.has_room(queue) {
+            return Ok(Offered::Full);
+        }
+        // both have room before either is changed
+        self.puts.reserve(queue)?;
+        let item = Item {
+            fiber: self.id,
+            nth: self.puts.count(queue),
+            value,
+        };
+        world.put(queue, item)?;
+        self.puts.add(queue);
+        Ok(Offered::Done)
+    }
+
+    fn take(&mut self, world: &mut PlainWorld, queue: u8) -> Option<u64> {
+        world.take(queue)
+    }
+
     fn start(
         &mut self,
         world: &mut PlainWorld,
@@ -87,7 +120,7 @@ impl<J: CodeBrand> Port for PlainPort<J> {
     ) -> Result<PlainPort<J>, Memory> {
         self.next = Snapshot::of(&begin.end);
         world.start(id);
-        Ok(PlainPort::new(id, begin))
+        Ok(PlainPort::new(self.puts.allocator(), id, begin))
     }
 
     fn finish(&mut self, world: &mut PlainWorld, outcome: Outcome) {
@@ -107,14 +140,14 @@ mod tests {
 
     #[test]
     fn a_port_sees_what_another_one_did(rt: HostRuntime) -> Result<(), Fail> {
-        let mut world = PlainWorld::opening(rt.alloc(), 3)?;
+        let mut world = PlainWorld::opening(rt.alloc(), 3, Vec::new(rt.alloc()))?;
         let begin = Begin {
             node: NodeId(0),
             slots: Registers::new(rt.alloc()),
             next: 1,
             end: 3,
         };
-        let mut main: PlainPort<Brand> = PlainPort::new(0, &begin);
+        let mut main: PlainPort<Brand> = PlainPort::new(rt.alloc(), 0, &begin);
         let begin = Begin {
             node: NodeId(0),
             slots: Registers::new(rt.alloc()),

@@ -1,27 +1,34 @@
 //! What the fibers of one thread share.
-ghost use Rattle.std.specs.Prelude.{◌≡◌, ◌<◌, ◌≤◌, false, IfOk, length, slice_index_or, slice_set};
+ghost use Rattle.std.specs.Prelude.{◌≡◌, ◌<◌, ◌≤◌, true, false, IfOk, IfNone, OnOk, OnErr};
+ghost use Rattle.std.specs.Prelude.{option_map, length, map, slice_index_or, slice_set};
 ghost use Rattle.std.specs.List.{filter, range_with_len};
-ghost use Rattle.fx_plain.specs.declared.class.Class.TheVariants.{Waits};
+ghost use Rattle.fx_plain.specs.declared.class.Class.TheVariants.{Able, Waits};
 ghost use Rattle.fx_plain.specs.NumberSet.{IsLeastOf};
-ghost use Rattle.fx_plain.specs.ClassSets.{class_at, is_able};
+ghost use Rattle.fx_plain.specs.PlainQueue.{empty_queue, queue_at, have_room, have_element, front_of};
+ghost use Rattle.fx_term.specs.Code.{IsCode};
 ghost use Rattle.fx_term.specs.Script.{ScriptView, total};
 ghost use Rattle.fx_fiber.specs.Origin.{main_begin_of};
 ghost use Rattle.fx_text.specs.View.{meaning};
 ghost use Rattle.fx_plain.specs.PlainCalls.{new_port};
 ghost use Rattle.fx_plain.specs.Replay.{script_of};
-ghost use Rattle.fx_plain.specs.World.{is_requested_in, outcome_in, after_request, after_request_from_outside, after_start, after_end, opening_world};
+ghost use Rattle.fx_plain.specs.World.{is_requested_in, outcome_in, is_ready_in, after_request};
+ghost use Rattle.fx_plain.specs.World.{after_request_from_outside, after_start, after_end};
+ghost use Rattle.fx_plain.specs.World.{after_put, after_take, opening_world};
 
+use crate::class::Class;
 use crate::classes::Classes;
 use crate::number_set::NUMBERS;
 use crate::plain_port::PlainPort;
+use crate::plain_queue::PlainQueue;
 use fx_fiber::{Source, main_begin};
-use fx_term::{CodeBrand, Memory, Outcome};
-use fx_text::Script;
+use fx_term::{CodeBrand, Item, Memory, Outcome};
+use fx_text::{QueueDecl, Script};
 use std::alloc::Global;
 use std::marker::Model;
 
-/// By fiber number: who is requested, who of these from outside, how each ended, and the class of each.
-/// A number that is not one of the script's is not requested, and has no outcome. No call but the first
+/// By fiber number: who is requested, who of these from outside, how each ended, and the class of each;
+/// and the queues by their numbers. A number that is not one of the script's is not requested, and has no
+/// outcome; a queue that there is not has neither room nor an element. No call but the first and a put
 /// takes memory.
 #[derive(Drop)]
 pub struct PlainWorld {
@@ -29,6 +36,19 @@ pub struct PlainWorld {
     from_outside: Vec<bool>,
     outcomes: Vec<Option<Outcome>>,
     classes: Classes,
+    queues: Vec<PlainQueue>,
+}
+
+/// A queue with no element for each of these, of its capacity.
+fn empty_queues(alloc: Global, declared: &[QueueDecl]) -> Result<Vec<PlainQueue>, Memory>
+    ensures { IfOk result
+        (λ queues. queues.items ≡ map (λ q. empty_queue q.cap) declared.now) }
+{
+    let mut queues = Vec::with_capacity(alloc, declared.len())?;
+    for queue in declared {
+        queues.push(PlainQueue::new(alloc, queue.cap))?;
+    }
+    Ok(queues)
 }
 
 impl Model for PlainWorld {
@@ -41,30 +61,38 @@ impl Model for PlainWorld {
       requested = w.requested.items;
       from_outside = w.from_outside.items;
       outcomes = w.outcomes.items;
-      classes = w.classes;
+      classes = w.classes.of;
+      queues = w.queues.items;
     } };
 
-    ghost invariant = { λ w. (length w.requested.items ≡ length w.classes)
-        × (length w.from_outside.items ≡ length w.classes)
-        × (length w.outcomes.items ≡ length w.classes) };
+    ghost invariant = { λ w. (length w.requested.items ≡ length w.classes.of)
+        × (length w.from_outside.items ≡ length w.classes.of)
+        × (length w.outcomes.items ≡ length w.classes.of)
+        × (length w.queues.items ≡ w.classes.queues) };
 }
 
 impl PlainWorld {
-    /// The world of a script with so many fibers before any step: the main fiber alone has started.
-    pub(crate) fn opening(alloc: Global, fibers: u32) -> Result<PlainWorld, Memory>
+    /// The world of a script with so many fibers and these queues before any step: the main fiber alone
+    /// has started.
+    pub(crate) fn opening(
+        alloc: Global,
+        fibers: u32,
+        queues: Vec<PlainQueue>,
+    ) -> Result<PlainWorld, Memory>
         requires some { 0 < fibers }
         requires few { fibers ≤ NUMBERS }
         ensures { IfOk result (λ world. (s : ScriptView) → total s ≡ fibers
-            → world ≡ opening_world s) }
+            → queues.items ≡ map empty_queue s.capacities → world ≡ opening_world s) }
     {
         let long = fibers as usize;
-        let mut classes = Classes::new(alloc, fibers)?;
+        let mut classes = Classes::new(alloc, fibers, queues.len())?;
         classes.become_able(0);
         Ok(PlainWorld {
             requested: vec![in alloc; false; long]?,
             from_outside: vec![in alloc; false; long]?,
             outcomes: vec![in alloc; None; long]?,
             classes,
+            queues,
         })
     }
 
@@ -78,10 +106,12 @@ impl PlainWorld {
             (λ opened. opened.0 ≡ opening_world (script_of (meaning script.now))) }
         ensures port { IfOk result
             (λ opened. opened.1 ≡ new_port 0 (main_begin_of script.now.code.nodes)) }
+        ensures code { OnOk result (IsCode script.now.code.queues script.now.code.nodes) }
     {
         let begin = main_begin(alloc, &script.code);
-        let world = PlainWorld::opening(alloc, begin.end)?;
-        Ok((world, PlainPort::new(0, &begin)))
+        let queues = empty_queues(alloc, &script.queues)?;
+        let world = PlainWorld::opening(alloc, begin.end, queues)?;
+        Ok((world, PlainPort::new(alloc, 0, &begin)))
     }
 
     /// How many numbers the script has for its fibers.
@@ -91,11 +121,73 @@ impl PlainWorld {
         self.classes.total()
     }
 
-    /// Whether the fiber is able: it has started, has not ended, and is not known to wait.
-    pub(crate) fn is_able(&self, fiber: u32) -> bool
-        ensures { result ≡ is_able (class_at self.now.classes fiber) }
+    /// Whether the queue has room.
+    pub fn has_room(&self, queue: u8) -> bool
+        ensures { result ≡ have_room self.now.queues queue }
     {
-        self.classes.is_able(fiber)
+        match self.queues.get(queue as usize) {
+            Some(own) => own.has_room(),
+            None => false,
+        }
+    }
+
+    /// Whether the queue has an element.
+    pub fn has_element(&self, queue: u8) -> bool
+        ensures { result ≡ have_element self.now.queues queue }
+    {
+        match self.queues.get(queue as usize) {
+            Some(own) => own.has_element(),
+            None => false,
+        }
+    }
+
+    /// Whether the fiber is ready: it has started, has not ended, and is not known to wait, or waits at a
+    /// queue that has what it waits for.
+    pub(crate) fn is_ready(&self, fiber: u32) -> bool
+        ensures { result ≡ is_ready_in self.now fiber }
+    {
+        match self.classes.class(fiber) {
+            Class::Able => true,
+            Class::Waits(Source::Room(queue)) => self.has_room(queue),
+            Class::Waits(Source::Element(queue)) => self.has_element(queue),
+            Class::Unstarted | Class::Waits(_) | Class::Over => false,
+        }
+    }
+
+    /// Puts the element at the back of the queue.
+    pub fn put(&mut self, queue: u8, item: Item) -> Result<(), Memory>
+        requires { have_room self.old.queues queue ≡ true }
+        ensures ok { OnOk result (self.new ≡ after_put queue item self.old) }
+        ensures err { OnErr result (self.new ≡ self.old) }
+    {
+        let Some(own) = self.queues.get_mut(queue as usize) else {
+            unreachable!();
+        };
+        own.put(item)
+    }
+
+    /// Takes the front of the queue, if it has one, and answers its value.
+    pub fn take(&mut self, queue: u8) -> Option<u64>
+        ensures value { result
+            ≡ option_map (λ item. item.value) (front_of (queue_at self.old.queues queue)) }
+        ensures world { self.new ≡ after_take queue self.old }
+        ensures none { IfNone result (self.new ≡ self.old) }
+    {
+        let own = self.queues.get_mut(queue as usize)?;
+        let item = own.take()?;
+        Some(item.value)
+    }
+
+    /// What is left in each queue, from front to back.
+    pub(crate) fn into_left(self, alloc: Global) -> Result<Vec<Vec<Item>>, Memory>
+        ensures { IfOk result (λ left. map (λ items. items.items) left.items
+            ≡ map (λ q. q.items) self.queues) }
+    {
+        let mut left = Vec::with_capacity(alloc, self.queues.len())?;
+        for queue in self.queues {
+            left.push(queue.into_items())?;
+        }
+        Ok(left)
     }
 
     /// Whether the fiber was requested from outside.
@@ -164,6 +256,13 @@ impl PlainWorld {
         self.classes.become_able(fiber);
     }
 
+    /// The fiber, which waits, may step.
+    pub(crate) fn wake(&mut self, fiber: u32)
+        ensures { self.new ≡ after_start fiber self.old }
+    {
+        self.classes.become_able(fiber);
+    }
+
     /// The fiber ends so.
     pub fn finish(&mut self, fiber: u32, outcome: Outcome)
         ensures { self.new ≡ after_end fiber outcome self.old }
@@ -183,11 +282,11 @@ impl PlainWorld {
         self.classes.wait(fiber, source);
     }
 
-    /// The least number of a fiber that is able.
+    /// The least number of a fiber that is ready.
     pub fn least(&self) -> Option<u32>
-        ensures { IsLeastOf (λ f. is_able (class_at self.now.classes f)) result }
+        ensures { IsLeastOf (is_ready_in self.now) result }
     {
-        self.classes.least()
+        self.classes.least(&self.queues)
     }
 }
 
@@ -200,7 +299,7 @@ mod tests {
 
     #[test]
     fn the_least_is_one_that_may_step(rt: HostRuntime) -> Result<(), Fail> {
-        let mut world = PlainWorld::opening(rt.alloc(), 3)?;
+        let mut world = PlainWorld::opening(rt.alloc(), 3, Vec::new(rt.alloc()))?;
         assert_eq!(rt; world.least(), Some(0));
         world.start(2);
         world.wait(0, Source::Outcome(2));

@@ -25,20 +25,20 @@ replayed_append c s [] k = refl
 replayed_append c s (e ∷ h) k = replayed_append c (after_event c s e) h k
 
 -- a get that is legal
-record IsGet (s : QueueState) (f n : ℕ) (xs : List Item) (s' : QueueState) : Type 0 where
+pub record IsGet (s : QueueState) (f n : ℕ) (xs : List Item) (s' : QueueState) : Type 0 where
   pub front : Item
   pub rest : List Item
   pub items : xs ≡ front ∷ rest
   pub value : front.value ≡ n
   pub after : with_taken s f front rest ≡ s'
 
-get_parts : (s : QueueState) (f n : ℕ) (xs : List Item) (s' : QueueState) → after_got s f n xs ≡ Some s' → IsGet s f n xs s'
+pub get_parts : (s : QueueState) (f n : ℕ) (xs : List Item) (s' : QueueState) → after_got s f n xs ≡ Some s' → IsGet s f n xs s'
 get_parts s f n [] s' e = absurd (none-some s' e)
 get_parts s f n (x ∷ rest) s' e =
     let p = cond_some (x.value == n) (with_taken s f x rest) s' e in
     record { front = x; rest = rest; items = refl; value = eqb-true x.value n p.0; after = p.1 }
 
-put_is : (c : ℕ) (s : QueueState) (f n : ℕ) (s' : QueueState) → after_event c (Some s) (Put f n) ≡ Some s' → with_put s (next_item s f n) ≡ s'
+pub put_is : (c : ℕ) (s : QueueState) (f n : ℕ) (s' : QueueState) → after_event c (Some s) (Put f n) ≡ Some s' → with_put s (next_item s f n) ≡ s'
 put_is c s f n s' e = (cond_some (nat_lt (length s.items) c) (with_put s (next_item s f n)) s' e).1
 
 -- what was taken, and then what is left, is what was put
@@ -59,12 +59,12 @@ event_accounts c s (Put f n) s' e h = subst Accounts (put_is c s f n s' e) (put_
 event_accounts c s (Got f n) s' e h = let g = get_parts s f n s.items s' e in subst Accounts g.after (get_accounts s f g.front g.rest g.items h)
 
 -- the first event of a legal history, and those after it
-record IsFirst (c : ℕ) (s : QueueState) (e : QueueEvent) (h : List QueueEvent) (last : QueueState) : Type 0 where
+pub record IsFirst (c : ℕ) (s : QueueState) (e : QueueEvent) (h : List QueueEvent) (last : QueueState) : Type 0 where
   pub next : QueueState
   pub after : after_event c (Some s) e ≡ Some next
   pub rest : replayed_from c (Some next) h ≡ Some last
 
-first_of_legal : (c : ℕ) (s : QueueState) (e : QueueEvent) (h : List QueueEvent) (last : QueueState) → replayed_from c (Some s) (e ∷ h) ≡ Some last
+pub first_of_legal : (c : ℕ) (s : QueueState) (e : QueueEvent) (h : List QueueEvent) (last : QueueState) → replayed_from c (Some s) (e ∷ h) ≡ Some last
     → IsFirst c s e h last
 first_of_legal c s e h last r = by_next (after_event c (Some s) e) refl r
   where

@@ -8,8 +8,10 @@ use std::test::Fail;
 
 mod fibers;
 mod limits;
+mod queues;
 mod scripts;
 mod streams;
+mod tour;
 mod words;
 
 /// A text in memory. One that is broken answers an error at its end.

@@ -5,7 +5,7 @@ ghost use Rattle.fx_term.specs.declared.node.Node.{Node};
 
 use super::*;
 use crate::begin::main_begin;
-use fx_term::{Arg, Begin, CodeBrand, Memory, Node, NodeId, Outcome};
+use fx_term::{Arg, Begin, CodeBrand, Memory, Node, NodeId, Offered, Outcome};
 use std::cell::Cell;
 use std::marker::{Brand, PhantomData};
 use std::process::Abort;
@@ -53,6 +53,7 @@ mod fibers;
 mod leaves;
 mod loops;
 mod masking;
+mod queues;
 mod resources;
 mod unwinding;
 
@@ -64,7 +65,8 @@ struct Looks {
 }
 
 /// A port that answers one look at most with a request, and keeps the end that it was told. No other
-/// fiber takes a step, so none has ended, and none sees what is requested of it.
+/// fiber takes a step, so none has ended, and none sees what is requested of it. Queue 0 has room for
+/// one element; there is no other, so each other one is full, and empty.
 #[derive(Drop)]
 struct TestPort<J: CodeBrand> {
     alloc: Global,
@@ -73,6 +75,8 @@ struct TestPort<J: CodeBrand> {
     rest: u32,
     saw: bool,
     told: Option<Outcome>,
+    held: Option<u64>,
+    puts: u64,
     of: PhantomData<J>,
 }
 
@@ -82,6 +86,7 @@ impl<J: CodeBrand> TestPort<J> {
         ensures begin { result.begin ≡ begin }
         ensures rest { result.rest ≡ begin.next }
         ensures going { result.told ≡ None }
+        ensures puts { result.puts ≡ 0 }
     {
         TestPort {
             alloc,
@@ -90,6 +95,8 @@ impl<J: CodeBrand> TestPort<J> {
             begin,
             saw: false,
             told: None,
+            held: None,
+            puts: 0,
             of: PhantomData,
         }
     }
@@ -112,11 +119,15 @@ impl<J: CodeBrand> Port for TestPort<J> {
       looks = λ p s answer p' s'. (p' ≡ record p { saw = answer || p.saw }) × (s' ≡ s);
       requests = λ p s id p' s'. (p' ≡ p) × (s' ≡ s);
       peeks = λ p s id answer p' s'. (answer ≡ None) × (p' ≡ p) × (s' ≡ s);
+      offers = λ p s queue n answer p' s'. Unit {0};
+      takes = λ p s queue answer p' s'. Unit {0};
       starts = λ p s id begin child p' s'. (child.begin ≡ begin) × (p' ≡ record p { rest = begin.end }) × (s' ≡ s);
       finishes = λ p s outcome p' s'. (p' ≡ record p { told = Some outcome }) × (s' ≡ s);
     } };
 
     ghost rest = { λ p. record { next = p.rest; end = p.begin.end } };
+
+    ghost puts = { λ p. p.puts };
 
     fn look(&mut self, looks: &mut Looks) -> bool {
         let number = looks.made.get().saturating_add(1);
@@ -132,6 +143,24 @@ impl<J: CodeBrand> Port for TestPort<J> {
 
     fn peek(&mut self, _looks: &mut Looks, _id: u32) -> Option<Outcome> {
         None
+    }
+
+    fn offer(&mut self, _looks: &mut Looks, queue: u8, value: u64) -> Result<Offered, Memory> {
+        if queue != 0 || self.held.is_some() {
+            return Ok(Offered::Full);
+        }
+        self.held = Some(value);
+        self.puts += 1;
+        Ok(Offered::Done)
+    }
+
+    fn take(&mut self, _looks: &mut Looks, queue: u8) -> Option<u64> {
+        if queue != 0 {
+            return None;
+        }
+        let front = self.held?;
+        self.held = None;
+        Some(front)
     }
 
     fn start(&mut self, _looks: &mut Looks, id: u32, begin: &Begin) -> Result<Self, Memory> {
@@ -232,7 +261,7 @@ fn drive<J: CodeBrand>(
 /// Runs the main fiber of the code of these nodes, requested from that look on, for so many steps at
 /// most.
 fn run(alloc: Global, nodes: &[Node], request: Option<u32>, steps: u32) -> Result<Ran, Fail> {
-    let code = Code::build(alloc, Vec::from_slice(alloc, nodes)?, 0)?;
+    let code = Code::build(alloc, Vec::from_slice(alloc, nodes)?, 2)?;
     drive::<Brand>(alloc, &code, request, steps)
 }
 

@@ -5,6 +5,7 @@ ghost use Rattle.fx_term.specs.Script.{ScriptView};
 ghost use Rattle.fx_fiber.specs.Report.{FiberReportView, ReportView, fiber_in};
 ghost use Rattle.fx_fiber.specs.LawfulReport.{IsLawfulReport};
 ghost use Rattle.fx_fiber.specs.Headline.{EndsBalanced, AllEnded, HoldsWhatIsPromised};
+ghost use Rattle.fx_fiber.specs.Causes.{FindsItsCauses};
 
 /// A lawful report whose fibers have all ended accounts for each element of each queue; each trace
 /// stops at its outcome, and released each resource that it acquired once, inner before outer; and
@@ -20,4 +21,12 @@ pub fn ended_fiber_holds()
     ensures { (s : ScriptView) (may : ℕ → Bool) (r : ReportView) → IsCore s.term
         → IsLawfulReport s may r → (f : ℕ) (x : FiberReportView) → fiber_in r f ≡ Some x
         → x.has_ended ≡ true → EndsBalanced x.trace }
+{}
+
+/// In each lawful report what an event stands on is there: what was taken out of a queue of the
+/// script was put into it, what was learnt is told as an end by the fiber that ended, and each fiber
+/// but the main one was started.
+pub fn causes_are_found()
+    ensures { (s : ScriptView) (may : ℕ → Bool) (r : ReportView)
+        → (lawful : IsLawfulReport s may r) → FindsItsCauses s may r lawful }
 {}

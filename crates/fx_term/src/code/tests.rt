@@ -3,6 +3,7 @@ ghost use Rattle.std.specs.Prelude.{◌≡◌, length, IfOk};
 
 mod fibers;
 mod needs;
+mod queues;
 
 use super::*;
 use crate::node::Arg;
@@ -596,7 +597,7 @@ fn says_what_is_wrong(rt: HostRuntime) -> Result<(), Fail> {
         (
             slot(4),
             2,
-            "node 4: a slot that is not bound, or a binder with a wrong slot",
+            "node 4: a slot that is not bound, a binder with a wrong slot, or no such queue",
         ),
         (
             kind(5),

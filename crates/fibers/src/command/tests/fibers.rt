@@ -2,10 +2,10 @@
 use super::*;
 
 /// The words, the script F, the schedule S, the status, and what is printed.
-type Row = (&'static str, &'static str, &'static str, u8, &'static str);
+pub(super) type Row = (&'static str, &'static str, &'static str, u8, &'static str);
 
 /// Sees that each run prints its text, with its status.
-fn assert_runs(rt: &impl Abort, alloc: Global, rows: &[Row]) -> Result<(), Fail> {
+pub(super) fn assert_runs(rt: &impl Abort, alloc: Global, rows: &[Row]) -> Result<(), Fail> {
     for (words, script, schedule, status, printed) in rows {
         let texts = [
             ("F", whole(script.as_bytes())),

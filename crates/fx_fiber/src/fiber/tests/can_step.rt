@@ -14,12 +14,12 @@ type Place<'a> = (
     (bool, bool),
 );
 
-fn answers<J: CodeBrand>(
+/// The main fiber of a code after so many steps, or at its end.
+fn fiber_after<J: CodeBrand>(
     alloc: Global,
     code: &Code,
     steps: u32,
-    outcomes: &[Option<Outcome>],
-) -> Result<(bool, bool), Fail>
+) -> Result<Fiber<TestPort<J>>, Fail>
     requires { code.now.nodes ≡ J.nodes }
 {
     let mut looks = Looks {
@@ -34,6 +34,18 @@ fn answers<J: CodeBrand>(
         }
         let _ = fiber.step(code, &mut looks)?;
     }
+    Ok(fiber)
+}
+
+fn answers<J: CodeBrand>(
+    alloc: Global,
+    code: &Code,
+    steps: u32,
+    outcomes: &[Option<Outcome>],
+) -> Result<(bool, bool), Fail>
+    requires { code.now.nodes ≡ J.nodes }
+{
+    let fiber: Fiber<TestPort<J>> = fiber_after(alloc, code, steps)?;
     let mut closed = Closed {
         caps: Vec::new(alloc),
         rests: Vec::new(alloc),
@@ -182,6 +194,85 @@ fn can_step(rt: HostRuntime) -> Result<(), Fail> {
     for &(row, nodes, steps, outcomes, wanted) in &PLACES {
         assert_eq!(rt;
             answers_after(rt.alloc(), nodes, steps, outcomes)?,
+            wanted,
+            "{row}"
+        );
+    }
+    Ok(())
+}
+
+/// A fiber before its first step: what it is called, its code, the capacities of the queues and their
+/// lengths, and whether it can step.
+type AtQueue<'a> = (&'a str, &'a [Node], &'a [u32], &'a [u32], bool);
+
+fn goes_on<J: CodeBrand>(
+    alloc: Global,
+    code: &Code,
+    caps: &[u32],
+    rests: &[u32],
+) -> Result<bool, Fail>
+    requires { code.now.nodes ≡ J.nodes }
+{
+    let fiber: Fiber<TestPort<J>> = fiber_after(alloc, code, 0)?;
+    let closed = Closed {
+        caps: Vec::from_slice(alloc, caps)?,
+        rests: Vec::from_slice(alloc, rests)?,
+        outcomes: Vec::new(alloc),
+        requested: Vec::new(alloc),
+    };
+    Ok(fiber.can_step(code, &closed))
+}
+
+fn goes_on_at(alloc: Global, nodes: &[Node], caps: &[u32], rests: &[u32]) -> Result<bool, Fail> {
+    let code = Code::build(alloc, Vec::from_slice(alloc, nodes)?, 2)?;
+    goes_on::<Brand>(alloc, &code, caps, rests)
+}
+
+static AT_QUEUES: [AtQueue; 7] = [
+    (
+        "offer, with room",
+        &[Node::Offer(1, Arg::Number(5))],
+        &[1, 2],
+        &[1, 1],
+        true,
+    ),
+    (
+        "offer, full",
+        &[Node::Offer(0, Arg::Number(5))],
+        &[1, 2],
+        &[1, 1],
+        false,
+    ),
+    (
+        "tryoffer, full",
+        &[Node::TryOffer(0, Arg::Number(5))],
+        &[1, 2],
+        &[1, 1],
+        true,
+    ),
+    (
+        "take, with an element",
+        &[Node::Take(1)],
+        &[1, 2],
+        &[0, 1],
+        true,
+    ),
+    ("take, empty", &[Node::Take(0)], &[1, 2], &[0, 1], false),
+    (
+        "offer, past the lists",
+        &[Node::Offer(1, Arg::Number(5))],
+        &[1],
+        &[0],
+        false,
+    ),
+    ("take, past the lists", &[Node::Take(1)], &[1], &[1], false),
+];
+
+#[test]
+fn can_step_at_queues(rt: HostRuntime) -> Result<(), Fail> {
+    for &(row, nodes, caps, rests, wanted) in &AT_QUEUES {
+        assert_eq!(rt;
+            goes_on_at(rt.alloc(), nodes, caps, rests)?,
             wanted,
             "{row}"
         );

@@ -2,10 +2,13 @@ use Rattle.std.specs.Prelude.{true}
 use Rattle.std.proofs.lemmas.Result.{IfOk-weaker}
 use Rattle.fx_fiber.specs.Report.{ReportView}
 use Rattle.fx_fiber.specs.LawfulReport.{IsLawfulReport}
+use Rattle.fx_fiber.specs.Causes.{IsLawfulInOneOrder}
 use Rattle.fx_text.specs.View.{meaning}
 use Rattle.fx_plain.specs.Chosen.{IsReplay}
 use Rattle.fx_plain.specs.Replay.{script_of}
+use Rattle.fx_plain.specs.Text.{queue_names, IsWritable}
 use Rattle.fx_plain.proofs.LawfulRuns.{replay_is_lawful}
+use Rattle.fx_plain.proofs.ReplayOrder.{replay_is_in_order}
 use Rattle.fx_plain.proofs.chosen_run.replay.Goals as goal
 
 pub returns-clause-lawful : goal.returns-clause-lawful
@@ -13,3 +16,9 @@ returns-clause-lawful c =
     let s = script_of (meaning c.args.script.now) in
     IfOk-weaker c.replay_named.result (IsReplay s c.args.picks.now) (IsLawfulReport s (λ f. true))
     (λ (report : ReportView). λ replays. replay_is_lawful s c.args.picks.now report replays) c.replay_named.ensures.replayed
+
+pub returns-clause-causes : goal.returns-clause-causes
+returns-clause-causes c =
+    let s = script_of (meaning c.args.script.now) in
+    IfOk-weaker c.replay_named.result (IsReplay s c.args.picks.now) (IsLawfulInOneOrder s (λ f. true))
+    (λ (report : ReportView). λ replays. replay_is_in_order s c.args.picks.now report replays) c.replay_named.ensures.replayed

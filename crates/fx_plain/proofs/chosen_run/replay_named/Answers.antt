@@ -1,15 +1,18 @@
-use Rattle.std.proofs.Common.{◌≡◌, ◌∙◌, ◌+◌, ℕ, List, [], drop, length, map, sym, arith}
-use Rattle.std.specs.Prelude.{string_bytes}
-use Rattle.std.proofs.lemmas.List.{drop_more, drop_all, length-map}
+use Rattle.std.proofs.Common.{◌+◌, ℕ, [], drop, length, true, sym, subst, arith}
+use Rattle.std.proofs.lemmas.List.{drop_more, drop_all}
 use Rattle.std.proofs.lemmas.Result.{IfOk-weaker}
+use Rattle.fx_term.specs.QueuesNamed.{NamesQueuesBelow}
+use Rattle.fx_term.proofs.CoreTerms.{code_is_core}
 use Rattle.fx_fiber.specs.Report.{ReportView}
+use Rattle.fx_fiber.specs.Headline.{KeepsWhatIsPromised}
 use Rattle.fx_text.specs.View.{meaning}
 use Rattle.fx_text.specs.declared.pick.Pick.TheVariants as pick
-use Rattle.fx_text.specs.declared.queues.QueueDecl.{QueueDecl}
 use Rattle.fx_plain.specs.Chosen.{IsReplay}
 use Rattle.fx_plain.specs.Replay.{script_of}
 use Rattle.fx_plain.specs.Text.{queue_names, IsWritable}
 use Rattle.fx_plain.specs.PlainMachine.{IsUnderWay}
+use Rattle.fx_plain.proofs.LawfulRuns.{replay_keeps_promises}
+use Rattle.fx_plain.proofs.QueueNames.{names_are_as_many, as_many_names, names_declared}
 use Rattle.fx_plain.proofs.chosen_run.replay_named.Goals as goal
 
 pub loop-pick-preserved : goal.loop-pick-preserved
@@ -25,26 +28,27 @@ pub returns-clause-replayed : goal.returns-clause-replayed
 returns-clause-replayed g c =
     let s = script_of (meaning c.args.script.now) in
     let picks = c.args.picks.now in
-    let queues = c.args.script.now.queues.items in
-    let named = map (λ (q : QueueDecl). (string_bytes q.name, q.cap)) queues in
     let ended : IsUnderWay g.J.CodeBrand.nodes s picks [] c.loop-pick.machine =
     rw (drop_all c.loop-pick.pick-index picks (let end = c.loop-pick-test.false in omega arith)) at c.loop-pick.invariant.1 in
-    let many : length s.capacities ≡ c.len.result =
-    length-map named (λ (q : List ℕ × ℕ). q.1) ∙ length-map queues _ ∙ sym c.args.script.now.queues.ok.0 ∙ sym c.len.ensures in
     IfOk-weaker c.into_report.result _ (IsReplay s picks)
-    (λ (report : ReportView). λ replays. replays s picks many (c.in_ok-run_to_rest.ensures.way s picks ended)) c.into_report.ensures.replay
+    (λ (report : ReportView). λ replays. replays s picks (c.in_ok-run_to_rest.ensures.way s picks ended)) c.into_report.ensures.replay
+
+pub returns-clause-promised : goal.returns-clause-promised
+returns-clause-promised g c =
+    let s = script_of (meaning c.args.script.now) in
+    let core = code_is_core c.args.script.now.code.nodes c.in_ok-machine.ensures.code in
+    IfOk-weaker c.into_report.result (IsReplay s c.args.picks.now) (KeepsWhatIsPromised s (λ f. true))
+    (λ (report : ReportView). λ replays. replay_keeps_promises s c.args.picks.now report core replays) (returns-clause-replayed g c)
 
 pub returns-clause-writable : goal.returns-clause-writable
-returns-clause-writable g c =
-    let s = script_of (meaning c.args.script.now) in
+returns-clause-writable g c = λ le.
+    let script = c.args.script.now in
+    let s = script_of (meaning script) in
     let picks = c.args.picks.now in
-    let names = queue_names (meaning c.args.script.now) in
-    let queues = c.args.script.now.queues.items in
-    let named = map (λ (q : QueueDecl). (string_bytes q.name, q.cap)) queues in
+    let names = queue_names (meaning script) in
     let ended : IsUnderWay g.J.CodeBrand.nodes s picks [] c.loop-pick.machine =
     rw (drop_all c.loop-pick.pick-index picks (let end = c.loop-pick-test.false in omega arith)) at c.loop-pick.invariant.1 in
     let last = c.in_ok-run_to_rest.ensures.way s picks ended in
-    let many : length names ≡ c.len.result =
-    length-map named (λ (q : List ℕ × ℕ). q.0) ∙ length-map queues _ ∙ sym c.args.script.now.queues.ok.0 ∙ sym c.len.ensures in
+    let named = subst (λ (n : ℕ). NamesQueuesBelow n s.term) (sym (names_are_as_many script)) (names_declared script c.in_ok-machine.ensures.code le) in
     IfOk-weaker c.into_report.result _ (IsWritable names)
-    (λ (report : ReportView). λ writable. writable names many (s, last.machine, last.stands)) c.into_report.ensures.writable
+    (λ (report : ReportView). λ writable. writable s last.machine names last.stands (as_many_names script) named) c.into_report.ensures.writable

@@ -27,8 +27,11 @@ pub local_rule-requires : goal.local_rule-requires
 local_rule-requires g c =
     let rest = c.in_default in (
       c.requires.at,
-      (local_leaf c.args.node.now c.requires.leaf rest.not-Never rest.not-Start rest.not-Join rest.not-Cancel rest.not-First
-          rest.not-Offer rest.not-TryOffer rest.not-Take rest.not-TryTake, c.requires.countable),
+      (
+        local_leaf c.args.node.now c.requires.leaf rest.not-Never rest.not-Start rest.not-Join rest.not-Cancel rest.not-First
+            rest.not-Offer rest.not-TryOffer rest.not-Take rest.not-TryTake,
+        c.requires.countable,
+      ),
     )
 
 pub returns-in-Never-clause-ok : goal.returns-in-Never-clause-ok

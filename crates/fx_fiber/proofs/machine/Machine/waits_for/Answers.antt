@@ -1,4 +1,4 @@
-use Rattle.std.proofs.Common.{sym, ◌∙◌, inl, inr}
+use Rattle.std.proofs.Common.{◌∙◌, inl, inr}
 use Rattle.fx_fiber.proofs.WaitsBelow.{waits_below, waits_at_await, result_does_not_wait, turn_does_not_wait, unwinding_does_not_wait, end_does_not_wait}
 use Rattle.fx_fiber.proofs.machine.Machine.waits_for.Goals as goal
 

@@ -14,8 +14,8 @@ use Rattle.fx_plain.proofs.PlainMachineSteps.{same_made}
 use Rattle.fx_plain.proofs.PlainMachineOpening.{opening_stands_for}
 use Rattle.fx_plain.proofs.plain_machine.PlainMachine.opening.Goals as goal
 
-pub returns : goal.returns
-returns g c =
+pub returns-clause-stands : goal.returns-clause-stands
+returns-clause-stands g c =
     let nodes = c.args.script.now.code.nodes in
     let script = script_of (meaning c.args.script.now) in
     let world = c.in_ok-world.ensures.world in
@@ -32,4 +32,5 @@ returns g c =
     c.in_ok-fiber.ensures.trace c.in_ok-fiber.ensures.counts
     (ap (λ (n : List Node). progress n c.in_ok-fiber.fiber) (sym c.requires.code) ∙ c.in_ok-fiber.ensures.progress))
     (ap (λ (q : PortView). q.number) port)
+    (ap (λ (q : PortView). q.put_counts) port)
     c.in_ok-fiber.ensures.trace

@@ -11,9 +11,9 @@ pub returns-in_ok-try_step-in-Step-clause-way : goal.returns-in_ok-try_step-in-S
 returns-in_ok-try_step-in-Step-clause-way g c = λ s all left u.
     tried_pick g.J.CodeBrand.nodes s all left c.in-Step.fiber _ _ (c.in_ok-try_step-in-Step.ensures.tries s) (rw c.in-Step.is at u)
 
-pub returns-else-is_able-clause-way : goal.returns-else-is_able-clause-way
-returns-else-is_able-clause-way g c = λ s all left u.
-    skipped_pick g.J.CodeBrand.nodes s all left c.in-Step.fiber c.args.self.now (sym c.is_able.ensures ∙ c.if-is_able.false) (rw c.in-Step.is at u)
+pub returns-else-is_ready-clause-way : goal.returns-else-is_ready-clause-way
+returns-else-is_ready-clause-way g c = λ s all left u.
+    skipped_pick g.J.CodeBrand.nodes s all left c.in-Step.fiber c.args.self.now (sym c.is_ready.ensures ∙ c.if-is_ready.false) (rw c.in-Step.is at u)
 
 pub returns-in-Cancel-clause-stands : goal.returns-in-Cancel-clause-stands
 returns-in-Cancel-clause-stands g c =

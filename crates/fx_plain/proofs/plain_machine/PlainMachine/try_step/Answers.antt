@@ -1,46 +1,29 @@
-use Rattle.std.proofs.Common.{◌≡◌, ◌<◌, ◌∙◌, refl, sym, ap, length, length-set, arith}
-use Rattle.fx_fiber.specs.declared.stepped.Stepped.TheVariants.{Child, Waits}
-use Rattle.fx_plain.proofs.PlainMachineTries.{does_as, tries_step, tries_start, tries_waiting, child_below}
-use Rattle.fx_plain.proofs.plain_machine.PlainMachine.try_step.Goals.{in-Went, in-Child, in-Waits+in-Some-waits_for}
+use Rattle.std.proofs.lemmas.Result.{IfOk-weaker}
+use Rattle.fx_term.specs.Script.{ScriptView}
+use Rattle.fx_plain.specs.WholeMachine.{WholeMachine}
+use Rattle.fx_plain.specs.PlainMachine.{StandsForRun, Tries}
+use Rattle.fx_plain.proofs.PlainMachineWaking.{woken, some_woken, woken_able, woken_stands, tried_woken}
 use Rattle.fx_plain.proofs.plain_machine.PlainMachine.try_step.Goals as goal
 
-pub put-requires : goal.put-requires
-put-requires g c =
-    let nodes = g.J.CodeBrand.nodes in
-    let some = c.requires.stands in
-    let here = sym c.take.ensures.fiber ∙ c.in-Some.is in
-    let below : c.in-Child.fiber.port.number < length c.args.self.now.fibers.items =
-    child_below nodes some.0 c.args.self.now some.1 some.2 c.args.id c.in-Some.started here c.step.new.shared c.step.new.self c.in-Child.fiber
-    (does_as nodes _ _ _ _ _ _ (Child c.in-Child.fiber) c.take.ensures.world c.in-Child.is c.in_ok-step.ensures.ok) in
-    let id = c.id.ensures in
-    let long : length c.take.new.self.fibers.items ≡ length c.args.self.now.fibers.items = ap length c.take.ensures.fibers ∙ length-set _ c.args.id _ in
-    omega arith
+pub step_able-requires-clause-able : goal.step_able-requires-clause-able
+step_able-requires-clause-able g c = woken_able g.J.CodeBrand.nodes c.args.self.now c.args.id c.wake.new.self c.wake.ensures c.requires.ready c.requires.stands
+
+pub step_able-requires-clause-stands : goal.step_able-requires-clause-stands
+step_able-requires-clause-stands g c = some_woken g.J.CodeBrand.nodes c.args.self.now c.args.id c.wake.new.self c.wake.ensures c.requires.ready c.requires.stands
 
 pub returns : goal.returns
-returns g c = record {
-  tries = λ s m so.
-      let nodes = g.J.CodeBrand.nodes in
-      let here = sym c.take.ensures.fiber ∙ c.in-Some.is in
-      elim c.match-branch-2.branch [
-        | in-Went w ↦
-            tries_step nodes s c.args.self.now m so c.args.id c.in-Some.started here c.put-2.new.self _ c.take.new.self.fibers.items
-            c.match-branch-2.self.fibers.items c.take.ensures.fibers c.put-2.ensures.fibers c.step.new.shared c.step.new.self refl refl
-            c.in_ok-step.ensures.number c.in_ok-step.ensures.beginning c.in_ok-step.field-0 w.in-Went.is
-            (does_as nodes _ _ _ _ _ _ _ c.take.ensures.world refl c.in_ok-step.ensures.ok) (ap (λ q. q.fibers.items) w.self-is)
-            (c.put-2.ensures.world ∙ ap (λ q. q.world) w.self-is) c.requires.able
-        | in-Child w ↦
-            tries_start nodes s c.args.self.now m so c.args.id c.in-Some.started here c.put-2.new.self _ c.take.new.self.fibers.items
-            c.match-branch-2.self.fibers.items c.take.ensures.fibers c.put-2.ensures.fibers c.step.new.shared c.step.new.self refl refl
-            c.in_ok-step.ensures.number c.in_ok-step.ensures.beginning w.in-Child.fiber
-            (does_as nodes _ _ _ _ _ _ (Child w.in-Child.fiber) c.take.ensures.world w.in-Child.is c.in_ok-step.ensures.ok)
-            _ refl refl (ap (λ q. q.fibers.items) w.self-is ∙ w.put.ensures.fibers ∙ rw w.id.ensures refl)
-            (c.put-2.ensures.world ∙ ap (λ q. q.world) w.self-is ∙ w.put.ensures.world) c.requires.able
-        | in-Waits+in-Some-waits_for w ↦
-            tries_waiting nodes s c.args.self.now m so c.args.id c.in-Some.started here c.put-2.new.self _ c.take.new.self.fibers.items
-            c.match-branch-2.self.fibers.items c.take.ensures.fibers c.put-2.ensures.fibers c.step.new.shared c.step.new.self refl refl
-            c.in_ok-step.ensures.number c.in_ok-step.ensures.beginning
-            (does_as nodes _ _ _ _ _ _ Waits c.take.ensures.world w.in-Waits.is c.in_ok-step.ensures.ok)
-            w.in-Some-waits_for.source (sym w.in-Some-waits_for.is ∙ w.waits_for.ensures) (ap (λ q. q.fibers.items) w.self-is)
-            (c.put-2.ensures.world ∙ ap (λ q. q.world) w.self-is ∙ w.wait.ensures) c.requires.able
-      ];
-}
+returns g c =
+    let nodes = g.J.CodeBrand.nodes in
+    let p = c.args.self.now in
+    let f = c.args.id in
+    let world = c.wake.new.self in
+    let p' = c.step_able.new.self in
+    let is = c.wake.ensures in
+    let ready = c.requires.ready in
+    record {
+      tries = IfOk-weaker c.step_able.result
+          (λ _. (s : ScriptView) (m : WholeMachine) → StandsForRun nodes s (woken nodes p f world is ready) m → Tries nodes s m f (woken nodes p f world is ready) p')
+          (λ _. (s : ScriptView) (m : WholeMachine) → StandsForRun nodes s p m → Tries nodes s m f p p')
+          (λ _ tries. λ s m so. tried_woken nodes p f world is ready s m so p' (tries s m (woken_stands nodes p f world is ready s m so)))
+          c.step_able.ensures.tries;
+    }

@@ -1,0 +1,128 @@
+//! The sets of fibers by their classes.
+ghost use Rattle.std.specs.Prelude.{◌≡◌, ℕ, ◌<◌, true, false, IfOk, length};
+ghost use Rattle.fx_plain.specs.NumberSet.{is_member, is_member_of, IsLeastOf, IsLeastFrom, lesser};
+ghost use Rattle.fx_plain.specs.ClassSets.{Kind, members, AreWith, is_ready_there};
+
+use crate::class::Class;
+use crate::number_set::{NUMBERS, NumberSet};
+use crate::number_sets::NumberSets;
+use crate::plain_queue::PlainQueue;
+use fx_fiber::Source;
+use fx_term::Memory;
+use std::alloc::Global;
+use std::marker::Model;
+
+/// The lesser of two numbers, of those that there are.
+pub(crate) fn lesser(a: Option<u32>, b: Option<u32>) -> Option<u32>
+    ensures { result ≡ lesser a b }
+{
+    match (a, b) {
+        (Some(m), Some(n)) => Some(m.min(n)),
+        (Some(m), None) => Some(m),
+        (None, b) => b,
+    }
+}
+
+/// The numbers of the fibers that are able, of those that wait for an outcome, and by queue of those that
+/// wait there for room and for an element. No call but the first takes memory.
+#[derive(Drop)]
+pub(crate) struct ClassSets {
+    able: NumberSet,
+    for_outcomes: NumberSet,
+    for_room: NumberSets,
+    for_element: NumberSets,
+}
+
+impl Model for ClassSets {
+    ghost use Rattle.std.specs.Prelude.{◌≡◌, length};
+    ghost use Rattle.fx_plain.specs.ClassSets.{SetsView};
+
+    ghost Value = { SetsView };
+
+    ghost view = { λ s. record {
+      able = s.able;
+      for_outcomes = s.for_outcomes;
+      for_room = s.for_room;
+      for_element = s.for_element;
+    } };
+
+    ghost invariant = { λ s. length s.for_element ≡ length s.for_room };
+}
+
+impl ClassSets {
+    /// The sets for so many queues, with no number.
+    pub fn new(alloc: Global, queues: usize) -> Result<ClassSets, Memory>
+        ensures count { IfOk result (λ sets. length sets.for_room ≡ queues) }
+        ensures empty { IfOk result (λ sets. (kind : Kind) (f : ℕ) → members sets kind f ≡ false) }
+    {
+        Ok(ClassSets {
+            able: NumberSet::new(),
+            for_outcomes: NumberSet::new(),
+            for_room: NumberSets::new(alloc, queues)?,
+            for_element: NumberSets::new(alloc, queues)?,
+        })
+    }
+
+    /// Puts a fiber of that class where it is to be.
+    pub fn insert(&mut self, fiber: u32, class: Class)
+        requires { fiber < NUMBERS }
+        ensures { AreWith true fiber class self.old self.new }
+    {
+        match class {
+            Class::Able => self.able.insert(fiber),
+            Class::Waits(Source::Outcome(_) | Source::Either(..)) => {
+                self.for_outcomes.insert(fiber);
+            }
+            Class::Waits(Source::Room(queue)) => self.for_room.insert(queue, fiber),
+            Class::Waits(Source::Element(queue)) => self.for_element.insert(queue, fiber),
+            Class::Unstarted | Class::Waits(Source::Nothing) | Class::Over => {}
+        }
+    }
+
+    /// Takes a fiber of that class out of where it is.
+    pub fn remove(&mut self, fiber: u32, class: Class)
+        requires { fiber < NUMBERS }
+        ensures { AreWith false fiber class self.old self.new }
+    {
+        match class {
+            Class::Able => self.able.remove(fiber),
+            Class::Waits(Source::Outcome(_) | Source::Either(..)) => {
+                self.for_outcomes.remove(fiber);
+            }
+            Class::Waits(Source::Room(queue)) => self.for_room.remove(queue, fiber),
+            Class::Waits(Source::Element(queue)) => self.for_element.remove(queue, fiber),
+            Class::Unstarted | Class::Waits(Source::Nothing) | Class::Over => {}
+        }
+    }
+
+    /// The least number of a fiber that is able.
+    pub fn least_able(&self) -> Option<u32>
+        ensures { IsLeastOf (is_member self.now.able) result }
+    {
+        self.able.least()
+    }
+
+    /// The least number from this one on of a fiber that waits for an outcome.
+    pub fn least_for_outcome(&self, from: u32) -> Option<u32>
+        ensures { IsLeastFrom from (is_member self.now.for_outcomes) result }
+    {
+        self.for_outcomes.least_from(from)
+    }
+
+    /// The least number of a fiber that waits at this queue for what that has.
+    pub fn least_there(&self, queue: usize, own: &PlainQueue) -> Option<u32>
+        ensures { IsLeastOf (is_ready_there self.now queue own.now) result }
+    {
+        let for_room = if own.has_room() {
+            self.for_room.least(queue)
+        } else {
+            None
+        };
+        let for_element = if own.has_element() {
+            self.for_element.least(queue)
+        } else {
+            None
+        };
+        lesser(for_room, for_element)
+    }
+}
