@@ -2,7 +2,7 @@ use Rattle.std.proofs.Common.{◌∙◌, sym, ap}
 use Rattle.std.proofs.lemmas.List.{get_or_read}
 use Rattle.fx_plain.specs.PlainQueue.{no_queue}
 use Rattle.fx_plain.specs.ClassSets.{ClassesView}
-use Rattle.fx_plain.proofs.LeastReady.{least_first, least_next, least_last}
+use Rattle.fx_plain.proofs.LeastReady.{least_first, least_next}
 use Rattle.fx_plain.proofs.classes.Classes.least.Goals as goal
 
 pub loop-queue-init : goal.loop-queue-init

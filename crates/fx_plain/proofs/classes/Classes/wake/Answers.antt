@@ -1,4 +1,4 @@
-use Rattle.std.proofs.Common.{◌≡◌, ◌<◌, ◌≤◌, ◌∙◌, List, length, sym, subst, ap, arith}
+use Rattle.std.proofs.Common.{◌<◌, ◌≤◌, ◌∙◌, length, sym, subst, ap, arith}
 use Rattle.fx_plain.specs.NumberSet.{is_member}
 use Rattle.fx_plain.specs.ClassSets.{ClassesView, ForOutcomes}
 use Rattle.fx_plain.proofs.ClassSets.{same_view}
