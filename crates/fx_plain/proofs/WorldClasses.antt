@@ -1,7 +1,7 @@
 -- The classes of a world go on to tell who can step.
-use Rattle.std.proofs.Common.{◌≡◌, ℕ, zero, suc, ◌<◌, Bool, true, false, Option, Some, None, List, length, map, refl, sym, ◌∙◌, ap, ◌⊎◌, inl, inr, arith}
+use Rattle.std.proofs.Common.{◌≡◌, ℕ, zero, suc, ◌<◌, true, false, Option, Some, None, List, length, map, refl, sym, ◌∙◌, ap, ◌⊎◌, inl, inr, arith}
 use Rattle.std.proofs.Common.{get_or-set_same, get_or-set_other, length-set}
-use Rattle.std.specs.Prelude.{slice_set, slice_index_or, if◌then◌else◌}
+use Rattle.std.specs.Prelude.{slice_set, slice_index_or}
 use Rattle.std.proofs.lemmas.Bool.{cases_eq}
 use Rattle.std.proofs.lemmas.List.{length-map, length-replicate}
 use Rattle.fx_term.specs.declared.outcome.Outcome as outcome
@@ -16,7 +16,7 @@ use Rattle.fx_fiber.specs.WaitsFor.{IsWaiting}
 use Rattle.fx_plain.specs.declared.class.Class.{Class}
 use Rattle.fx_plain.specs.declared.class.Class.TheVariants.{Unstarted, Able, Waits, Over}
 use Rattle.fx_plain.specs.WholeMachine.{StartedFiber, WholeMachine, with_at, opening, has_room, outside_of, outcome_of, can_step_in, moved, requested_from_outside}
-use Rattle.fx_plain.specs.Classes.{AreOfClasses, opening_classes, class_requested, waits_for_end, class_at_end, requested_classes, ended_classes}
+use Rattle.fx_plain.specs.Classes.{AreOfClasses, opening_classes, class_requested, class_at_end, requested_classes, ended_classes}
 use Rattle.fx_plain.specs.Classes.{outcome_has_come, AwaitWhatIsToCome, is_ready}
 use Rattle.fx_plain.specs.PlainQueue.{have_room, have_element}
 use Rattle.fx_plain.specs.ClassSets.{class_at, is_able}

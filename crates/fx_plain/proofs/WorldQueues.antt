@@ -1,20 +1,19 @@
 -- The queues of a world are those of the whole machine for which it stands.
-use Rattle.std.proofs.Common.{◌≡◌, ℕ, suc, ◌+◌, ◌<◌, ◌≤◌, Bool, true, false, Option, Some, None, List, [], ◌∷◌, ◌++◌, length, map, drop, refl, sym, ◌∙◌, ap}
-use Rattle.std.proofs.Common.{get_or-set_same, get_or-set_other, length-set, arith, inl, inr}
-use Rattle.std.specs.Prelude.{nat_lt, slice_index, slice_index_or, slice_set}
-use Rattle.std.specs.List.{filter_map, range_with_len}
+use Rattle.std.proofs.Common.{◌≡◌, ℕ, ◌+◌, ◌<◌, true, false, Some, List, [], ◌∷◌, ◌++◌, length, map, drop, refl, sym, ◌∙◌, ap}
+use Rattle.std.proofs.Common.{get_or-set_same, get_or-set_other, inl, inr}
+use Rattle.std.specs.Prelude.{nat_lt, slice_index, slice_set}
 use Rattle.std.proofs.Math.ListN.{get_or-map}
 use Rattle.std.proofs.Math.Seq.{map-set_same}
-use Rattle.std.proofs.lemmas.Bool.{cases_eq, cases_lt, ltb-true, eq-eqb, ne_eqb}
+use Rattle.std.proofs.lemmas.Bool.{cases_eq, cases_lt}
 use Rattle.std.proofs.lemmas.Option.{none-some}
-use Rattle.std.proofs.lemmas.List.{get_or_past, length-map, length-append}
+use Rattle.std.proofs.lemmas.List.{get_or_past, length-append}
 use Rattle.std.proofs.lemmas.List.Elements.{filter_map-append}
 use Rattle.fx_term.specs.declared.event.Event.{Event}
 use Rattle.fx_term.specs.declared.event.Event.TheVariants as event
 use Rattle.fx_term.specs.declared.item.Item.{Item}
 use Rattle.fx_term.specs.Queue.{value_put, values_put}
 use Rattle.fx_term.specs.Script.{ScriptView}
-use Rattle.fx_fiber.specs.Row.{Label, Silent, Shows, Learns, Starts}
+use Rattle.fx_fiber.specs.Row.{Label, Shows, Starts}
 use Rattle.fx_fiber.specs.Run.{events}
 use Rattle.fx_fiber.proofs.Keeping.{events_append}
 use Rattle.fx_plain.specs.PlainQueue.{QueueView, empty_queue, no_queue, queue_at, have_room, have_element, with_item, without_front}

@@ -146,31 +146,34 @@ impl Classes {
 #[cfg(test)]
 mod tests {
     use super::Classes;
+    use crate::plain_queue::PlainQueue;
     use fx_fiber::Source;
     use std::test::Fail;
 
     #[test]
     fn an_end_wakes_those_that_wait_for_it(rt: HostRuntime) -> Result<(), Fail> {
-        let mut classes = Classes::new(rt.alloc(), 70)?;
-        assert_eq!(rt; classes.least(), None);
+        let none: Vec<PlainQueue> = Vec::new(rt.alloc());
+        let mut classes = Classes::new(rt.alloc(), 70, 0)?;
+        assert_eq!(rt; classes.least(&none), None);
         classes.wait(2, Source::Outcome(5));
         classes.wait(3, Source::Outcome(6));
         classes.wait(4, Source::Nothing);
         classes.wait(69, Source::Either(6, 5));
         classes.become_able(5);
-        assert_eq!(rt; classes.least(), Some(5));
+        assert_eq!(rt; classes.least(&none), Some(5));
         classes.end(5);
-        assert_eq!(rt; classes.least(), Some(2));
+        assert_eq!(rt; classes.least(&none), Some(2));
         classes.end(2);
-        assert_eq!(rt; classes.least(), Some(69));
+        assert_eq!(rt; classes.least(&none), Some(69));
         classes.end(69);
-        assert_eq!(rt; classes.least(), None);
+        assert_eq!(rt; classes.least(&none), None);
         Ok(())
     }
 
     #[test]
     fn a_request_moves_a_fiber_that_waits(rt: HostRuntime) -> Result<(), Fail> {
-        let mut classes = Classes::new(rt.alloc(), 3)?;
+        let none: Vec<PlainQueue> = Vec::new(rt.alloc());
+        let mut classes = Classes::new(rt.alloc(), 3, 0)?;
         classes.wait(1, Source::Nothing);
         classes.become_able(2);
         classes.end(2);
@@ -178,9 +181,9 @@ mod tests {
         classes.request(0);
         classes.request(2);
         classes.request(3);
-        assert_eq!(rt; classes.least(), None);
+        assert_eq!(rt; classes.least(&none), None);
         classes.request(1);
-        assert_eq!(rt; classes.least(), Some(1));
+        assert_eq!(rt; classes.least(&none), Some(1));
         Ok(())
     }
 }

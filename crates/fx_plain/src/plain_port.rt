@@ -87,12 +87,7 @@ impl<J: CodeBrand> Port for PlainPort<J> {
         world.outcome(id)
     }
 
-    fn offer(
-        &mut self,
-        world: &mut PlainWorld,
-        queue: u8,
-        value: u64,
-    ) -> Result<Offered, Memory> {
+    fn offer(&mut self, world: &mut PlainWorld, queue: u8, value: u64) -> Result<Offered, Memory> {
         if !world.has_room(queue) {
             return Ok(Offered::Full);
         }
@@ -130,42 +125,4 @@ impl<J: CodeBrand> Port for PlainPort<J> {
 }
 
 #[cfg(test)]
-mod tests {
-    use super::PlainPort;
-    use crate::plain_world::PlainWorld;
-    use fx_fiber::Port;
-    use fx_term::{Begin, NodeId, Outcome, Registers};
-    use std::marker::Brand;
-    use std::test::Fail;
-
-    #[test]
-    fn a_port_sees_what_another_one_did(rt: HostRuntime) -> Result<(), Fail> {
-        let mut world = PlainWorld::opening(rt.alloc(), 3, Vec::new(rt.alloc()))?;
-        let begin = Begin {
-            node: NodeId(0),
-            slots: Registers::new(rt.alloc()),
-            next: 1,
-            end: 3,
-        };
-        let mut main: PlainPort<Brand> = PlainPort::new(rt.alloc(), 0, &begin);
-        let begin = Begin {
-            node: NodeId(0),
-            slots: Registers::new(rt.alloc()),
-            next: 2,
-            end: 2,
-        };
-        let mut child = main.start(&mut world, 1, &begin)?;
-        assert_eq!(rt; child.look(&mut world), false);
-        main.request(&mut world, 1);
-        assert_eq!(rt; child.look(&mut world), true);
-        assert_eq!(rt; main.look(&mut world), false);
-        assert_eq!(rt; main.peek(&mut world, 1), None);
-        child.finish(&mut world, Outcome::Canceled);
-        assert_eq!(rt; main.peek(&mut world, 1), Some(Outcome::Canceled));
-        assert_eq!(rt; main.peek(&mut world, 0), None);
-        // numbers of no fiber
-        main.request(&mut world, 3);
-        assert_eq!(rt; main.peek(&mut world, 3), None);
-        Ok(())
-    }
-}
+mod tests;

@@ -291,28 +291,4 @@ impl PlainWorld {
 }
 
 #[cfg(test)]
-mod tests {
-    use super::PlainWorld;
-    use fx_fiber::Source;
-    use fx_term::Outcome;
-    use std::test::Fail;
-
-    #[test]
-    fn the_least_is_one_that_may_step(rt: HostRuntime) -> Result<(), Fail> {
-        let mut world = PlainWorld::opening(rt.alloc(), 3, Vec::new(rt.alloc()))?;
-        assert_eq!(rt; world.least(), Some(0));
-        world.start(2);
-        world.wait(0, Source::Outcome(2));
-        assert_eq!(rt; world.least(), Some(2));
-        world.finish(2, Outcome::Succeeded(7));
-        assert_eq!(rt; world.outcome(2), Some(Outcome::Succeeded(7)));
-        assert_eq!(rt; world.least(), Some(0));
-        world.wait(0, Source::Nothing);
-        assert_eq!(rt; world.least(), None);
-        world.request_from_outside(0);
-        assert_eq!(rt; world.is_requested(0), true);
-        assert_eq!(rt; world.is_requested(1), false);
-        assert_eq!(rt; world.least(), Some(0));
-        Ok(())
-    }
-}
+mod tests;

@@ -1,4 +1,4 @@
-use Rattle.std.proofs.Common.{◌≡◌, ◌<◌, ◌≤◌, ◌∙◌, List, length, sym, subst, ap, arith}
+use Rattle.std.proofs.Common.{◌<◌, ◌≤◌, ◌∙◌, length, sym, subst, ap, arith}
 use Rattle.fx_plain.specs.NumberSet.{is_member}
 use Rattle.fx_plain.specs.ClassSets.{ClassesView, ForOutcomes}
 use Rattle.fx_plain.proofs.ClassSets.{same_view}
@@ -11,7 +11,7 @@ index-requires c =
     let woken = subst (λ (v : ClassesView). AreWoken c.args.fiber c.args.self.now.of c.loop-waiter.from v.of) (sym c.self.view_is) c.loop-waiter.invariant.0 in
     let lt : c.in-Some.waiter < length c.self.inside.of.items =
     waiter_within c.args.fiber c.args.self.now.of c.loop-waiter.from c.self.inside.of.items woken (is_member c.self.inside.sets.for_outcomes)
-        (c.self.invariant.1 ForOutcomes tt) c.in-Some.waiter c.in-Some.ensures.1 in
+    (c.self.invariant.1 ForOutcomes tt) c.in-Some.waiter c.in-Some.ensures.1 in
     omega (arith, c.self.inside.of.ok.0)
 
 pub overflow_add-from : goal.overflow_add-from
@@ -19,7 +19,7 @@ overflow_add-from c =
     let woken = subst (λ (v : ClassesView). AreWoken c.args.fiber c.args.self.now.of c.loop-waiter.from v.of) (sym c.self.view_is) c.loop-waiter.invariant.0 in
     let lt : c.in-Some.waiter < length c.self.inside.of.items =
     waiter_within c.args.fiber c.args.self.now.of c.loop-waiter.from c.self.inside.of.items woken (is_member c.self.inside.sets.for_outcomes)
-        (c.self.invariant.1 ForOutcomes tt) c.in-Some.waiter c.in-Some.ensures.1 in
+    (c.self.invariant.1 ForOutcomes tt) c.in-Some.waiter c.in-Some.ensures.1 in
     let few : length c.self.inside.of.items ≤ 4096 = c.self.invariant.0 in
     omega arith
 
@@ -28,7 +28,7 @@ loop-waiter-smaller c =
     let woken = subst (λ (v : ClassesView). AreWoken c.args.fiber c.args.self.now.of c.loop-waiter.from v.of) (sym c.self.view_is) c.loop-waiter.invariant.0 in
     let lt : c.in-Some.waiter < length c.self.inside.of.items =
     waiter_within c.args.fiber c.args.self.now.of c.loop-waiter.from c.self.inside.of.items woken (is_member c.self.inside.sets.for_outcomes)
-        (c.self.invariant.1 ForOutcomes tt) c.in-Some.waiter c.in-Some.ensures.1 in
+    (c.self.invariant.1 ForOutcomes tt) c.in-Some.waiter c.in-Some.ensures.1 in
     let few : length c.self.inside.of.items ≤ 4096 = c.self.invariant.0 in
     let le : c.loop-waiter.from ≤ c.in-Some.waiter = c.in-Some.ensures.0 in
     omega arith
@@ -63,5 +63,5 @@ returns c =
     let old = c.args.self.now.of in
     let woken = subst (λ (v : ClassesView). AreWoken f old c.loop-waiter.from v.of) (sym c.self.view_is) c.loop-waiter.invariant.0 in
     let all = all_woken f old c.loop-waiter.from c.self.inside.of.items woken (is_member c.self.inside.sets.for_outcomes) (c.self.invariant.1 ForOutcomes tt)
-        c.in_default.ensures in
+    c.in_default.ensures in
     sym c.self.view_is ∙ same_view all (ap (λ (v : ClassesView). v.queues) c.self.view_is ∙ c.loop-waiter.invariant.1)
