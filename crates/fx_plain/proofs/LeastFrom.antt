@@ -1,6 +1,6 @@
 -- The least member of a set from a number on: in its word, or in the first marked word after that.
-use Rattle.std.proofs.Common.{◌≡◌, ℕ, ◌+◌, ◌-◌, ◌*◌, ◌/◌, ◌%◌, ◌^◌, ◌<◌, ◌≤◌, false, Some, None, List, length, sym, ◌∙◌, ap, arith, inl, inr, w64}
-use Rattle.std.specs.Prelude.{◌==◌, slice_index}
+use Rattle.std.proofs.Common.{◌≡◌, ℕ, ◌+◌, ◌-◌, ◌*◌, ◌/◌, ◌%◌, ◌^◌, ◌<◌, ◌≤◌, false, Option, Some, None, List, length, sym, ◌∙◌, ap, arith, inl, inr, w64}
+use Rattle.std.specs.Prelude.{◌==◌, slice_index, IfSome}
 use Rattle.std.specs.Int.{bit_at, trailing_zeros}
 use Rattle.std.proofs.Math.Nat.{div-div-eq-div-mul, div-le_self}
 use Rattle.std.proofs.lemmas.Bool.{cases_lt, cases_eq, ltb-true}
@@ -58,6 +58,11 @@ module _ (ws : List ℕ) where
     pub past_has_none : (n : ℕ) → 4096 ≤ n → is_member ws n ≡ false
     past_has_none n le = zero_has_none ws n (get_or_past ws (n / 64) 0 (omega arith))
 
+    -- so what is found from a number on is a number that a set can have
+    pub found_is_few : (from : ℕ) (found : Option ℕ) → IsLeastFrom from (is_member ws) found → IfSome found (λ n. n < 4096)
+    found_is_few from None h = tt
+    found_is_few from (Some n) h = elim (cases_lt n 4096) [ inl lt ↦ lt | inr le ↦ absurd (let none = past_has_none n le in let some = h.1 in cc) ]
+
     module _ (from w : ℕ) (is : w ≡ slice_index ws (from / 64)) where
       abbrev word : ℕ
       word = from / 64
@@ -86,6 +91,9 @@ module _ (ws : List ℕ) where
             λ k le lt. let same : k / 64 ≡ word = omega arith in
                 is_bit k word (k % 64) 0 same (omega arith) (bit_is (k % 64) 0 (first.none (k % 64) (omega arith) (omega arith))),
           )
+
+      pub in_word_few : w < 2 ^ 64 → (HasNoMore → ⊥) → from + trailing_zeros w64 (w / 2 ^ bit) < 4096
+      in_word_few fits some = found_is_few from (Some (from + trailing_zeros w64 (w / 2 ^ bit))) (in_word fits some)
 
       module _ (marks : ℕ) (marked : AreMarked marks ws) (no_more : HasNoMore) where
         abbrev later : ℕ
@@ -136,3 +144,6 @@ module _ (ws : List ℕ) where
                   ]
                 ],
               )
+
+          pub in_next_few : slice_index ws next < 2 ^ 64 → 64 * next + trailing_zeros w64 (slice_index ws next) < 4096
+          in_next_few fit = found_is_few from (Some (64 * next + trailing_zeros w64 (slice_index ws next))) (in_next fit)

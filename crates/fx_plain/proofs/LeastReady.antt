@@ -9,7 +9,8 @@ use Rattle.fx_plain.specs.declared.class.Class.TheVariants.{Unstarted, Able, Wai
 use Rattle.fx_plain.specs.NumberSet.{IsLeastOf, lesser}
 use Rattle.fx_plain.specs.PlainQueue.{QueueView, no_queue, queue_at, have_room, have_element, has_room_in, has_element_in}
 use Rattle.fx_plain.specs.Classes.{is_ready}
-use Rattle.fx_plain.specs.ClassSets.{class_at, is_able, waits_for_room, waits_for_element, SetsView, members, AreAble, ForRoom, ForElement, AreSets, is_ready_there}
+use Rattle.fx_plain.specs.ClassSets.{class_at, is_able, waits_for_room, waits_for_element, SetsView, members, AreAble, ForRoom, ForElement, passes, AreSets, is_ready_there}
+use Rattle.fx_plain.specs.ClassSets.{NobodyWaitsBetween}
 
 module _ (s t : ℕ → Bool) where
   abbrev either : ℕ → Bool
@@ -160,3 +161,72 @@ module _ (queues : List QueueView) where
         → IsLeastOf (λ f. is_ready (have_room queues) (have_element queues) (class_at classes f)) least
     least_last n least le = least_same (λ f. ready_below n (class_at classes f)) (λ f. is_ready (have_room queues) (have_element queues) (class_at classes f)) least
         (λ f. ready_all n le (class_at classes f))
+
+    -- queues at which nobody waits make nobody ready
+    module _ (from n : ℕ) (le : from ≤ n) (none : NobodyWaitsBetween sets from n) where
+      both_false : (a b : Bool) → (a && false) ≡ (b && false)
+      both_false true true = refl
+      both_false true false = refl
+      both_false false true = refl
+      both_false false false = refl
+
+      skip_test : (r : ℕ) (ready : Bool) → (from ≤ r → r < n → ready ≡ false) → (nat_lt r from && ready) ≡ (nat_lt r n && ready)
+      skip_test r ready gone = elim (cases_lt r from) [
+        | inl lt ↦ rw (lt-ltb r from lt, lt-ltb r n (omega arith)) refl
+        | inr past ↦ elim (cases_lt r n) [
+          | inl lt ↦ rw (gone past lt) (both_false (nat_lt r from) (nat_lt r n))
+          | inr out ↦ rw (le-ltb r from past, le-ltb r n out) refl
+        ]
+      ]
+
+      room_gone : (f r : ℕ) → class_at classes f ≡ Waits (Room r) → from ≤ r → r < n → have_room queues r ≡ false
+      room_gone f r e low high = elim (cases_lt r (length queues)) [
+        | inl lt ↦ absurd
+            (let kept : r < length sets.for_room = omega arith in
+            let out = (none r low high kept f).0 in
+            let is = are (ForRoom r) kept f ∙ ap (passes (ForRoom r)) e ∙ eq-eqb r r refl in
+            cc)
+        | inr past ↦ ap has_room_in (get_or_past queues r no_queue (omega arith))
+      ]
+
+      element_gone : (f r : ℕ) → class_at classes f ≡ Waits (Element r) → from ≤ r → r < n → have_element queues r ≡ false
+      element_gone f r e low high = elim (cases_lt r (length queues)) [
+        | inl lt ↦ absurd
+            (let kept : r < length sets.for_room = omega arith in
+            let out = (none r low high kept f).1 in
+            let is = are (ForElement r) kept f ∙ ap (passes (ForElement r)) e ∙ eq-eqb r r refl in
+            cc)
+        | inr past ↦ ap has_element_in (get_or_past queues r no_queue (omega arith))
+      ]
+
+      same_ready : (f : ℕ) (k : Class) → class_at classes f ≡ k → ready_below from k ≡ ready_below n k
+      same_ready f (Waits (Room r)) e = skip_test r (have_room queues r) (room_gone f r e)
+      same_ready f (Waits (Element r)) e = skip_test r (have_element queues r) (element_gone f r e)
+      same_ready f Able e = refl
+      same_ready f (Waits Nothing) e = refl
+      same_ready f (Waits (Outcome g)) e = refl
+      same_ready f (Waits (Either g h)) e = refl
+      same_ready f Unstarted e = refl
+      same_ready f Over e = refl
+
+      least_skipped : (least : Option ℕ) → IsLeastBelow from least → IsLeastBelow n least
+      least_skipped least =
+          least_same (λ f. ready_below from (class_at classes f)) (λ f. ready_below n (class_at classes f)) least (λ f. same_ready f (class_at classes f) refl)
+
+      -- so the search goes on past the next at which somebody may wait
+      pub least_onward : (own : QueueView) (least there : Option ℕ) → n < length queues → own ≡ queue_at queues n → IsLeastBelow from least
+          → IsLeastOf (is_ready_there sets n own) there → IsLeastBelow (n + 1) (lesser least there)
+      least_onward own least there lt is before here = least_next n own least there lt is (least_skipped least before) here
+
+      -- and ends where there is no queue any more
+      pub least_past : (least : Option ℕ) → length queues ≤ n → IsLeastBelow from least
+          → IsLeastOf (λ f. is_ready (have_room queues) (have_element queues) (class_at classes f)) least
+      least_past least past before = least_last n least past (least_skipped least before)
+
+    -- or where nobody waits any more
+    pub least_at_end : (from : ℕ) (least : Option ℕ) → NobodyWaitsBetween sets from (length sets.for_room) → IsLeastBelow from least
+        → IsLeastOf (λ f. is_ready (have_room queues) (have_element queues) (class_at classes f)) least
+    least_at_end from least none before = elim (cases_lt (length sets.for_room) from) [
+      | inl lt ↦ least_last from least (omega arith) before
+      | inr le ↦ least_past from (length sets.for_room) le none least (omega arith) before
+    ]

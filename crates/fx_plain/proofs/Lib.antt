@@ -34,6 +34,7 @@ pub mod ClassesKept
 pub mod LeastFrom
 pub mod AwaitedOutcomes
 pub mod ClassSets
+pub mod WaitedQueues
 pub mod Waking
 pub mod WorldLaws
 pub mod WorldSteps

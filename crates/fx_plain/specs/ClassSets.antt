@@ -1,5 +1,5 @@
 -- A list of classes by fiber number, and the sets of numbers that stand for it.
-use Rattle.std.specs.Prelude.{◌≡◌, ℕ, ◌<◌, ◌==◌, ◌||◌, ◌&&◌, Bool, true, false, if◌then◌else◌, List, length, map, slice_index_or, slice_set}
+use Rattle.std.specs.Prelude.{◌≡◌, ℕ, ◌<◌, ◌==◌, ◌||◌, ◌&&◌, Bool, true, false, if◌then◌else◌, List, length, map, slice_index_or, slice_set, ◌≤◌, Option, MatchOption}
 use Rattle.fx_fiber.specs.declared.source.Source.TheVariants.{Outcome, Either, Room, Element}
 use Rattle.fx_plain.specs.declared.class.Class.{Class}
 use Rattle.fx_plain.specs.declared.class.Class.TheVariants.{Unstarted, Able, Waits, Over}
@@ -69,6 +69,14 @@ members sets ForOutcomes f = is_member sets.for_outcomes f
 members sets (ForRoom q) f = is_member_of sets.for_room q f
 members sets (ForElement q) f = is_member_of sets.for_element q f
 
+-- nobody waits at the queue
+abbrev pub NobodyWaitsAt : List (List ℕ) → List (List ℕ) → ℕ → Type 0
+NobodyWaitsAt for_room for_element q = (f : ℕ) → (is_member_of for_room q f ≡ false) × (is_member_of for_element q f ≡ false)
+
+-- of the queues that have sets, somebody waits at none but these
+abbrev pub AreWaitedAt : (ℕ → Bool) → List (List ℕ) → List (List ℕ) → Type 0
+AreWaitedAt waited for_room for_element = (q : ℕ) → q < length for_room → waited q ≡ false → NobodyWaitsAt for_room for_element q
+
 -- there is a set of that kind, where so many queues have sets
 abbrev pub IsKept : ℕ → Kind → Type 0
 IsKept queues (ForRoom q) = q < queues
@@ -92,3 +100,12 @@ AreSets classes sets = (kind : Kind) → IsKept (length sets.for_room) kind → 
 -- those who wait at this queue for room, if it has some, or for an element, if it has one
 abbrev pub is_ready_there : SetsView → ℕ → QueueView → ℕ → Bool
 is_ready_there sets q own f = (has_room_in own && members sets (ForRoom q) f) || (has_element_in own && members sets (ForElement q) f)
+
+-- from this queue on, up to the other, nobody waits at one that has sets
+abbrev pub NobodyWaitsBetween : SetsView → ℕ → ℕ → Type 0
+NobodyWaitsBetween sets from n = (q : ℕ) → from ≤ q → q < n → q < length sets.for_room → NobodyWaitsAt sets.for_room sets.for_element q
+
+-- from this queue on nobody waits before that one, or at any if it is none
+abbrev pub IsNextWaited : SetsView → ℕ → Option ℕ → Type 0
+IsNextWaited sets from next =
+    MatchOption next (NobodyWaitsBetween sets from (length sets.for_room)) (λ n. (from ≤ n) × NobodyWaitsBetween sets from n)

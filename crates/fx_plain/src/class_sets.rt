@@ -1,7 +1,9 @@
 //! The sets of fibers by their classes.
-ghost use Rattle.std.specs.Prelude.{◌≡◌, ℕ, ◌<◌, true, false, IfOk, length};
+ghost use Rattle.std.specs.Prelude.{◌≡◌, ℕ, ◌<◌, true, false, IfOk, IfSome, length};
 ghost use Rattle.fx_plain.specs.NumberSet.{is_member, is_member_of, IsLeastOf, IsLeastFrom, lesser};
+ghost use Rattle.std.specs.Bool.{OnTrue};
 ghost use Rattle.fx_plain.specs.ClassSets.{Kind, members, AreWith, is_ready_there};
+ghost use Rattle.fx_plain.specs.ClassSets.{NobodyWaitsAt, AreWaitedAt, IsNextWaited};
 
 use crate::class::Class;
 use crate::number_set::{NUMBERS, NumberSet};
@@ -23,19 +25,45 @@ pub(crate) fn lesser(a: Option<u32>, b: Option<u32>) -> Option<u32>
     }
 }
 
+/// Whether nobody waits at this queue, where these wait for room and for an element.
+fn is_left(for_room: &NumberSets, for_element: &NumberSets, queue: u8) -> bool
+    ensures { OnTrue result (NobodyWaitsAt for_room.now for_element.now queue) }
+{
+    let index = queue as usize;
+    for_room.least(index).is_none() && for_element.least(index).is_none()
+}
+
+/// Takes this queue out of those at which somebody waits, if nobody does any more.
+fn forget_left(
+    waited: &mut NumberSet,
+    for_room: &NumberSets,
+    for_element: &NumberSets,
+    queue: u8,
+)
+    ensures { AreWaitedAt (is_member waited.old) for_room.now for_element.now
+        → AreWaitedAt (is_member waited.new) for_room.now for_element.now }
+{
+    if is_left(for_room, for_element, queue) {
+        waited.remove(u32::from(queue));
+    }
+}
+
 /// The numbers of the fibers that are able, of those that wait for an outcome, and by queue of those that
-/// wait there for room and for an element. No call but the first takes memory.
+/// wait there for room and for an element; and the queues at which somebody waits, so that no other need
+/// be looked at. No call but the first takes memory.
 #[derive(Drop)]
 pub(crate) struct ClassSets {
     able: NumberSet,
     for_outcomes: NumberSet,
     for_room: NumberSets,
     for_element: NumberSets,
+    waited: NumberSet,
 }
 
 impl Model for ClassSets {
     ghost use Rattle.std.specs.Prelude.{◌≡◌, length};
-    ghost use Rattle.fx_plain.specs.ClassSets.{SetsView};
+    ghost use Rattle.fx_plain.specs.NumberSet.{is_member};
+    ghost use Rattle.fx_plain.specs.ClassSets.{SetsView, AreWaitedAt};
 
     ghost Value = { SetsView };
 
@@ -46,7 +74,8 @@ impl Model for ClassSets {
       for_element = s.for_element;
     } };
 
-    ghost invariant = { λ s. length s.for_element ≡ length s.for_room };
+    ghost invariant = { λ s. (length s.for_element ≡ length s.for_room)
+        × AreWaitedAt (is_member s.waited) s.for_room s.for_element };
 }
 
 impl ClassSets {
@@ -60,6 +89,7 @@ impl ClassSets {
             for_outcomes: NumberSet::new(),
             for_room: NumberSets::new(alloc, queues)?,
             for_element: NumberSets::new(alloc, queues)?,
+            waited: NumberSet::new(),
         })
     }
 
@@ -73,8 +103,14 @@ impl ClassSets {
             Class::Waits(Source::Outcome(_) | Source::Either(..)) => {
                 self.for_outcomes.insert(fiber);
             }
-            Class::Waits(Source::Room(queue)) => self.for_room.insert(queue, fiber),
-            Class::Waits(Source::Element(queue)) => self.for_element.insert(queue, fiber),
+            Class::Waits(Source::Room(queue)) => {
+                self.for_room.insert(queue, fiber);
+                self.waited.insert(u32::from(queue));
+            }
+            Class::Waits(Source::Element(queue)) => {
+                self.for_element.insert(queue, fiber);
+                self.waited.insert(u32::from(queue));
+            }
             Class::Unstarted | Class::Waits(Source::Nothing) | Class::Over => {}
         }
     }
@@ -89,8 +125,14 @@ impl ClassSets {
             Class::Waits(Source::Outcome(_) | Source::Either(..)) => {
                 self.for_outcomes.remove(fiber);
             }
-            Class::Waits(Source::Room(queue)) => self.for_room.remove(queue, fiber),
-            Class::Waits(Source::Element(queue)) => self.for_element.remove(queue, fiber),
+            Class::Waits(Source::Room(queue)) => {
+                self.for_room.remove(queue, fiber);
+                forget_left(&mut self.waited, &self.for_room, &self.for_element, queue);
+            }
+            Class::Waits(Source::Element(queue)) => {
+                self.for_element.remove(queue, fiber);
+                forget_left(&mut self.waited, &self.for_room, &self.for_element, queue);
+            }
             Class::Unstarted | Class::Waits(Source::Nothing) | Class::Over => {}
         }
     }
@@ -107,6 +149,14 @@ impl ClassSets {
         ensures { IsLeastFrom from (is_member self.now.for_outcomes) result }
     {
         self.for_outcomes.least_from(from)
+    }
+
+    /// The least number from this one on of a queue at which somebody may wait.
+    pub fn next_waited(&self, from: u32) -> Option<u32>
+        ensures next { IsNextWaited self.now from result }
+        ensures few { IfSome result (λ n. n < NUMBERS) }
+    {
+        self.waited.least_from(from)
     }
 
     /// The least number of a fiber that waits at this queue for what that has.

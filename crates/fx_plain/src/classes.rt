@@ -66,16 +66,21 @@ impl Classes {
             .unwrap_or(Class::Unstarted)
     }
 
-    /// The least number of a fiber that is ready, where the queues are these. It looks at who waits at
-    /// a queue only for what that queue has.
+    /// The least number of a fiber that is ready, where the queues are these. It looks at those queues
+    /// alone at which somebody waits, and at who waits there only for what the queue has.
     pub fn least(&self, queues: &[PlainQueue]) -> Option<u32>
         requires { length queues.now ≡ self.now.queues }
         ensures { IsLeastOf (λ f. is_ready (have_room queues.now) (have_element queues.now)
             (class_at self.now.of f)) result }
     {
         let mut least = self.sets.least_able();
-        for (queue, own) in queues.iter().enumerate() {
-            least = lesser(least, self.sets.least_there(queue, own));
+        let mut from = 0;
+        while let Some(queue) = self.sets.next_waited(from) {
+            let Some(own) = queues.get(queue as usize) else {
+                break;
+            };
+            least = lesser(least, self.sets.least_there(queue as usize, own));
+            from = queue + 1;
         }
         least
     }

@@ -1,5 +1,5 @@
 //! A set of numbers whose least is found in two steps.
-ghost use Rattle.std.specs.Prelude.{◌≡◌, ℕ, ◌<◌, false};
+ghost use Rattle.std.specs.Prelude.{◌≡◌, ℕ, ◌<◌, false, IfSome};
 ghost use Rattle.fx_plain.specs.NumberSet.{is_member, IsLeastOf, IsLeastFrom};
 ghost use Rattle.fx_plain.specs.WholeMachine.{with_at};
 
@@ -92,7 +92,8 @@ impl NumberSet {
 
     /// The least number of the set from this one on.
     pub fn least_from(&self, from: u32) -> Option<u32>
-        ensures { IsLeastFrom from (is_member self.now) result }
+        ensures next { IsLeastFrom from (is_member self.now) result }
+        ensures few { IfSome result (λ n. n < NUMBERS) }
     {
         let place = from / BITS;
         let Some(word) = self.words.get(place as usize) else {
