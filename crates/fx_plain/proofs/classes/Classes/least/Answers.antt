@@ -17,4 +17,5 @@ loop-queue-preserved c =
     (least_next c.args.queues.now c.self.inside.of.items c.self.inside.sets c.self.invariant.1
     (c.requires ∙ sym (ap (λ (v : ClassesView). v.queues) c.self.view_is)) c.loop-queue.queue c.index-queues-queue.result c.loop-queue.least
     c.least_there.result c.loop-queue-test.true
-    (get_or_read c.args.queues.now c.loop-queue.queue c.index-queues-queue.result c.loop-queue-test.true c.index-queues-queue.is no_queue) (rw (← c.self.view_is) at c.loop-queue.invariant) c.least_there.ensures)
+    (get_or_read c.args.queues.now c.loop-queue.queue c.index-queues-queue.result c.loop-queue-test.true c.index-queues-queue.is no_queue)
+    (rw (← c.self.view_is) at c.loop-queue.invariant) c.least_there.ensures)
