@@ -1,5 +1,5 @@
 //! Does what the words after the program's name ask for.
-ghost use Rattle.std.specs.Prelude.{◌≡◌, ◌≢◌, IfSome, IfOk, IfErr, codes, option_map, string_bytes};
+ghost use Rattle.std.specs.Prelude.{◌≡◌, ◌≢◌, IfSome, IfOk, IfErr, codes, option_map, string_bytes, length};
 ghost use Rattle.fx_text.specs.View.{meaning};
 ghost use Rattle.fibers.specs.CommandFault.{IsUnread};
 ghost use Rattle.fibers.specs.Fetched.{IsPrefixOf, FetchesScript, FetchesNoScript};
@@ -63,6 +63,7 @@ fn script_of<'a, F: Files>(
 ) -> Result<Script, CommandFault<'a>>
     ensures found { IfOk result
         (λ s. FetchesScript (F.holds files.old name.now) (meaning s)) }
+    ensures queues { IfOk result (λ s. s.code.queues ≡ length s.queues.items) }
     ensures none { IfErr result
         (λ fault. FetchesNoScript (F.holds files.old name.now) fault) }
     ensures kept { KeepsFiles (F.holds files.old) (F.holds files.new) }

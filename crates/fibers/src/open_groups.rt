@@ -15,6 +15,8 @@ const POLL: &str = "the name of a poll";
 
 const FIBER: &str = "the name of a fiber";
 
+const QUEUE: &str = "the name of a queue";
+
 const RESOURCE: &str = "a resource `(x T T)`";
 
 const JOINED: &str = "a group `(x T)`";
@@ -137,6 +139,11 @@ impl<'a> OpenGroups<'a> {
         self.groups.len()
     }
 
+    /// Whether the place is in the declaration of a queue.
+    pub(crate) fn is_in_declaration(&self) -> bool {
+        self.groups.last().is_some_and(|g| g.is_form(b"queue"))
+    }
+
     /// Whether a mask has this poll, and what is open at the place runs in another fiber than the mask.
     pub(crate) fn is_poll_of_another_fiber(&self, poll: &[u8]) -> bool {
         let mut is_of_another = false;
@@ -180,6 +187,7 @@ impl<'a> OpenGroups<'a> {
         match self.wanted() {
             POLL => "poll",
             FIBER => "fiber",
+            QUEUE => "queue",
             _ => "value",
         }
     }
@@ -203,6 +211,10 @@ fn parts_of(word: &[u8]) -> &'static [&'static str] {
         b"join" => &[FIBER, JOINED, JOINED, TERM],
         b"cancel" => &[FIBER],
         b"first" => &[FIBER, FIBER],
+        b"queue" => &[NAME, NUMBER],
+        b"offer" | b"tryoffer" => &[QUEUE, VALUE],
+        b"take" => &[QUEUE],
+        b"trytake" => &[QUEUE, NAME, TERM, TERM],
         _ => &[],
     }
 }

@@ -1,5 +1,5 @@
 //! Does with a script what is asked, and prints it.
-ghost use Rattle.std.specs.Prelude.{◌≡◌, IfOk, string_bytes};
+ghost use Rattle.std.specs.Prelude.{◌≡◌, ◌≤◌, IfOk, length, string_bytes};
 ghost use Rattle.fx_text.specs.View.{meaning};
 ghost use Rattle.fibers.specs.declared.call.Command.TheVariants as command;
 ghost use Rattle.fibers.specs.Performed.{counts_text, check_text, Performs};
@@ -43,6 +43,7 @@ fn report<W: Write>(
     picks: &[Pick],
     out: &mut W,
 ) -> Result<u8, OutFault>
+    requires { script.now.code.queues ≤ length script.now.queues.items }
     ensures { Performs command.Replay (meaning script.now) picks.now result
         (W.contents out.old) (W.contents out.new) }
 {
@@ -57,6 +58,7 @@ fn trace<W: Write>(
     picks: &[Pick],
     out: &mut W,
 ) -> Result<u8, OutFault>
+    requires { script.now.code.queues ≤ length script.now.queues.items }
     ensures { Performs command.Trace (meaning script.now) picks.now result
         (W.contents out.old) (W.contents out.new) }
 {
@@ -65,7 +67,8 @@ fn trace<W: Write>(
     Ok(status_after(&report))
 }
 
-/// Does with the script and the picks what is asked, and prints it. The status is 0 where all fibers
+/// Does with the script and the picks what is asked, and prints it; the script's code names no queue that
+/// is not declared. The status is 0 where all fibers
 /// ended or are only counted, and 1 where one waits for good.
 pub(crate) fn perform<W: Write>(
     alloc: Global,
@@ -74,6 +77,7 @@ pub(crate) fn perform<W: Write>(
     picks: &[Pick],
     out: &mut W,
 ) -> Result<u8, OutFault>
+    requires { script.now.code.queues ≤ length script.now.queues.items }
     ensures { Performs command (meaning script.now) picks.now result
         (W.contents out.old) (W.contents out.new) }
 {

@@ -42,10 +42,18 @@ fn unwanted(alloc: Global, before: &[u8], shown: &str) -> Result<String, AllocEr
 /// What is wrong with a token where the word of a form is wanted.
 fn no_form(alloc: Global, before: &[u8], shown: &str) -> Result<String, AllocError> {
     match OpenGroups::after(alloc, before)?.count() {
-        0 => format!(in alloc; "a script begins with `(`, and {shown} stands here"),
-        1 => format!(in alloc; "`main` is wanted here, and {shown} stands here"),
+        0 => format!(in alloc; "a form of a script begins with `(`, and {shown} stands here"),
+        1 => format!(in alloc; "`queue` or `main` is wanted here, and {shown} stands here"),
         _ => format!(in alloc; "{shown} is no word of a form"),
     }
+}
+
+/// What is wrong with a number that its place does not take.
+fn size(alloc: Global, before: &[u8], shown: &str) -> Result<String, AllocError> {
+    if OpenGroups::after(alloc, before)?.is_in_declaration() {
+        return format!(in alloc; "the capacity {shown} is not from 1 to 1024");
+    }
+    format!(in alloc; "the count {shown} takes the turns of this loop above 1000000")
 }
 
 /// What is wrong where the text ends in a form.
@@ -77,8 +85,9 @@ pub(crate) fn wrong_in_script(
         TextKind::Unwanted => unwanted(alloc, before, &shown),
         TextKind::Unknown => unknown(alloc, before, token, &shown),
         TextKind::Taken => format!(in alloc; "the name {shown} is in scope here already"),
-        TextKind::Size => format!(in alloc;
-            "the count {shown} takes the turns of this loop above 1000000"
+        TextKind::Size => size(alloc, before, &shown),
+        TextKind::Queues => format!(in alloc;
+            "this is queue 17; a script has at most 16"
         ),
         TextKind::Depth => format!(in alloc;
             "this is parenthesis 101; at most 100 are open at once"

@@ -1,5 +1,5 @@
 //! Reads a script or a schedule, or says why the text is refused.
-ghost use Rattle.std.specs.Prelude.{◌≡◌, IfOk, IfErr, string_bytes};
+ghost use Rattle.std.specs.Prelude.{◌≡◌, IfOk, IfErr, length, string_bytes};
 ghost use Rattle.fx_text.specs.Grammar.{IsScript};
 ghost use Rattle.fx_text.specs.Schedule.{IsSchedule};
 ghost use Rattle.fx_text.specs.View.{meaning};
@@ -37,6 +37,7 @@ pub(crate) fn script_in<'a>(
     text: &[u8],
 ) -> Result<Script, CommandFault<'a>>
     ensures found { IfOk result (λ s. IsScript text.now (meaning s)) }
+    ensures queues { IfOk result (λ s. s.code.queues ≡ length s.queues.items) }
     ensures refused { IfErr result (λ fault. IsRefusal (λ line. IsNoScript line text.now) fault) }
 {
     match parse(alloc, text) {

@@ -40,8 +40,8 @@ pub filter_stood : {A : Type 0} (test : A → Bool) (xs : List A) (i : ℕ) (x :
 filter_stood test [] i x e = absurd (none-some x e)
 filter_stood {A = A} test (y ∷ xs) i x e = by_test (test y) refl i e (λ j later. filter_stood test xs j x later)
   where
-    by_test : (b : Bool) → test y ≡ b → (i : ℕ) → slice_get (filter test (y ∷ xs)) i ≡ Some x → ((j : ℕ) → slice_get (filter test xs) j ≡ Some x → StandsIn xs x)
-        → StandsIn (y ∷ xs) x
+    by_test : (b : Bool) → test y ≡ b → (i : ℕ) → slice_get (filter test (y ∷ xs)) i ≡ Some x
+        → ((j : ℕ) → slice_get (filter test xs) j ≡ Some x → StandsIn xs x) → StandsIn (y ∷ xs) x
     by_test true is zero e rest = record { place = 0; at = rw is at e }
     by_test true is (suc i) e rest = let h = rest i (rw is at e) in record { place = suc h.place; at = h.at }
     by_test false is i e rest = let h = rest i (rw is at e) in record { place = suc h.place; at = h.at }

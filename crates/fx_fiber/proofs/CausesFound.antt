@@ -1,25 +1,21 @@
 -- In a lawful report each event that stands on another one finds it there.
-use Rattle.std.proofs.Common.{◌≡◌, ◌≢◌, ℕ, zero, suc, ◌<◌, Bool, true, false, Option, Some, None, List, [], ◌∷◌, ◌++◌, All, length, refl, sym, ◌∙◌, ap, subst, arith}
+use Rattle.std.proofs.Common.{◌≡◌, ◌≢◌, ℕ, zero, suc, ◌<◌, Bool, true, false, Option, Some, None, List, [], ◌∷◌, ◌++◌, length, refl, sym, ◌∙◌, ap, subst, arith}
 use Rattle.std.proofs.Common.{inl, inr}
 use Rattle.std.specs.Prelude.{◌==◌, slice_get, take}
 use Rattle.std.proofs.lemmas.Bool.{eqb-true}
-use Rattle.std.proofs.lemmas.Option.{none-some, same_Some, slice_get_cases}
-use Rattle.std.proofs.lemmas.List.Elements.{All-nil, All-cons}
+use Rattle.std.proofs.lemmas.Option.{none-some, slice_get_cases}
 use Rattle.fx_term.specs.declared.outcome.Outcome.{Outcome}
 use Rattle.fx_term.specs.declared.event.Event.{Event}
 use Rattle.fx_term.specs.declared.event.Event.TheVariants as event
-use Rattle.fx_term.specs.Term.{Term}
 use Rattle.fx_term.specs.Script.{ScriptView}
 use Rattle.fx_term.specs.Queue.{values_put}
-use Rattle.fx_fiber.specs.Row.{Counts, Label, Silent, Shows, Learns, Starts, Row}
-use Rattle.fx_fiber.specs.Row as row
-use Rattle.fx_fiber.specs.Step.{Progress, Step}
-use Rattle.fx_fiber.specs.Step as step
-use Rattle.fx_fiber.specs.Run.{Leads, events}
+use Rattle.fx_fiber.specs.Row.{Learns}
+use Rattle.fx_fiber.specs.Run.{events}
 use Rattle.fx_fiber.specs.Report.{FiberReportView, ReportView, fiber_in, trace_of_report, trace_in}
 use Rattle.fx_fiber.specs.LawfulReport.{starts_of, IsLearnt, IsLawfulReport}
-use Rattle.fx_fiber.specs.Causes.{values_got, takings_of, shown, IsLearning, TakesWhatWasPut, LearnsOfEnd, LeavesQueue, FindsItsCauses}
+use Rattle.fx_fiber.specs.Causes.{values_got, takings_of, IsLearning, TakesWhatWasPut, LearnsOfEnd, LeavesQueue, FindsItsCauses}
 use Rattle.fx_fiber.proofs.Takes.{takes_counted, fewer_before, taken_was_put}
+use Rattle.fx_fiber.proofs.EventLabels.{ShownBy, shown_by, TellsItsEnd, run_tells_ends, learning_label}
 use Rattle.fx_fiber.proofs.ShownLabels.{shown_holds}
 use Rattle.fx_fiber.proofs.HeadlineLaws.{started_once}
 
@@ -67,55 +63,6 @@ starts_at f (_ ∷ es) lt = let h = starts_at f es lt in (suc h.0, h.1)
 at_seam : {A : Type 0} (xs : List A) (x : A) → slice_get (xs ++ x ∷ []) (length xs) ≡ Some x
 at_seam [] x = refl
 at_seam (y ∷ xs) x = at_seam xs x
-
--- the label that shows an event
-record ShownBy (ls : List Label) (i : ℕ) (e : Event) : Type 0 where
-  pub label : Label
-  pub at : slice_get (shown ls) i ≡ Some label
-  pub shows : events (label ∷ []) ≡ e ∷ []
-
-shown_by : (ls : List Label) (i : ℕ) (e : Event) → slice_get (events ls) i ≡ Some e → ShownBy ls i e
-shown_by [] i e at = absurd (none-some e at)
-shown_by (Silent ∷ ls) i e at = let h = shown_by ls i e at in record { label = h.label; at = h.at; shows = h.shows }
-shown_by (Shows v ∷ ls) zero e at = record { label = Shows v; at = refl; shows = ap (λ (w : Event). w ∷ []) (same_Some v e at) }
-shown_by (Shows v ∷ ls) (suc i) e at = let h = shown_by ls i e at in record { label = h.label; at = h.at; shows = h.shows }
-shown_by (Learns g o v ∷ ls) zero e at = record { label = Learns g o v; at = refl; shows = ap (λ (w : Event). w ∷ []) (same_Some v e at) }
-shown_by (Learns g o v ∷ ls) (suc i) e at = let h = shown_by ls i e at in record { label = h.label; at = h.at; shows = h.shows }
-shown_by (Starts g b ∷ ls) zero e at = record { label = Starts g b; at = refl; shows = ap (λ (w : Event). w ∷ []) (same_Some (event.Start g) e at) }
-shown_by (Starts g b ∷ ls) (suc i) e at = let h = shown_by ls i e at in record { label = h.label; at = h.at; shows = h.shows }
-
--- what learns of an end is shown with the end that it needs
-abbrev TellsItsEnd : Label → Type 0
-TellsItsEnd (Shows (event.Joined g o)) = ⊥
-TellsItsEnd (Shows (event.Awaited g)) = ⊥
-TellsItsEnd (Shows (event.First n)) = ⊥
-TellsItsEnd _ = Unit {0}
-
-row_tells_end : {k : Bool} {c d : Counts} {l : Label} {t t' : Term} → Row k c t l d t' → TellsItsEnd l
-row_tells_end (row.inside f e g r) = row_tells_end r
-row_tells_end _ = tt
-
-step_tells_end : {c d : Counts} {p q : Progress} {l : Label} → Step c p l d q → TellsItsEnd l
-step_tells_end (step.row m r) = row_tells_end r
-step_tells_end (step.cleans r) = row_tells_end r
-step_tells_end _ = tt
-
-run_tells_ends : (c d : Counts) (p q : Progress) (ls : List Label) → Leads c p ls d q → All TellsItsEnd ls
-run_tells_ends c d p q [] h = All-nil TellsItsEnd
-run_tells_ends c d p q (l ∷ ls) h = All-cons TellsItsEnd l ls (step_tells_end h.2) (run_tells_ends h.0 d h.1 q ls h.3)
-
--- the label of such an event
-learning_label : (l : Label) (e : Event) → TellsItsEnd l → events (l ∷ []) ≡ e ∷ [] → IsLearning e → (g : ℕ) × (o : Outcome) × (l ≡ Learns g o e)
-learning_label Silent e tells is learning = absurd cc
-learning_label (Shows v) e tells is learning = absurd (by_event v tells (subst IsLearning (let same : e ≡ v = cc in same) learning))
-  where
-    by_event : (v : Event) → TellsItsEnd (Shows v) → IsLearning v → ⊥
-    by_event (event.Joined g o) h k = h
-    by_event (event.Awaited g) h k = h
-    by_event (event.First n) h k = h
-    by_event _ h k = k
-learning_label (Learns g o v) e tells is learning = (g, o, (let same : v ≡ e = cc in ap (Learns g o) same))
-learning_label (Starts g b) e tells is learning = absurd (subst IsLearning (let same : e ≡ event.Start g = cc in same) learning)
 
 module _ (s : ScriptView) (may : ℕ → Bool) (r : ReportView) (lawful : IsLawfulReport s may r) where
   put_found : (f i q n capacity : ℕ) → slice_get s.capacities q ≡ Some capacity → slice_get (trace_in r f) i ≡ Some (event.Got q n)

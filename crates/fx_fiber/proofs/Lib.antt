@@ -10,6 +10,7 @@ pub mod Nodes
 pub mod Leaves
 pub mod Results
 pub mod Loops
+pub mod Reports
 pub mod Resources
 pub mod Unwindings
 pub mod Ends
@@ -63,4 +64,5 @@ pub mod WaitsBelow
 pub mod Appended
 pub mod Takes
 pub mod OneOrder
+pub mod EventLabels
 pub mod CausesFound

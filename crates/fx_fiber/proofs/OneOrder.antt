@@ -116,8 +116,8 @@ pub data SeenAfter (trace : ℕ → List Event) (IsFromOutside : ℕ → Type 0)
   seen : slice_get (trace a) i ≡ Some event.Seen → (IsFromOutside a → ⊥) → SeenAfter trace IsFromOutside f a i
   sees : a ≡ f → i ≡ length (trace f) → IsRequestedIn trace a → SeenAfter trace IsFromOutside f a i
 
-module _ (trace trace' : ℕ → List Event) (labels labels' : ℕ → List Label) (IsLeft IsLeft' : ℕ → QueueState → Type 0) (IsFromOutside IsFromOutside' : ℕ → Type 0)
-    (f : ℕ) (more : List Event) (grows : GrowsAt trace trace' f more) (o : HasOrder trace labels IsLeft IsFromOutside) (moment' : ℕ → ℕ → ℕ)
+module _ (trace trace' : ℕ → List Event) (labels labels' : ℕ → List Label) (IsLeft IsLeft' : ℕ → QueueState → Type 0)
+    (IsFromOutside IsFromOutside' : ℕ → Type 0) (f : ℕ) (more : List Event) (grows : GrowsAt trace trace' f more) (o : HasOrder trace labels IsLeft IsFromOutside) (moment' : ℕ → ℕ → ℕ)
     (kept : (g i : ℕ) → i < length (trace g) → moment' g i ≡ o.moment g i) (is_now : moment' f (length (trace f)) ≡ o.now) where
   -- the moment of an event is the one that it had, or now
   abbrev Old : ℕ → ℕ → Type 0
@@ -185,7 +185,8 @@ module _ (trace trace' : ℕ → List Event) (labels labels' : ℕ → List Labe
       request_before a r.by r.place (moment' a i) r.request (let p = h.1 in let q = h.2 in let n = k.2 in omega arith)
 
   -- the order after the event that came, if its causes and those of the others stood before
-  pub order_grows : ((a i b j : ℕ) → i < length (trace' a) → j < length (trace' b) → Needs trace' labels' IsLeft' a i b j → StoodBefore trace labels IsLeft f a i b j)
+  pub order_grows : ((a i b j : ℕ) → i < length (trace' a) → j < length (trace' b) → Needs trace' labels' IsLeft' a i b j
+      → StoodBefore trace labels IsLeft f a i b j)
       → ((a i : ℕ) → slice_get (trace' a) i ≡ Some event.Seen → (IsFromOutside' a → ⊥) → SeenAfter trace IsFromOutside f a i)
       → HasOrder trace' labels' IsLeft' IsFromOutside'
   order_grows causes requests = record {

@@ -136,7 +136,8 @@ more_got : (q : ℕ) (e : Event) (es fs : List Event) → length (values_got q e
     → length (values_got q (e ∷ es)) < length (values_got q (e ∷ fs))
 more_got q (event.Got r n) es fs lt = by_test (r == q)
   where
-    by_test : (b : Bool) → length (cons_option (if b then Some n else None) (values_got q es)) < length (cons_option (if b then Some n else None) (values_got q fs))
+    by_test : (b : Bool) → length (cons_option (if b then Some n else None) (values_got q es))
+        < length (cons_option (if b then Some n else None) (values_got q fs))
     by_test true = omega arith
     by_test false = lt
 more_got q _ es fs lt = lt
@@ -160,7 +161,8 @@ pub taken_was_put : (c q f nth : ℕ) (h : List QueueEvent) (last : QueueState) 
 taken_was_put c q f nth h last t trace r e at =
     let g = t.item.fiber in
     let own = filter_stood (λ (u : Taking). u.taker == f) last.taken nth t at in
-    let item : slice_get (items_taken last) own.place ≡ Some t.item = slice_get-map (λ (u : Taking). u.item) last.taken own.place ∙ ap (option_map (λ (u : Taking). u.item)) own.at in
+    let item : slice_get (items_taken last) own.place ≡ Some t.item =
+    slice_get-map (λ (u : Taking). u.item) last.taken own.place ∙ ap (option_map (λ (u : Taking). u.item)) own.at in
     let put : slice_get last.put own.place ≡ Some t.item =
     subst (λ (xs : List Item). slice_get xs own.place ≡ Some t.item) (replay_accounts c empty_queue h last r refl)
     (still_at (items_taken last) last.items own.place t.item item) in

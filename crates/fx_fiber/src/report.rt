@@ -31,11 +31,21 @@ impl Model for Report {
 
 impl Report {
     ghost use Rattle.std.specs.Prelude.{◌≡◌};
+    ghost use Rattle.std.specs.Bool.{OnTrue};
     ghost use Rattle.std.specs.List.{list_all};
+    ghost use Rattle.fx_fiber.specs.Headline.{AllEnded};
     ghost use Rattle.fx_fiber.specs.Report.{FiberReportView};
 
     /// Whether each fiber has ended, so that none waits for good.
     pub fn all_ended(&self) -> bool
+        ensures each { result ≡ list_all (λ (x : FiberReportView). x.has_ended) self.now.fibers }
+        ensures by_number { OnTrue result (AllEnded self.now) }
+    {
+        self.has_each_ended()
+    }
+
+    /// Whether each fiber in the list has ended.
+    fn has_each_ended(&self) -> bool
         ensures { result ≡ list_all (λ (x : FiberReportView). x.has_ended) self.now.fibers }
     {
         self.fibers.iter().all(|f| f.state.has_ended())

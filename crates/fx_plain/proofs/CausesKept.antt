@@ -3,7 +3,7 @@ use Rattle.std.proofs.Common.{◌≡◌, ℕ, suc, ◌<◌, ◌≤◌, true, Opt
 use Rattle.std.proofs.Common.{arith, inl, inr}
 use Rattle.std.specs.Prelude.{slice_get, take}
 use Rattle.std.specs.List.{list_any}
-use Rattle.std.proofs.lemmas.Bool.{cases_eq, eqb-true, or_cases}
+use Rattle.std.proofs.lemmas.Bool.{eqb-true, or_cases}
 use Rattle.std.proofs.lemmas.Option.{none-some, same_Some, slice_get_within}
 use Rattle.std.proofs.lemmas.List.{take_all}
 use Rattle.fx_term.specs.declared.outcome.Outcome.{Outcome}
@@ -12,7 +12,7 @@ use Rattle.fx_term.specs.declared.event.Event.TheVariants as event
 use Rattle.fx_term.specs.Script.{ScriptView}
 use Rattle.fx_term.specs.Queue.{cut, QueueState, empty_queue, Taking, replayed_from, replayed, queue_events, values_put}
 use Rattle.fx_term.proofs.QueueLaws.{replayed_append}
-use Rattle.fx_fiber.specs.Row.{Counts, Label, Silent, Shows, Learns, Starts}
+use Rattle.fx_fiber.specs.Row.{Counts, Label, Learns, Starts}
 use Rattle.fx_fiber.specs.Origin.{Origin}
 use Rattle.fx_fiber.specs.Step.{Progress, Step}
 use Rattle.fx_fiber.specs.Run.{events}
@@ -22,12 +22,13 @@ use Rattle.fx_fiber.specs.Causes.{values_got, taking_of, shown, TakesWhatWasPut,
 use Rattle.fx_fiber.proofs.Keeping.{events_append}
 use Rattle.fx_fiber.proofs.OutcomeLaws.{no_step_after_end}
 use Rattle.fx_fiber.proofs.ShownLabels.{shown_length, shown_append, one_shown, shown_holds}
+use Rattle.fx_fiber.proofs.EventLabels.{start_label, seen_label, learnt_label}
 use Rattle.fx_fiber.proofs.StepLabels.{IsProper, step_tells}
 use Rattle.fx_fiber.proofs.Takes.{takes_counted, taken_before, fewer_before, taken_was_put}
-use Rattle.fx_fiber.proofs.OneOrder.{GrowsAt, Stands, stood, comes, stands, take_stays, old_or_new, HasOrder, StoodBefore, both, cause, IsRequestedIn, SeenAfter}
-use Rattle.fx_fiber.proofs.OneOrder.{seen, sees, order_grows}
-use Rattle.fx_plain.specs.WholeMachine.{StartedFiber, WholeMachine, with_at, opening, IsAnswered, moved}
-use Rattle.fx_plain.proofs.Maps.{at_itself, at_other}
+use Rattle.fx_fiber.proofs.OneOrder.{GrowsAt, Stands, stood, comes, stands, take_stays, old_or_new, HasOrder, StoodBefore, both, cause, IsRequestedIn}
+use Rattle.fx_fiber.proofs.OneOrder.{SeenAfter, seen, sees, order_grows}
+use Rattle.fx_plain.specs.WholeMachine.{StartedFiber, WholeMachine, opening, IsAnswered, moved}
+use Rattle.fx_plain.proofs.Moments.{moment_after, moment_now, moment_kept}
 use Rattle.fx_plain.proofs.WholeMachineSteps.{still_itself}
 use Rattle.fx_plain.proofs.RangesKept.{HasRanges, opened_at, fresh, child_is_another}
 use Rattle.fx_plain.proofs.FamilyKept.{labels_of_fiber, labels_of}
@@ -48,23 +49,6 @@ AreFromOutside m f = m.from_outside f ≡ true
 abbrev pub IsInOrder : (s : ScriptView) (m : WholeMachine) → HasHistories s m → Type 0
 IsInOrder s m h = HasOrder (trace_of m) (labels_of m) (AreLeft h) (AreFromOutside m)
 
--- the moments of events, where event k of fiber f comes now
-abbrev moment_after : (f k now : ℕ) → (ℕ → ℕ → ℕ) → ℕ → ℕ → ℕ
-moment_after f k now moment = with_at f (with_at k now (moment f)) moment
-
-moment_now : (f k now : ℕ) (moment : ℕ → ℕ → ℕ) → moment_after f k now moment f k ≡ now
-moment_now f k now moment = ap (λ (row : ℕ → ℕ). row k) (at_itself f (with_at k now (moment f)) moment) ∙ at_itself k now (moment f)
-
-moment_kept : (trace : ℕ → List Event) (f now : ℕ) (moment : ℕ → ℕ → ℕ) (g i : ℕ) → i < length (trace g)
-    → moment_after f (length (trace f)) now moment g i ≡ moment g i
-moment_kept trace f now moment g i lt = elim (cases_eq g f) [
-  | inl same ↦
-      (let long : length (trace g) ≡ length (trace f) = ap (λ (k : ℕ). length (trace k)) same in
-      rw same (ap (λ (row : ℕ → ℕ). row i) (at_itself f (with_at (length (trace f)) now (moment f)) moment)
-      ∙ at_other (length (trace f)) now (moment f) i (λ e. omega arith)))
-  | inr ne ↦ ap (λ (row : ℕ → ℕ). row i) (at_other f (with_at (length (trace f)) now (moment f)) moment g ne)
-]
-
 -- a trace that asks for a fiber has a request for it
 record StandsAt (h : ℕ) (es : List Event) : Type 0 where
   pub place : ℕ
@@ -80,36 +64,6 @@ asked_at h (v ∷ es) e = elim (or_cases (is_request_for h v) (list_any (is_requ
     by_event : (v : Event) → is_request_for h v ≡ true → StandsAt h (v ∷ es)
     by_event (event.Request g) is = record { place = 0; at = ap (λ (k : ℕ). Some (event.Request k)) (eqb-true g h is) }
     by_event _ is = absurd cc
-
--- the label that shows a start, that of a request seen, and none that learns of an end shows one
-start_label : (l : Label) (g : ℕ) → IsProper l → events (l ∷ []) ≡ event.Start g ∷ [] → (b : Origin) × (l ≡ Starts g b)
-start_label Silent g p e = absurd cc
-start_label (Shows (event.Start h)) g p e = absurd p
-start_label (Shows _) g p e = absurd cc
-start_label (Learns h o (event.Joined k v)) g p e = absurd cc
-start_label (Learns h o (event.Awaited k)) g p e = absurd cc
-start_label (Learns h o (event.First k)) g p e = absurd cc
-start_label (Learns h o _) g p e = absurd p
-start_label (Starts h b) g p e = (b, (let same : h ≡ g = cc in ap (λ (k : ℕ). Starts k b) same))
-
-seen_label : (l : Label) → IsProper l → events (l ∷ []) ≡ event.Seen ∷ [] → l ≡ Shows event.Seen
-seen_label Silent p e = absurd cc
-seen_label (Shows event.Seen) p e = refl
-seen_label (Shows _) p e = absurd cc
-seen_label (Learns h o (event.Joined k v)) p e = absurd cc
-seen_label (Learns h o (event.Awaited k)) p e = absurd cc
-seen_label (Learns h o (event.First k)) p e = absurd cc
-seen_label (Learns h o _) p e = absurd p
-seen_label (Starts h b) p e = absurd cc
-
-learnt_label : (l : Label) (g : ℕ) (o o' : Outcome) (v : Event) → IsProper l → shown (l ∷ []) ≡ Learns g o v ∷ [] → events (l ∷ []) ≡ event.Ended o' ∷ [] → ⊥
-learnt_label Silent g o o' v p is e = cc
-learnt_label (Shows w) g o o' v p is e = cc
-learnt_label (Learns h u (event.Joined k w)) g o o' v p is e = cc
-learnt_label (Learns h u (event.Awaited k)) g o o' v p is e = cc
-learnt_label (Learns h u (event.First k)) g o o' v p is e = cc
-learnt_label (Learns h u _) g o o' v p is e = p
-learnt_label (Starts h b) g o o' v p is e = cc
 
 pub opening_is_in_order : (s : ScriptView) (h : HasHistories s (opening s)) → IsInOrder s (opening s) h
 opening_is_in_order s h = record {
@@ -193,7 +147,8 @@ module _ (s : ScriptView) (m : WholeMachine) (f : ℕ) (x : StartedFiber) (d : C
         take_stays (trace_of m) (trace_of after) f (events (l ∷ [])) traces_grow a i (let lt = inside in omega arith) in
         let fewer = fewer_before q n (trace_of m a) i got in
         let count = takes_counted (capacity_of s q) q a (h.history q) (h.state q) (trace_of m a) (h.legal q) (h.cuts q a) in
-        taken_before (capacity_of s q) a (length (values_got q (take i (trace_of m a)))) (h.state q) (queue_events q f (events (l ∷ []))) (h'.state q) t (goes_on q)
+        taken_before (capacity_of s q) a (length (values_got q (take i (trace_of m a)))) (h.state q) (queue_events q f (events (l ∷ []))) (h'.state q) t
+        (goes_on q)
         (omega arith) (ap (λ (es : List Event). taking_of (h'.state q) a (length (values_got q es))) (sym same) ∙ taken)
 
     takes : (a i b j : ℕ) → TakesWhatWasPut (trace_of after) (AreLeft h') a i b j → Before a i b j
@@ -257,7 +212,8 @@ module _ (s : ScriptView) (m : WholeMachine) (f : ℕ) (x : StartedFiber) (d : C
 
     learns : (a i b j : ℕ) → LearnsOfEnd (trace_of after) (labels_of after) a i b j → Before a i b j
     learns a i b j t =
-        by_label (stands (λ g. shown (labels_of m g)) (λ g. shown (labels_of after g)) f (shown (l ∷ [])) labels_grow a i (Learns b t.outcome t.learning) t.learns)
+        by_label
+        (stands (λ g. shown (labels_of m g)) (λ g. shown (labels_of after g)) f (shown (l ∷ [])) labels_grow a i (Learns b t.outcome t.learning) t.learns)
         (stand b j (event.Ended t.outcome) t.ended)
       where
         by_label : Stands (λ g. shown (labels_of m g)) f (shown (l ∷ [])) a i (Learns b t.outcome t.learning)

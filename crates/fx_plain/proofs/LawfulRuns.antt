@@ -302,7 +302,8 @@ module _ (s : ScriptView) (m : WholeMachine) (r : ReportView) (rep : IsReportOf 
     unfolding report_is_lawful runs_told
     labels_told = refl
 
-    pub queues_told : (q capacity : ℕ) (at : slice_get s.capacities q ≡ Some capacity) → (report_is_lawful.histories q capacity at).leaves.last ≡ kept.histories.state q
+    pub queues_told : (q capacity : ℕ) (at : slice_get s.capacities q ≡ Some capacity)
+        → (report_is_lawful.histories q capacity at).leaves.last ≡ kept.histories.state q
     unfolding report_is_lawful runs_told history_told
     queues_told q capacity at = refl
 

@@ -7,6 +7,7 @@ pub mod RunsKept
 pub mod Keys
 pub mod LawfulRuns
 pub mod RunLaws
+pub mod Moments
 pub mod CausesKept
 pub mod ReplayOrder
 pub mod StepsCan

@@ -15,7 +15,8 @@ use Rattle.fx_plain.specs.Chosen.{IsChosen, step, no_step, request, no_request, 
 use Rattle.fx_plain.proofs.Keys.{passing_contained}
 use Rattle.fx_plain.proofs.FamilyKept.{labels_of}
 use Rattle.fx_plain.proofs.HistoriesKept.{histories_grow}
-use Rattle.fx_plain.proofs.LawfulRuns.{IsKept, opening_is_kept, moved_keeps, request_keeps, chosen_rests, trace_same, report_is_lawful, labels_told, queues_told}
+use Rattle.fx_plain.proofs.LawfulRuns.{IsKept, opening_is_kept, moved_keeps, request_keeps, chosen_rests}
+use Rattle.fx_plain.proofs.LawfulRuns.{trace_same, report_is_lawful, labels_told, queues_told}
 use Rattle.fx_plain.proofs.WholeMachineSteps.{with_true}
 use Rattle.fx_plain.proofs.CausesKept.{trace_of, AreLeft, AreFromOutside, IsInOrder, opening_is_in_order, order_kept}
 
@@ -64,7 +65,10 @@ module _ (s : ScriptView) (m : WholeMachine) (r : ReportView) (rep : IsReportOf 
   -- the order of the machine's events is one of those of its report
   report_in_order : CausesComeFirst s (λ f. true) r lawful
   unfolding lawful
-  report_in_order = record { moment = k.order.moment; in_order = by_report (fun_ext (λ f. sym (trace_same s m r rep k.kept f))) (sym (labels_told s m r rep k.kept none)) }
+  report_in_order = record {
+    moment = k.order.moment;
+    in_order = by_report (fun_ext (λ f. sym (trace_same s m r rep k.kept f))) (sym (labels_told s m r rep k.kept none));
+  }
     where
       left : (q : ℕ) (state : QueueState) → LeavesQueue s (λ f. true) r lawful q state → AreLeft k.kept.histories q state
       left q state h = h.is ∙ queues_told s m r rep k.kept none q h.capacity h.at

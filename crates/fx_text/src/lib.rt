@@ -5,13 +5,15 @@
 //! 1. Each form has a row in one table: its parts in the order of the text, the scope in which each
 //!    stands, and the term that the form is. A resource of `using`, the list of these, and what
 //!    `join` does after an outcome with a number have a row each too.
-//! 2. The grammar says by this table which tokens are a script, and of which meaning. It knows no
-//!    faults and no order of reading.
-//! 3. Reading goes through the same table token by token, and stops at the first token that its
-//!    place refuses. What it reads is exactly what the grammar has.
+//! 2. The grammar says by this table which tokens are a script, and of which meaning: declarations
+//!    of queues, and then main. It knows no faults and no order of reading.
+//! 3. Reading goes through the declarations and the same table token by token, and stops at the first
+//!    token that its place refuses. What it reads is exactly what the grammar has.
 //! 4. A scope has the names of its place, and how often the loops round it run it. A count is
 //!    refused where it takes these turns above 1,000,000. Inside another fiber all names stay taken,
-//!    but no poll from outside of it is known.
+//!    but no poll from outside of it is known. The names of queues are known in all of main; they
+//!    have the numbers of their declarations, and no slots. So no node names a queue that the script
+//!    has not, and its code knows how many there are.
 //! 5. How many fibers a form can start is tested at its `)`: the need of each node is kept beside it,
 //!    made from those of its parts.
 //! 6. A node is made after those of its parts, so children stand before their parents, the last node

@@ -1,7 +1,8 @@
 //! The parts of a form that are one token.
 ghost use Rattle.std.specs.Prelude.{ℕ, ◌≡◌, ◌+◌, ◌<◌, ◌≤◌, ◌^◌, List, length, nat_le, IfOk};
 ghost use Rattle.fx_term.specs.Turns.{most_turns, turns_of_loop};
-ghost use Rattle.fx_text.specs.Reading.{kind_of, opening_at, closing_at, value_at, count_at, name_at, queue_at, binder_at, form_at, too_deep};
+ghost use Rattle.fx_text.specs.Reading.{kind_of, opening_at, closing_at, value_at, count_at, name_at};
+ghost use Rattle.fx_text.specs.Reading.{queue_at, binder_at, form_at, too_deep};
 ghost use Rattle.fx_text.specs.Limits.{most_queues};
 ghost use Rattle.fx_text.specs.Part.{is_closing};
 ghost use Rattle.fx_text.specs.Token.{next};

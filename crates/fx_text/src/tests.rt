@@ -6,6 +6,7 @@ use std::process::Abort;
 use std::test::Fail;
 
 mod fibers;
+mod queues;
 mod schedules;
 
 /// A text that is refused, the number of the fault's kind, and the byte that it is at.

@@ -23,7 +23,7 @@ fn assert_explains(rt: &impl Abort, alloc: Global, rows: &[Row]) {
     }
 }
 
-static KINDS: [Row; 16] = [
+static KINDS: [Row; 21] = [
     (
         "(main (pure x))",
         "-:1:13: the name `x` is not in scope here\n(main (pure x))\n            ^\n",
@@ -58,11 +58,11 @@ static KINDS: [Row; 16] = [
     ),
     (
         "main",
-        "-:1:1: a script begins with `(`, and `main` stands here\nmain\n^\n",
+        "-:1:1: a form of a script begins with `(`, and `main` stands here\nmain\n^\n",
     ),
     (
         "(pure 1)",
-        "-:1:2: `main` is wanted here, and `pure` stands here\n(pure 1)\n ^\n",
+        "-:1:2: `queue` or `main` is wanted here, and `pure` stands here\n(pure 1)\n ^\n",
     ),
     (
         "(main (pure 5)) 1",
@@ -85,6 +85,26 @@ static KINDS: [Row; 16] = [
         "(main (for i 2000 (start h (pure i) (pure 0))))",
         "-:1:7: the form that begins here can start more than 1023 fibers\n(main (for i 2000 (start h (pure i) (pure 0))))\n      ^\n",
     ),
+    (
+        "(queue q 0) (main (cede))",
+        "-:1:10: the capacity `0` is not from 1 to 1024\n(queue q 0) (main (cede))\n         ^\n",
+    ),
+    (
+        "(queue q 1) (main (let x (cede) (take x)))",
+        "-:1:39: a queue is wanted here, and no queue `x` is in scope\n(queue q 1) (main (let x (cede) (take x)))\n                                      ^\n",
+    ),
+    (
+        "(queue q 1) (main (pure q))",
+        "-:1:25: a value is wanted here, and no value `q` is in scope\n(queue q 1) (main (pure q))\n                        ^\n",
+    ),
+    (
+        "(queue q 1) (main (let q (cede) (cede)))",
+        "-:1:24: the name `q` is in scope here already\n(queue q 1) (main (let q (cede) (cede)))\n                       ^\n",
+    ),
+    (
+        "(queue a 1) (queue b 1) (queue c 1) (queue d 1)\n(queue e 1) (queue f 1) (queue g 1) (queue h 1)\n(queue i 1) (queue j 1) (queue k 1) (queue l 1)\n(queue m 1) (queue n 1) (queue o 1) (queue p 1)\n(queue q 1)\n(main (cede))",
+        "-:5:2: this is queue 17; a script has at most 16\n(queue q 1)\n ^\n",
+    ),
 ];
 
 #[test]
@@ -92,7 +112,7 @@ fn each_kind_is_told_in_words(rt: HostRuntime) {
     assert_explains(&rt, rt.alloc(), &KINDS);
 }
 
-static WANTED: [Row; 11] = [
+static WANTED: [Row; 14] = [
     (
         "(main (pure))",
         "-:1:12: a number or the name of a value is wanted here, and `)` stands here\n(main (pure))\n           ^\n",
@@ -136,6 +156,18 @@ static WANTED: [Row; 11] = [
     (
         "(main (using ((x (cede) (cede)) (y)) (cede)))",
         "-:1:35: a term is wanted here, and `)` stands here\n(main (using ((x (cede) (cede)) (y)) (cede)))\n                                  ^\n",
+    ),
+    (
+        "(queue q x) (main (cede))",
+        "-:1:10: a number is wanted here, and `x` stands here\n(queue q x) (main (cede))\n         ^\n",
+    ),
+    (
+        "(queue q 1) (main (offer 1 2))",
+        "-:1:26: the name of a queue is wanted here, and `1` stands here\n(queue q 1) (main (offer 1 2))\n                         ^\n",
+    ),
+    (
+        "(queue q 1) (main (trytake q (cede) (cede)))",
+        "-:1:30: a name is wanted here, and `(` stands here\n(queue q 1) (main (trytake q (cede) (cede)))\n                             ^\n",
     ),
 ];
 

@@ -23,9 +23,9 @@ pub fn ended_fiber_holds()
         → x.has_ended ≡ true → EndsBalanced x.trace }
 {}
 
-/// In each lawful report what an event stands on is there: what was taken out of a queue of the script
-/// was put into it, what was learnt is told as an end by the fiber that ended, and each fiber but the
-/// main one was started.
+/// In each lawful report what an event stands on is there: what was taken out of a queue of the
+/// script was put into it, what was learnt is told as an end by the fiber that ended, and each fiber
+/// but the main one was started.
 pub fn causes_are_found()
     ensures { (s : ScriptView) (may : ℕ → Bool) (r : ReportView)
         → (lawful : IsLawfulReport s may r) → FindsItsCauses s may r lawful }

@@ -20,19 +20,19 @@ pub fn replay_is_lawful()
         → IsLawfulReport s (λ f. true) r }
 {}
 
-/// Where all fibers of that report have ended, each element of each queue is accounted for, each trace
-/// stops at its outcome and released each resource that it acquired once, inner before outer, and
-/// cancellation acted only where each mask round it was opened by its own poll. The script's term is
-/// core, as that of each code is.
+/// Where all fibers of that report have ended, each element of each queue is accounted for, each
+/// trace stops at its outcome and released each resource that it acquired once, inner before outer,
+/// and cancellation acted only where each mask round it was opened by its own poll. The script's term
+/// is core, as that of each code is.
 pub fn replay_keeps_what_is_promised()
     ensures { (s : ScriptView) (ps : List Pick) (r : ReportView) → IsCore s.term → IsReplay s ps r
         → KeepsWhatIsPromised s (λ f. true) r }
 {}
 
-/// The events of all fibers of that report have one order, by runs and histories that make it lawful: it
-/// keeps each fiber's own order, and has each take after the put of what was taken, each join, await and
-/// first of two after the outcome that was learnt, each request seen after some request, unless that came
-/// from outside, and each fiber's first event after its start.
+/// The events of all fibers of that report have one order, by runs and histories that make it lawful:
+/// it keeps each fiber's own order, and has each take after the put of what was taken, each join,
+/// await and first of two after the outcome that was learnt, each request seen after some request,
+/// unless that came from outside, and each fiber's first event after its start.
 pub fn replay_has_one_order()
     ensures { (s : ScriptView) (ps : List Pick) (r : ReportView) → IsReplay s ps r
         → IsLawfulInOneOrder s (λ f. true) r }

@@ -323,7 +323,7 @@ fn short_forms_end_as_what_they_are_short_for(rt: HostRuntime) -> Result<(), Fai
     assert_prints(&rt, rt.alloc(), ENDED, &SHORT_FORMS)
 }
 
-static REFUSED_TEXTS: [Row; 25] = [
+static REFUSED_TEXTS: [Row; 30] = [
     ("(main (pure x))", "refused 7 at 12\n"),
     ("(main (pure 18446744073709551616))", "refused 3 at 12\n"),
     ("(main (foo))", "refused 5 at 7\n"),
@@ -365,6 +365,17 @@ static REFUSED_TEXTS: [Row; 25] = [
         "(main (oncancel (pure 1) (pure 2) (pure 3)))",
         "refused 6 at 34\n",
     ),
+    ("(queue q 0) (main (pure 1))", "refused 9 at 9\n"),
+    (
+        "(queue q 1) (queue q 2) (main (pure 1))",
+        "refused 8 at 19\n",
+    ),
+    ("(queue q 1) (main (pure q))", "refused 7 at 24\n"),
+    (
+        "(queue q 1) (main (trytake q x (pure 1) (pure x)))",
+        "refused 7 at 46\n",
+    ),
+    ("(main (queue q 1))", "refused 5 at 7\n"),
     ("(main (pure 5)) 1a", "refused 3 at 16\n"),
     ("(main (pure 5)) !", "refused 2 at 16\n"),
 ];

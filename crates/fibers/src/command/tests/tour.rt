@@ -26,10 +26,10 @@ static TOUR: [Row; 7] = [
     ),
     (
         "replay F",
-        "(queue booked 2)\n(main (start transfer (mask m (seq (offer booked 1) (offer booked 2) (poll m (never))))\n        (cancel transfer)))",
+        "(queue booked 2)\n(main (mask m (seq (canceled) (offer booked 1) (offer booked 2) (poll m (never)))))",
         "",
         ENDED,
-        "fiber 0 succeeded 0\nfiber 1 canceled\nqueue booked left 1 2\n",
+        "fiber 0 canceled\nqueue booked left 1 2\n",
     ),
     (
         "replay F",
