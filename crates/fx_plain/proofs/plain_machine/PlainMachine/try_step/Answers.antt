@@ -24,7 +24,7 @@ returns g c =
     record {
       tries = IfOk-weaker c.step_able.result
           (λ _. (s : ScriptView) (m : WholeMachine) → StandsForRun nodes s (woken nodes p f world is ready) m
-              → Tries nodes s m f (woken nodes p f world is ready) p')
+          → Tries nodes s m f (woken nodes p f world is ready) p')
           (λ _. (s : ScriptView) (m : WholeMachine) → StandsForRun nodes s p m → Tries nodes s m f p p')
           (λ _ tries. λ s m so. tried_woken nodes p f world is ready s m so p' (tries s m (woken_stands nodes p f world is ready s m so)))
           c.step_able.ensures.tries;
