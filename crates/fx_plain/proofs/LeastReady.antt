@@ -110,7 +110,8 @@ module _ (queues : List QueueView) where
   ready_one_more q Over = none_of_two (have_room queues q) (have_element queues q)
 
   -- past the queues there is neither room nor an element
-  within : (r n : ℕ) (ready : QueueView → Bool) → ready no_queue ≡ false → length queues ≤ n → (nat_lt r n && ready (queue_at queues r)) ≡ ready (queue_at queues r)
+  within : (r n : ℕ) (ready : QueueView → Bool) → ready no_queue ≡ false → length queues ≤ n
+      → (nat_lt r n && ready (queue_at queues r)) ≡ ready (queue_at queues r)
   within r n ready none le = elim (cases_lt r n) [
     | inl lt ↦ rw (lt-ltb r n lt) refl
     | inr past ↦ rw (le-ltb r n past) (sym (ap ready (get_or_past queues r no_queue (omega arith)) ∙ none))
@@ -159,7 +160,8 @@ module _ (queues : List QueueView) where
 
     pub least_last : (n : ℕ) (least : Option ℕ) → length queues ≤ n → IsLeastBelow n least
         → IsLeastOf (λ f. is_ready (have_room queues) (have_element queues) (class_at classes f)) least
-    least_last n least le = least_same (λ f. ready_below n (class_at classes f)) (λ f. is_ready (have_room queues) (have_element queues) (class_at classes f)) least
+    least_last n least le =
+        least_same (λ f. ready_below n (class_at classes f)) (λ f. is_ready (have_room queues) (have_element queues) (class_at classes f)) least
         (λ f. ready_all n le (class_at classes f))
 
     -- queues at which nobody waits make nobody ready

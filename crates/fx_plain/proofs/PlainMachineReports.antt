@@ -131,7 +131,8 @@ module _ {J : Type 0} (nodes : List Node) (s : ScriptView) (p : PlainMachine J) 
     is_replay all way rests =
         way_ends s all m way machine_report (λ f. unready_cannot s p.world (all_held nodes p) m so.stands so.tells f (rests f)) is_report_of
 
-    writable_fiber : (n i : ℕ) (y : FiberReportView) → NamesQueuesBelow n s.term → option_map (reported nodes) (at_number nodes p i) ≡ Some y → IsWritableFiber n y
+    writable_fiber : (n i : ℕ) (y : FiberReportView) → NamesQueuesBelow n s.term
+        → option_map (reported nodes) (at_number nodes p i) ≡ Some y → IsWritableFiber n y
     writable_fiber n i y named e = by_place (at_number nodes p i) refl e
       where
         by_place : (z : Option (Started J)) → at_number nodes p i ≡ z → option_map (reported nodes) z ≡ Some y → IsWritableFiber n y

@@ -130,7 +130,8 @@ module _ {J : Type 0} (nodes : List Node) (s : ScriptView) (p : PlainMachine J) 
     beginning_of =
         let start = start_told nodes (leaf_at (progress nodes x.fiber)) f m.fibers made.label c made.answers in
         let told : StartsChild plain_calls nodes start.number start.origin c.port x.fiber.port p.world new.port w' =
-        subst (λ (l : Label). Tells plain_calls nodes (leaf_at (progress nodes x.fiber)) l (Child c) x.fiber.port p.world new.port w') start.is made.calls_are.told in
+        subst (λ (l : Label). Tells plain_calls nodes (leaf_at (progress nodes x.fiber)) l (Child c) x.fiber.port p.world new.port w') start.is
+        made.calls_are.told in
         let free = child_is_free nodes s p m so f x here is w' (Child c) new made start.number start.origin start.is in
         record {
           number = start.number;

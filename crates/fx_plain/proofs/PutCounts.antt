@@ -25,7 +25,8 @@ module _ (q : ℕ) (counts : List ℕ) where
     | inl lt ↦ get_or_append_left counts zeros 0 r lt
     | inr le ↦
         (let past : r ≡ length counts + (r - length counts) = omega arith in
-        ap (slice_index (reaching q counts)) past ∙ get_or-append-add counts zeros (r - length counts) 0 ∙ replicated (suc q - length counts) (r - length counts) 0
+        ap (slice_index (reaching q counts)) past ∙ get_or-append-add counts zeros (r - length counts) 0
+        ∙ replicated (suc q - length counts) (r - length counts) 0
         ∙ sym (get_or_past counts r 0 le))
   ]
 

@@ -61,16 +61,20 @@ waiting_goes r c (Unwinds rest) w h = refl
 waiting_goes r c (CleansUp k t rest) w h = refl
 
 module _ (s : ScriptView) (m : WholeMachine) (class : ℕ → Class) (are : AreOfClasses m class) (f : ℕ) where
+  -- by such a class a fiber is ready in the whole machine
+  abbrev pub ready_by : Class → Bool
+  ready_by k = is_ready (has_room s m) (outside_of s m).has_element k
+
   -- who is not ready cannot step
-  pub unready_cannot_step : AwaitWhatIsToCome (outcome_of m) class → is_ready (has_room s m) (outside_of s m).has_element (class f) ≡ false → can_step_in s m f ≡ false
+  pub unready_cannot_step : AwaitWhatIsToCome (outcome_of m) class → ready_by (class f) ≡ false → can_step_in s m f ≡ false
   unready_cannot_step to_come e =
       class_tells (outside_of s m) f (m.fibers f) (class f) (are f) (ready_is (outside_of s m) (class f) (to_come f) ∙ e)
 
   -- who is ready has started and has not ended
-  pub ready_is_going : is_ready (has_room s m) (outside_of s m).has_element (class f) ≡ true → IsGoing m f
+  pub ready_is_going : ready_by (class f) ≡ true → IsGoing m f
   ready_is_going e = by_fiber (m.fibers f) (class f) refl (are f) e
     where
-      by_fiber : (z : Option StartedFiber) (k : Class) → m.fibers f ≡ z → IsOfClass (m.requested f) z k → is_ready (has_room s m) (outside_of s m).has_element k ≡ true → IsGoing m f
+      by_fiber : (z : Option StartedFiber) (k : Class) → m.fibers f ≡ z → IsOfClass (m.requested f) z k → ready_by k ≡ true → IsGoing m f
       by_fiber None Unstarted at h e = absurd cc
       by_fiber None Able at h e = absurd h
       by_fiber None (Waits w) at h e = absurd h
@@ -81,11 +85,11 @@ module _ (s : ScriptView) (m : WholeMachine) (class : ℕ → Class) (are : AreO
       by_fiber (Some x) Unstarted at h e = absurd h
 
   -- who waits and is ready can step
-  pub ready_can_step : is_able (class f) ≡ false → is_ready (has_room s m) (outside_of s m).has_element (class f) ≡ true → can_step_in s m f ≡ true
+  pub ready_can_step : is_able (class f) ≡ false → ready_by (class f) ≡ true → can_step_in s m f ≡ true
   ready_can_step unable e = by_fiber (m.fibers f) (class f) (are f) unable e
     where
       by_fiber : (z : Option StartedFiber) (k : Class) → IsOfClass (m.requested f) z k → is_able k ≡ false
-          → is_ready (has_room s m) (outside_of s m).has_element k ≡ true → can_step_fiber (outside_of s m) f z ≡ true
+          → ready_by k ≡ true → can_step_fiber (outside_of s m) f z ≡ true
       by_fiber (Some x) (Waits (Room q)) h n e = waiting_steps (outside_of s m) f x.counts x.progress (Room q) h ∙ e
       by_fiber (Some x) (Waits (Element q)) h n e = waiting_steps (outside_of s m) f x.counts x.progress (Element q) h ∙ e
       by_fiber None (Waits (Room q)) h n e = absurd h

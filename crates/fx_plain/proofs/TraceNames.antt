@@ -37,7 +37,8 @@ module _ (n : ℕ) where
   opening_names : (s : ScriptView) → NamesQueuesBelow n s.term → FibersNameBelow (opening s).fibers
   opening_names s h = put_fiber 0 (begun None (main_origin s.term)) (λ f. None) (h, All-nil (NamesQueueBelow n)) none_yet
 
-  child_names : (f : ℕ) (l : Label) (fibers : ℕ → Option StartedFiber) → LabelNamesBelow n l → FibersNameBelow fibers → FibersNameBelow (fibers_after f l fibers)
+  child_names : (f : ℕ) (l : Label) (fibers : ℕ → Option StartedFiber) → LabelNamesBelow n l → FibersNameBelow fibers
+      → FibersNameBelow (fibers_after f l fibers)
   child_names f (Starts g b) fibers h all = put_fiber g (begun (Some f) b) fibers (h, All-nil (NamesQueueBelow n)) all
   child_names f Silent fibers h all = all
   child_names f (Shows e) fibers h all = all

@@ -51,4 +51,5 @@ module _ (s : ScriptView) (w : WorldView) (held : List (Option HeldFiber)) (m : 
   pub noted_wait_tells : TellsWhoSteps s w m → (x : StartedFiber) → m.fibers f ≡ Some x → x.counts ≡ old.counts → x.progress ≡ progress nodes old
       → TellsWhoSteps s (record w { classes = slice_set w.classes f (Waits h.wait) }) m
   noted_wait_tells tells x at counts progress_is =
-      wait_tells s w m tells f x h.wait lt at (rw (counts, progress_is) waits_so) (refused_to_come w old.port (value_offered (leaf_at (progress nodes old))) h.wait h.refused)
+      wait_tells s w m tells f x h.wait lt at (rw (counts, progress_is) waits_so)
+      (refused_to_come w old.port (value_offered (leaf_at (progress nodes old))) h.wait h.refused)

@@ -78,5 +78,6 @@ module _ (f : ℕ) (old : List Class) where
             | inl same ↦ at_that g Able (class_at now) h same ∙ sym (at_end true e) ∙ sym (ap (λ (i : ℕ). class_at_end f (class_at old i)) same)
             | inr apart ↦ at_other g Able (class_at now) h apart ∙ before h (omega arith)
           ];
-          above = λ h past. class_at_set now g Able (waiter_within g member) h ∙ at_other g Able (class_at now) h (λ e. omega arith) ∙ woken.above h (omega arith);
+          above = λ h past. class_at_set now g Able (waiter_within g member) h
+              ∙ at_other g Able (class_at now) h (λ e. omega arith) ∙ woken.above h (omega arith);
         }

@@ -1,6 +1,7 @@
 //! How many elements a fiber has put into each queue.
 ghost use Rattle.std.specs.Prelude.{◌≡◌, ◌+◌, ◌-◌, ◌^◌, ◌<◌, ◌≤◌, ◌++◌, [], OnOk, length, replicate, slice_index};
 ghost use Rattle.std.specs.Prelude.{vec_capacity};
+ghost use Rattle.std.specs.Vec.{vec_allocator};
 ghost use Rattle.fx_plain.specs.PutCounts.{reaching, one_more_put};
 
 use fx_term::Memory;
@@ -24,7 +25,9 @@ impl PutCounts {
     }
 
     /// What its memory is of.
-    pub fn allocator(&self) -> Global {
+    pub fn allocator(&self) -> Global
+        ensures { result ≡ vec_allocator self.now.of }
+    {
         *self.of.allocator()
     }
 
