@@ -98,3 +98,23 @@ fn limits_the_words_of_a_schedule(rt: HostRuntime) -> Result<(), Fail> {
     }
     Ok(())
 }
+
+/// How many picks the first bytes of `0 c1 12` spell, none of them first, or why they spell none.
+static CUT: [Result<usize, (u8, u32)>; 8] = [
+    Ok(0),
+    Ok(1),
+    Ok(1),
+    Err((6, 2)),
+    Ok(2),
+    Ok(2),
+    Ok(3),
+    Ok(3),
+];
+
+#[test]
+fn reads_the_first_bytes_of_a_schedule(rt: HostRuntime) {
+    let text = b"0 c1 12";
+    for (len, &answer) in CUT.iter().enumerate() {
+        assert_eq!(rt; read(&rt, &text[..len.min(text.len())]), answer);
+    }
+}
