@@ -86,9 +86,7 @@ pub(crate) fn wrong_in_script(
         TextKind::Unknown => unknown(alloc, before, token, &shown),
         TextKind::Taken => format!(in alloc; "the name {shown} is in scope here already"),
         TextKind::Size => size(alloc, before, &shown),
-        TextKind::Queues => format!(in alloc;
-            "this is queue 17; a script has at most 16"
-        ),
+        TextKind::Queues => format!(in alloc; "this is queue 17; a script has at most 16"),
         TextKind::Depth => format!(in alloc;
             "this is parenthesis 101; at most 100 are open at once"
         ),

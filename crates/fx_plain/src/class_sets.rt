@@ -34,12 +34,7 @@ fn is_left(for_room: &NumberSets, for_element: &NumberSets, queue: u8) -> bool
 }
 
 /// Takes this queue out of those at which somebody waits, if nobody does any more.
-fn forget_left(
-    waited: &mut NumberSet,
-    for_room: &NumberSets,
-    for_element: &NumberSets,
-    queue: u8,
-)
+fn forget_left(waited: &mut NumberSet, for_room: &NumberSets, for_element: &NumberSets, queue: u8)
     ensures { AreWaitedAt (is_member waited.old) for_room.now for_element.now
         → AreWaitedAt (is_member waited.new) for_room.now for_element.now }
 {
