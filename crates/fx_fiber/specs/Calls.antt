@@ -45,7 +45,7 @@ abbrev pub puts_after : Offered → ℕ → ℕ
 puts_after Done n = suc n
 puts_after Full n = n
 
--- that, unless the element was put
-abbrev pub IsUnlessPut : Offered → Type 0 → Type 0
-IsUnlessPut Done A = Unit {0}
-IsUnlessPut Full A = A
+-- that, where the answer is that it is full
+abbrev pub OnFull : Offered → Type 0 → Type 0
+OnFull Done A = Unit {0}
+OnFull Full A = A

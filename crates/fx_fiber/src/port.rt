@@ -7,7 +7,7 @@ ghost use Rattle.fx_term.specs.declared.begin.Begin.{Begin};
 ghost use Rattle.fx_fiber.specs.Deed.{Deed, Started, Requested, Saw, Got, FoundEmpty, FoundEnded, Ended};
 ghost use Rattle.fx_fiber.specs.Deed.{deed_of_offer};
 ghost use Rattle.fx_fiber.specs.Calls.{PortCalls, Range, HasRange, first_range, range_after};
-ghost use Rattle.fx_fiber.specs.Calls.{puts_after, IsUnlessPut};
+ghost use Rattle.fx_fiber.specs.Calls.{puts_after, OnFull};
 
 use fx_term::{Begin, Memory, Offered, Outcome};
 
@@ -92,7 +92,7 @@ pub trait Port: Sized {
         ensures puts { IfOk result (λ answer. puts self.new ≡ puts_after answer (puts self.old)) }
         ensures deed { IfOk result (λ answer. (deeds : List Deed) → agrees self.old deeds
             → agrees self.new (deeds ++ deed_of_offer queue value answer ∷ [])) }
-        ensures full { IfOk result (λ answer. IsUnlessPut answer
+        ensures full { IfOk result (λ answer. OnFull answer
             ((self.new ≡ self.old) × (shared.new ≡ shared.old))) }
         ensures unchanged { OnErr result ((self.new ≡ self.old) × (shared.new ≡ shared.old)) };
 

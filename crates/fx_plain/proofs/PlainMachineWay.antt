@@ -1,5 +1,5 @@
 -- A machine goes on its way by a pick, and after the last pick by steps of the least fiber.
-use Rattle.std.proofs.Common.{◌≡◌, ℕ, ◌<◌, ◌≤◌, true, false, List, [], ◌∷◌, ◌++◌, length, refl, ◌∙◌, ap, arith, inl, inr}
+use Rattle.std.proofs.Common.{◌≡◌, ℕ, ◌<◌, ◌≤◌, true, false, List, [], ◌∷◌, ◌++◌, length, refl, ◌∙◌, ap, subst, arith, inl, inr}
 use Rattle.std.proofs.lemmas.Bool.{cases_lt}
 use Rattle.std.proofs.lemmas.List.{set_past}
 use Rattle.fx_term.specs.declared.node.Node.{Node}
@@ -26,6 +26,14 @@ leads_one_request s m (v ∷ vs) last f lt r = (r.0, r.1, leads_one_request s r.
 request_past : (w : WorldView) (f : ℕ) → length w.requested ≤ f → length w.from_outside ≤ f → length w.classes ≤ f → after_request_from_outside f w ≡ w
 request_past w f le le' le'' =
     rw (set_past w.requested f true le, set_past w.from_outside f true le', set_past w.classes f (class_requested (class_at w.classes f)) le'') refl
+
+-- what a machine tries whose world is the same
+pub tried_the_same : {J : Type 0} (nodes : List Node) (f : ℕ) (p p' : PlainMachine J) (w : WorldView) → w ≡ p.world
+    → ((s : ScriptView) (m : WholeMachine) → StandsForRun nodes s (record p { world = w }) m → Tries nodes s m f (record p { world = w }) p')
+    → (s : ScriptView) (m : WholeMachine) → StandsForRun nodes s p m → Tries nodes s m f p p'
+tried_the_same nodes f p p' w same tries = subst
+    (λ (v : WorldView). (s : ScriptView) (m : WholeMachine) → StandsForRun nodes s (record p { world = v }) m → Tries nodes s m f (record p { world = v }) p')
+    same tries
 
 module _ {J : Type 0} (nodes : List Node) (s : ScriptView) where
   -- by a try of a fiber that is picked

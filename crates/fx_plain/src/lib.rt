@@ -70,6 +70,8 @@ mod plain_queue;
 mod plain_world;
 mod put_counts;
 mod refusal;
+#[cfg(test)]
+mod tests;
 mod text_replay;
 mod write;
 

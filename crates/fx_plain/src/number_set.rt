@@ -47,14 +47,6 @@ impl NumberSet {
         }
     }
 
-    /// Whether the number is in the set.
-    pub fn contains(&self, n: u32) -> bool
-        requires { n < NUMBERS }
-        ensures { result ≡ is_member self.now n }
-    {
-        (self.words[(n / BITS) as usize] >> (n % BITS)) & 1 == 1
-    }
-
     /// Puts the number into the set.
     pub fn insert(&mut self, n: u32)
         requires { n < NUMBERS }
@@ -121,8 +113,7 @@ mod tests {
     fn nothing_is_in_a_new_set(rt: HostRuntime) -> Result<(), Fail> {
         let set = NumberSet::new();
         assert_eq!(rt; set.least(), None);
-        assert_eq!(rt; set.contains(0), false);
-        assert_eq!(rt; set.contains(4095), false);
+        assert_eq!(rt; set.least_from(4095), None);
         Ok(())
     }
 
@@ -139,9 +130,6 @@ mod tests {
         assert_eq!(rt; set.least(), Some(0));
         set.insert(65);
         assert_eq!(rt; set.least(), Some(0));
-        assert_eq!(rt; set.contains(65), true);
-        assert_eq!(rt; set.contains(1), false);
-        assert_eq!(rt; set.contains(4094), false);
         Ok(())
     }
 
@@ -169,7 +157,6 @@ mod tests {
         set.insert(63);
         set.insert(64);
         set.remove(0);
-        assert_eq!(rt; set.contains(0), false);
         assert_eq!(rt; set.least(), Some(63));
         set.remove(63);
         assert_eq!(rt; set.least(), Some(64));

@@ -37,6 +37,8 @@ pub struct PlainWorld {
     outcomes: Vec<Option<Outcome>>,
     classes: Classes,
     queues: Vec<PlainQueue>,
+    // the least fiber that is ready, where it was found and nothing has changed since
+    found: Option<u32>,
 }
 
 /// A queue with no element for each of these, of its capacity.
@@ -52,7 +54,11 @@ fn empty_queues(alloc: Global, declared: &[QueueDecl]) -> Result<Vec<PlainQueue>
 }
 
 impl Model for PlainWorld {
-    ghost use Rattle.std.specs.Prelude.{◌≡◌, length};
+    ghost use Rattle.std.specs.Prelude.{◌≡◌, IfSome, Some, length};
+    ghost use Rattle.fx_plain.specs.NumberSet.{IsLeastOf};
+    ghost use Rattle.fx_plain.specs.PlainQueue.{have_room, have_element};
+    ghost use Rattle.fx_plain.specs.Classes.{is_ready};
+    ghost use Rattle.fx_plain.specs.ClassSets.{class_at};
     ghost use Rattle.fx_plain.specs.World.{WorldView};
 
     ghost Value = { WorldView };
@@ -68,7 +74,9 @@ impl Model for PlainWorld {
     ghost invariant = { λ w. (length w.requested.items ≡ length w.classes.of)
         × (length w.from_outside.items ≡ length w.classes.of)
         × (length w.outcomes.items ≡ length w.classes.of)
-        × (length w.queues.items ≡ w.classes.queues) };
+        × (length w.queues.items ≡ w.classes.queues)
+        × IfSome w.found (λ n. IsLeastOf (λ f. is_ready (have_room w.queues.items)
+        (have_element w.queues.items) (class_at w.classes.of f)) (Some n)) };
 }
 
 impl PlainWorld {
@@ -93,6 +101,7 @@ impl PlainWorld {
             outcomes: vec![in alloc; None; long]?,
             classes,
             queues,
+            found: None,
         })
     }
 
@@ -163,6 +172,7 @@ impl PlainWorld {
         let Some(own) = self.queues.get_mut(queue as usize) else {
             unreachable!();
         };
+        self.found = None; // who waits for an element may be ready now
         own.put(item)
     }
 
@@ -173,6 +183,7 @@ impl PlainWorld {
         ensures world { self.new ≡ after_take queue self.old }
         ensures none { IfNone result (self.new ≡ self.old) }
     {
+        self.found = None; // who waits for room may be ready now
         let own = self.queues.get_mut(queue as usize)?;
         let item = own.take()?;
         Some(item.value)
@@ -236,6 +247,7 @@ impl PlainWorld {
         if let Some(requested) = self.requested.get_mut(fiber as usize) {
             *requested = true;
         }
+        self.found = None;
         self.classes.request(fiber);
     }
 
@@ -253,14 +265,17 @@ impl PlainWorld {
     pub fn start(&mut self, fiber: u32)
         ensures { self.new ≡ after_start fiber self.old }
     {
+        self.found = None;
         self.classes.become_able(fiber);
     }
 
-    /// The fiber, which waits, may step.
+    /// The fiber may step. If it may already, nothing changes.
     pub(crate) fn wake(&mut self, fiber: u32)
         ensures { self.new ≡ after_start fiber self.old }
     {
-        self.classes.become_able(fiber);
+        if !matches!(self.classes.class(fiber), Class::Able) {
+            self.start(fiber);
+        }
     }
 
     /// The fiber ends so.
@@ -270,6 +285,7 @@ impl PlainWorld {
         if let Some(own) = self.outcomes.get_mut(fiber as usize) {
             *own = Some(outcome);
         }
+        self.found = None;
         self.classes.end(fiber);
     }
 
@@ -279,14 +295,20 @@ impl PlainWorld {
         ensures { self.new
             ≡ record self.old { classes = slice_set self.old.classes fiber (Waits source) } }
     {
+        self.found = None;
         self.classes.wait(fiber, source);
     }
 
-    /// The least number of a fiber that is ready.
-    pub fn least(&self) -> Option<u32>
-        ensures { IsLeastOf (is_ready_in self.now) result }
+    /// The least number of a fiber that is ready. It searches for it only if the world has changed since
+    /// it last did.
+    pub fn least(&mut self) -> Option<u32>
+        ensures least { IsLeastOf (is_ready_in self.old) result }
+        ensures same { self.new ≡ self.old }
     {
-        self.classes.least(&self.queues)
+        if self.found.is_none() {
+            self.found = self.classes.least(&self.queues);
+        }
+        self.found
     }
 }
 
