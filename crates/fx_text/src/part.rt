@@ -192,7 +192,6 @@ pub(crate) fn binder<'a>(
 }
 
 /// The word of a form.
-#[tactic(auto, unfolding(crate::specs::Reading::form_at))]
 pub(crate) fn form(bytes: &[u8]) -> Result<(Form, &[u8]), ReadError>
     ensures read { Gives (λ x. (x.0, x.1.now)) result (form_at bytes.now) }
     ensures shorter { IfOk result (λ x. length x.1.now < length bytes.now) }
