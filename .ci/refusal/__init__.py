@@ -1,0 +1,1 @@
+"""The parts of `refused`, which tries wrong bodies."""

@@ -1,0 +1,127 @@
+"""The wrong bodies of one crate, tried in rounds."""
+import os
+import shutil
+import tempfile
+
+from refusal import edit as edits
+from refusal.evidence import against, is_answer, verdict_on
+from refusal.functions import functions, sources
+from refusal.kit import check
+
+HARMLESS = "let _ = ();"
+
+
+class Trial:
+    """The edits of a crate, and how many of them, and of the controls, have passed and failed."""
+
+    def __init__(self, crate, folder):
+        self.crate, self.name = crate, crate.name
+        self.texts = sources(crate.folder)
+        self.found = functions(self.texts)
+        folder = f"{crate.folder}/{folder}"
+        self.edits = sorted(f"{folder}/{it}" for it in os.listdir(folder) if it.endswith(".edit")) if os.path.isdir(folder) else []
+        self.passed, self.failed, self.rounds = 0, 0, 0
+
+    def lines(self):
+        return sum(text.count("\n") for text in self.texts.values())
+
+    def passes(self, what, why):
+        self.passed += 1
+        self.say(f"{what}: {why}")
+
+    def fails(self, what, why):
+        self.failed += 1
+        self.say(f"{what}: FAILED: {why}")
+
+    def say(self, text):
+        print(f"{self.name} {text}", flush=True)
+
+    def run(self):
+        """Tries all edits, and gives how many passed and how many failed."""
+        left = self.readable()
+        with tempfile.TemporaryDirectory(prefix="refused-kept-") as room:
+            first, later = f"{room}/first", f"{room}/later"
+            os.mkdir(first)
+            while left:
+                chosen = self.next_round(left)
+                left = [it for it in left if it not in chosen]
+                self.rounds += 1
+                if self.rounds > 1:
+                    # (what a round left is of its wrong bodies; the next one goes on from the first alone)
+                    shutil.rmtree(later, ignore_errors=True)
+                    shutil.copytree(first, later)
+                self.round(chosen, first if self.rounds == 1 else later)
+        return self.passed, self.failed
+
+    def readable(self):
+        """The edits that apply to the crate."""
+        good = []
+        for file in self.edits:
+            name = os.path.basename(file).removesuffix(".edit")
+            try:
+                good.append(edits.read(file, name, self.texts, self.found))
+            except edits.DoesNotApply as why:
+                self.fails(name, f"it does not apply: {why}")
+        return good
+
+    def next_round(self, left):
+        """As many of these edits as may stand together."""
+        chosen, used, texts = [], set(), self.texts
+        for edit in left:
+            if not edit.functions & used and (more := edit.applied(texts)):
+                texts, used = more, used | edit.functions
+                chosen.append(edit)
+        return chosen
+
+    def round(self, chosen, kept):
+        """Tries these edits in one check."""
+        label = f"round {self.rounds}"
+        changed = {path for it in chosen for path in it.functions}
+        control = self.control(changed)
+        if not control:
+            self.fails(label, "no function is left for a control")
+            return
+        texts = self.texts
+        for edit in chosen:
+            texts = edit.applied(texts)
+        said, seconds = check(self.crate, with_harmless(texts, control), kept, {*changed, control.path})
+        self.say(f"{label}: {len(chosen)} edits, {seconds:.0f} s of a processor")
+        if not is_answer(said, self.name):
+            why = next((it for it in said.split("\n") if "error" in it), said.strip().split("\n")[-1])
+            for edit in chosen:
+                self.fails(edit.name, f"its round did not come to the proofs: {why[:200]}")
+            return
+        shown = against(said, self.name, functions(texts))
+        for edit in chosen:
+            self.judge(edit, shown, said)
+        for path in shown.keys() - changed - {control.path}:
+            self.fails(label, f"{path} is changed by no edit, and yet has an open goal: {shown[path]}")
+        told = verdict_on(control.path, said, self.name)
+        if control.path in shown:
+            self.fails(f"control {control.path}", f"a body that does the same has an open goal: {shown[control.path]}")
+        elif not told:
+            self.fails(f"control {control.path}", "the check says nothing of it")
+        else:
+            self.passes(f"control {control.path}", f"not refused ({told[:80]})")
+
+    def judge(self, edit, shown, said):
+        goals = [(path, shown[path]) for path in sorted(edit.functions) if path in shown]
+        if goals:
+            self.passes(edit.name, "refused, " + ": ".join(goals[0]))
+        else:
+            told = "; ".join(f"{path}: {verdict_on(path, said, self.name) or 'nothing'}" for path in sorted(edit.functions))
+            self.fails(edit.name, f"no goal of its own function is open ({told[:200]})")
+
+    def control(self, changed):
+        """A function that the round leaves as it is: best of one that other rounds make wrong, then of one beside those of this round."""
+        free = [it for it in self.found if it.path not in changed and it.body and it.last > it.body and not it.is_test]
+        beside = {it.file for it in self.found if it.path in changed}
+        free = [it for it in free if it.file in beside] or free
+        return free[self.rounds % len(free)] if free else None
+
+
+def with_harmless(texts, control):
+    """The texts with a statement that does nothing at the head of the control's body."""
+    lines = texts[control.file].split("\n")
+    lines[control.body - 1] = f"{HARMLESS} {lines[control.body - 1]}"
+    return {**texts, control.file: "\n".join(lines)}
