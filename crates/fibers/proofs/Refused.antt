@@ -7,8 +7,8 @@ use Rattle.fx_text.specs.Meaning.{Meaning}
 use Rattle.fx_text.specs.Reading.{reading}
 use Rattle.fx_text.specs.Grammar.{IsScript}
 use Rattle.fx_text.specs.Schedule.{IsSchedule, schedule_reading}
-use Rattle.fx_plain.specs.Refusal.{refusal_text}
-use Rattle.fx_plain.proofs.FirstFault.{unless_memory, has_no_meaning}
+use Rattle.fx_report.specs.Refusal.{refusal_text}
+use Rattle.fx_report.proofs.FirstFault.{unless_memory, has_no_meaning}
 use Rattle.fibers.specs.Refused.{IsNoScript, schedule_refusal_text, IsNoSchedule}
 
 pub no_script : (text line : List ℕ) (f : TextFault) → (f.kind ≡ kind.Memory → ⊥)

@@ -6,7 +6,7 @@ use Rattle.fx_text.specs.Meaning.{Meaning}
 use Rattle.fx_text.specs.Reading.{reading}
 use Rattle.fx_text.specs.Grammar.{IsScript}
 use Rattle.fx_text.specs.Schedule.{IsSchedule, schedule_reading}
-use Rattle.fx_plain.specs.Refusal.{refusal_text}
+use Rattle.fx_report.specs.Refusal.{refusal_text}
 
 -- the text is no script, and this line says so
 pub record IsNoScript (line text : List ℕ) : Type 0 where

@@ -5,7 +5,8 @@ ghost use Rattle.fibers.specs.declared.call.Command.TheVariants as command;
 ghost use Rattle.fibers.specs.Performed.{counts_text, check_text, Performs};
 
 use crate::call::Command;
-use fx_plain::{ENDED, OutFault, replay, status_after, write_report, write_text, write_trace};
+use fx_plain::replay;
+use fx_report::{ENDED, OutFault, status_after, write_report, write_text, write_trace};
 use fx_text::{Pick, Script};
 use std::alloc::{AllocError, Global};
 use std::io::Write;

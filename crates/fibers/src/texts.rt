@@ -3,7 +3,7 @@ ghost use Rattle.std.specs.Prelude.{◌≡◌, IfOk, IfErr, length, string_bytes
 ghost use Rattle.fx_text.specs.Grammar.{IsScript};
 ghost use Rattle.fx_text.specs.Schedule.{IsSchedule};
 ghost use Rattle.fx_text.specs.View.{meaning};
-ghost use Rattle.fx_plain.specs.Refusal.{refusal_text};
+ghost use Rattle.fx_report.specs.Refusal.{refusal_text};
 ghost use Rattle.fibers.specs.CommandFault.{IsRefusal};
 ghost use Rattle.fibers.specs.Refused.{IsNoScript, schedule_refusal_text, IsNoSchedule};
 
@@ -11,7 +11,7 @@ use crate::command_fault::{CommandFault, Refusal};
 use crate::explain::explain;
 use crate::schedule_words::wrong_in_schedule;
 use crate::script_words::wrong_in_script;
-use fx_plain::format_refusal;
+use fx_report::format_refusal;
 use fx_text::{Pick, Script, TextFault, TextKind, parse, schedule};
 use std::alloc::{AllocError, Global};
 

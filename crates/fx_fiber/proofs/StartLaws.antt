@@ -38,10 +38,13 @@ starts_right c d _ proper h = tt
 pub step_starts : {c d : Counts} {p q : Progress} {l : Label} → Step c p l d q → IsStartRight c.next l
 step_starts {c = c} {d = d} {l = l} st = let t = step_tells st in starts_right c d l t.proper t.takes
 
--- what is started begins at a core term
+-- what is started begins so; at a core term
+abbrev pub StartsSo : (Origin → Type 0) → Label → Type 0
+StartsSo IsSo (Starts f b) = IsSo b
+StartsSo IsSo _ = Unit {0}
+
 abbrev pub StartsCore : Label → Type 0
-StartsCore (Starts f b) = IsCore b.term
-StartsCore _ = Unit {0}
+StartsCore l = StartsSo (λ b. IsCore b.term) l
 
 row_starts_core : {k : Bool} {c d : Counts} {l : Label} {t t' : Term} → Row k c t l d t' → IsRunningTerm t → StartsCore l
 row_starts_core row.start h = h.0

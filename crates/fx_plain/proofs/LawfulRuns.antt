@@ -37,7 +37,7 @@ use Rattle.fx_plain.proofs.RunsKept.{IsSo, AreSo, HasRequests, opening_is_so, op
 use Rattle.fx_plain.proofs.RunsKept.{request_has_requests}
 use Rattle.fx_plain.proofs.HistoriesKept.{HasHistories, opening_has_histories, histories_kept}
 use Rattle.fx_fiber.proofs.OutcomeLaws.{run_outcome, run_stops}
-use Rattle.fx_plain.proofs.Keys.{rises_from, passing_is_found, found_passes, contained_passes}
+use Rattle.fx_report.proofs.Keys.{rises_from, passing_is_found, found_passes, contained_passes}
 
 -- what each machine of a run keeps
 pub record IsKept (s : ScriptView) (m : WholeMachine) : Type 0 where

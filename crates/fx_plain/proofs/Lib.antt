@@ -4,7 +4,6 @@ pub mod RangesKept
 pub mod FamilyKept
 pub mod HistoriesKept
 pub mod RunsKept
-pub mod Keys
 pub mod LawfulRuns
 pub mod RunLaws
 pub mod Moments
@@ -18,7 +17,6 @@ pub mod ComputedReports
 pub mod OneRun
 pub mod OneReport
 pub mod Rows
-pub mod TextRows
 pub mod WholeMachineWork
 pub mod Bits
 pub mod Capacities
@@ -38,9 +36,6 @@ pub mod WaitedQueues
 pub mod Waking
 pub mod WorldLaws
 pub mod WorldSteps
-pub mod Written
-pub mod QueueNames
-pub mod TraceNames
 pub mod WorldClasses
 pub mod WaitSteps
 pub mod NumbersUpTo
@@ -50,8 +45,4 @@ pub mod PlainMachineWaking
 pub mod PlainMachineOpening
 pub mod PlainMachineWay
 pub mod PlainMachineWork
-pub mod Endings
 pub mod PlainMachineReports
-pub mod Taken
-pub mod FirstFault
-pub mod Answered

@@ -16,19 +16,15 @@ use Rattle.fx_plain.specs.declared.plain_machine.Started.{Started}
 use Rattle.fx_plain.specs.declared.plain_machine.PlainMachine.{PlainMachine}
 use Rattle.fx_plain.specs.WholeMachine.{StartedFiber, WholeMachine}
 use Rattle.fx_plain.specs.Chosen.{report_of_fiber, IsReportOf, IsReplay}
-use Rattle.fx_plain.specs.Text.{ends, IsWritableFiber, IsWritable}
-use Rattle.fx_term.specs.QueuesNamed.{NamesQueuesBelow}
 use Rattle.fx_plain.specs.PlainQueue.{QueueView, queue_at}
 use Rattle.fx_plain.specs.World.{HeldFiber, held_of}
 use Rattle.fx_plain.specs.OnTheWay.{IsOnTheWay}
 use Rattle.fx_plain.specs.PlainMachine.{held, reported, all_reported, all_held, StandsForRun, Rests}
 use Rattle.fx_plain.proofs.ComputedRuns.{report}
 use Rattle.fx_plain.proofs.ComputedReports.{report_is_report}
-use Rattle.fx_plain.proofs.Endings.{run_ends}
 use Rattle.fx_plain.proofs.LawfulRuns.{IsKept}
 use Rattle.fx_plain.proofs.RunLaws.{run_keeps}
 use Rattle.fx_plain.proofs.OnTheWay.{way_ends}
-use Rattle.fx_plain.proofs.TraceNames.{run_names}
 use Rattle.fx_plain.proofs.WorldClasses.{unready_cannot}
 use Rattle.fx_plain.proofs.PlainMachineSteps.{at_number, held_at, is_fiber}
 
@@ -41,14 +37,6 @@ module _ {X Y : Type 0} (give : Option X → Option Y) where
       let here : give x ≡ h a = e 0 (omega arith) ∙ ap h (let z : a + 0 ≡ a = omega arith in z) in
       rw here (ap (cons_option (h a)) (by_number h xs (a + 1)
       (λ i lt. e (suc i) (omega arith) ∙ ap h (let z : a + suc i ≡ a + 1 + i = omega arith in z))))
-
-  all_given : (P : Y → Type 0) (xs : List (Option X)) → ((i : ℕ) (y : Y) → give (slice_index_or xs i None) ≡ Some y → P y) → All P (filter_map give xs)
-  all_given P [] e = All-nil P
-  all_given P (x ∷ xs) e = by_first (give x) refl (all_given P xs (λ i. e (suc i)))
-    where
-      by_first : (z : Option Y) → give x ≡ z → All P (filter_map give xs) → All P (cons_option (give x) (filter_map give xs))
-      by_first None is rest = rw is rest
-      by_first (Some y) is rest = rw is (All-cons P y (filter_map give xs) (e 0 y is) rest)
 
 same_filter : (p q : ℕ → Bool) (a n : ℕ) → ((k : ℕ) → a ≤ k → k < a + n → p k ≡ q k) → filter p (range_with_len a n) ≡ filter q (range_with_len a n)
 same_filter p q a zero e = refl
@@ -130,27 +118,3 @@ module _ {J : Type 0} (nodes : List Node) (s : ScriptView) (p : PlainMachine J) 
     pub is_replay : (all : List Pick) → IsOnTheWay s all [] m → Rests p → IsReplay s all machine_report
     is_replay all way rests =
         way_ends s all m way machine_report (λ f. unready_cannot s p.world (all_held nodes p) m so.stands so.tells f (rests f)) is_report_of
-
-    writable_fiber : (n i : ℕ) (y : FiberReportView) → NamesQueuesBelow n s.term
-        → option_map (reported nodes) (at_number nodes p i) ≡ Some y → IsWritableFiber n y
-    writable_fiber n i y named e = by_place (at_number nodes p i) refl e
-      where
-        by_place : (z : Option (Started J)) → at_number nodes p i ≡ z → option_map (reported nodes) z ≡ Some y → IsWritableFiber n y
-        by_place None here e = absurd (none-some y e)
-        by_place (Some x) here e =
-            let is = is_fiber nodes s p m so i x here in
-            let run = kept.family.runs i is.fiber is.at in
-            let trace : x.fiber.trace ≡ events is.fiber.labels = ap (λ (h : HeldFiber). h.trace) is.is in
-            let at : progress nodes x.fiber ≡ is.fiber.progress = ap (λ (h : HeldFiber). h.progress) is.is in
-            subst (IsWritableFiber n) (same_Some (reported nodes x) y e) (record {
-              named = rw trace (run_names n s so.moves m i is.fiber named so.run is.at);
-              state = ap ends trace ∙ run_ends is.fiber.origin is.fiber.labels is.fiber.counts is.fiber.progress run ∙ sym (ap has_ended at);
-            })
-
-    pub is_writable : (names : List (List ℕ)) → length names ≡ length s.capacities → NamesQueuesBelow (length names) s.term
-        → IsWritable names machine_report
-    is_writable names by_queue named = record {
-      left_by_queue = ap length left_is ∙ length-map p.world.queues (λ (q : QueueView). q.items) ∙ many ∙ sym by_queue;
-      fibers = rw fibers_are (all_given (option_map (reported nodes)) (IsWritableFiber (length names)) p.fibers.items
-          (λ i y. writable_fiber (length names) i y named));
-    }

@@ -12,7 +12,7 @@ use Rattle.fx_fiber.proofs.OneOrder.{order_told}
 use Rattle.fx_text.specs.declared.pick.Pick.{Pick}
 use Rattle.fx_plain.specs.WholeMachine.{WholeMachine, Move, opening, can_step_in, FiberSteps, requested_from_outside}
 use Rattle.fx_plain.specs.Chosen.{IsChosen, step, no_step, request, no_request, least, rests, IsReportOf, IsReplay}
-use Rattle.fx_plain.proofs.Keys.{passing_contained}
+use Rattle.fx_report.proofs.Keys.{passing_contained}
 use Rattle.fx_plain.proofs.FamilyKept.{labels_of}
 use Rattle.fx_plain.proofs.HistoriesKept.{histories_grow}
 use Rattle.fx_plain.proofs.LawfulRuns.{IsKept, opening_is_kept, moved_keeps, request_keeps, chosen_rests}

@@ -1,7 +1,5 @@
 pub mod WholeMachine
 pub mod Chosen
-pub mod Text
-pub mod Output
 pub mod NumberSet
 pub mod PlainQueue
 pub mod PutCounts
@@ -11,10 +9,5 @@ pub mod ClassSets
 pub mod PlainCalls
 pub mod World
 pub mod WorldClasses
-pub mod Replay
 pub mod PlainMachine
-pub mod Refusal
-pub mod Answer
-pub mod PlainFault
-pub mod Input
 pub mod TextReplay

@@ -5,8 +5,8 @@ ghost use Rattle.fx_fiber.specs.Causes.{IsLawfulInOneOrder};
 ghost use Rattle.fx_fiber.specs.Headline.{KeepsWhatIsPromised};
 ghost use Rattle.fx_text.specs.View.{meaning};
 ghost use Rattle.fx_plain.specs.Chosen.{IsReplay};
-ghost use Rattle.fx_plain.specs.Replay.{script_of};
-ghost use Rattle.fx_plain.specs.Text.{queue_names, IsWritable};
+ghost use Rattle.fx_report.specs.Script.{script_of};
+ghost use Rattle.fx_report.specs.Text.{queue_names, IsWritable};
 
 use crate::plain_machine::PlainMachine;
 use fx_fiber::Report;

@@ -1,6 +1,6 @@
 //! All fibers of a script on one thread: what the whole machine does, which of its runs a schedule
-//! chooses, and what is reported and printed of it. [`replay`] makes that run and gives its report, the
-//! writers print it, and [`replay_text`] goes from a script's bytes to the report's.
+//! chooses, and what is reported of it. [`replay`] makes that run and gives its report, and
+//! [`replay_text`] goes from a script's bytes to the report's. The texts are those of the crate of reports.
 //!
 //! The whole machine is
 //!
@@ -56,32 +56,24 @@ mod chosen_run;
 mod class;
 mod class_sets;
 mod classes;
-mod input;
 pub mod laws;
-mod lines;
 mod number_set;
 mod number_sets;
-mod out_fault;
-mod output;
-mod plain_fault;
 mod plain_machine;
 mod plain_port;
 mod plain_queue;
 mod plain_world;
 mod put_counts;
-mod refusal;
 #[cfg(test)]
 mod tests;
 mod text_replay;
+#[cfg(test)]
 mod write;
 
 pub use chosen_run::replay;
-pub use input::{MOST_OF_SCRIPT, read_text};
-pub use out_fault::OutFault;
-pub use output::write_text;
-pub use plain_fault::PlainFault;
+pub use fx_report::AnswerFault as PlainFault;
+pub use fx_report::{BLOCKED, ENDED, MOST_OF_SCRIPT, OutFault, REFUSED, format_refusal, read_text};
+pub use fx_report::{status_after, write_report, write_text, write_trace};
 pub use plain_port::PlainPort;
 pub use plain_world::PlainWorld;
-pub use refusal::format_refusal;
-pub use text_replay::{BLOCKED, ENDED, REFUSED, replay_text, status_after};
-pub use write::{write_report, write_trace};
+pub use text_replay::replay_text;

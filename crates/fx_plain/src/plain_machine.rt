@@ -1,18 +1,16 @@
 //! All fibers of a script on one thread.
 ghost use Rattle.std.specs.Prelude.{◌≡◌, ℕ, ◌<◌, ◌-◌, ◌∷◌, [], true, Some, None, List, IfOk, OnOk};
 ghost use Rattle.std.specs.Prelude.{length, replicate, slice_index_or, slice_set};
-ghost use Rattle.fx_term.specs.QueuesNamed.{NamesQueuesBelow};
 ghost use Rattle.fx_term.specs.Code.{IsCode};
 ghost use Rattle.fx_term.specs.Script.{ScriptView};
 ghost use Rattle.fx_text.specs.View.{meaning};
 ghost use Rattle.fx_text.specs.declared.pick.Pick.{Pick};
 ghost use Rattle.fx_plain.specs.WholeMachine.{WholeMachine, opening};
 ghost use Rattle.fx_plain.specs.Chosen.{IsReplay};
-ghost use Rattle.fx_plain.specs.Text.{IsWritable};
 ghost use Rattle.fx_plain.specs.ClassSets.{class_at, is_able};
 ghost use Rattle.fx_plain.specs.World.{is_ready_in};
 ghost use Rattle.fx_plain.specs.PlainMachine.{reported, all_reported, StandsForRun, StandsForSome, Tries, IsUnderWay, Rests};
-ghost use Rattle.fx_plain.specs.Replay.{script_of};
+ghost use Rattle.fx_report.specs.Script.{script_of};
 
 use crate::plain_port::PlainPort;
 use crate::plain_world::PlainWorld;
@@ -200,13 +198,9 @@ impl<J: CodeBrand> PlainMachine<J> {
 
     /// The report, once no fiber is ready.
     pub fn into_report(self, alloc: Global) -> Result<Report, Memory>
-        requires rests { Rests self }
-        ensures replay { IfOk result (λ report. (s : ScriptView) (all : List Pick)
+        requires { Rests self }
+        ensures { IfOk result (λ report. (s : ScriptView) (all : List Pick)
             → IsUnderWay J.nodes s all [] self → IsReplay s all report) }
-        ensures writable { IfOk result (λ report. (s : ScriptView) (m : WholeMachine)
-            (names : List (List ℕ)) → StandsForRun J.nodes s self m
-            → length names ≡ length s.capacities → NamesQueuesBelow (length names) s.term
-            → IsWritable names report) }
     {
         Ok(Report {
             outside: self.world.outside(alloc)?,

@@ -10,7 +10,7 @@ ghost use Rattle.fx_term.specs.Script.{ScriptView, total};
 ghost use Rattle.fx_fiber.specs.Origin.{main_begin_of};
 ghost use Rattle.fx_text.specs.View.{meaning};
 ghost use Rattle.fx_plain.specs.PlainCalls.{new_port};
-ghost use Rattle.fx_plain.specs.Replay.{script_of};
+ghost use Rattle.fx_report.specs.Script.{script_of};
 ghost use Rattle.fx_plain.specs.World.{is_requested_in, outcome_in, is_ready_in, after_request};
 ghost use Rattle.fx_plain.specs.World.{after_request_from_outside, after_start, after_end};
 ghost use Rattle.fx_plain.specs.World.{after_put, after_take, opening_world};

@@ -17,7 +17,7 @@ use Rattle.fx_fiber.specs.Report.{outcome_shown}
 use Rattle.fx_fiber.specs.LawfulReport.{EndsWith}
 use Rattle.fx_fiber.specs.Headline.{StopsAt}
 use Rattle.fx_fiber.proofs.OutcomeLaws.{run_outcome, run_stops}
-use Rattle.fx_plain.specs.Text.{is_end, ends}
+use Rattle.fx_report.specs.Text.{is_end, ends}
 
 none_shown : (es : List Event) → outcome_shown es ≡ None → list_any is_end es ≡ false
 none_shown [] e = refl

@@ -3,9 +3,9 @@ use Rattle.std.proofs.Common.{◌≡◌, ℕ, ◌+◌, ◌-◌, ◌<◌, ◌≤�
 use Rattle.std.proofs.Common.{refl, sym, arith, append_assoc, length-append}
 use Rattle.std.specs.Io.KnownBytes.{Consumes, Keeps, IsAtEnd}
 use Rattle.std.proofs.lemmas.List.{take_all, append-nil, take_at}
-use Rattle.fx_plain.specs.declared.plain_fault.PlainFault.{PlainFault}
-use Rattle.fx_plain.specs.declared.plain_fault.PlainFault.TheVariants.{Read, Write, Memory}
-use Rattle.fx_plain.specs.Input.{TakesPiece, TakesPrefix, TakesAtMost, FailsToRead}
+use Rattle.fx_report.specs.declared.answer_fault.AnswerFault.{AnswerFault}
+use Rattle.fx_report.specs.declared.answer_fault.AnswerFault.TheVariants.{Read, Write, Memory}
+use Rattle.fx_report.specs.Input.{TakesPiece, TakesPrefix, TakesAtMost, FailsToRead}
 
 -- some more bytes are read
 consumes_both : (left mid rest : Option (List ℕ)) (one two both : List ℕ)
@@ -58,7 +58,7 @@ takes_more left mid rest text room most p t h = record {
 }
 
 -- the piece after a text was not read, or not kept
-pub fails_to_read : (most : ℕ) (fault : PlainFault) (left mid rest : Option (List ℕ)) (text : List ℕ) (room : ℕ)
+pub fails_to_read : (most : ℕ) (fault : AnswerFault) (left mid rest : Option (List ℕ)) (text : List ℕ) (room : ℕ)
     → Consumes left mid text → length text < most → length text + room ≤ most
     → (fault ≡ Read → Keeps mid rest) → TakesAtMost room mid rest → fault ≢ Write → FailsToRead most fault left rest
 fails_to_read most Read left mid rest text room p h r kept few other =

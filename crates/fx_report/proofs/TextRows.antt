@@ -6,7 +6,7 @@ use Rattle.fx_term.specs.declared.outcome.Outcome.TheVariants.{Succeeded}
 use Rattle.fx_term.specs.declared.outcome.Outcome.TheVariants as outcome
 use Rattle.fx_term.specs.declared.event.Event.TheVariants as event
 use Rattle.fx_fiber.specs.Report.{ReportView}
-use Rattle.fx_plain.specs.Text.{report_text, trace_text}
+use Rattle.fx_report.specs.Text.{report_text, trace_text}
 
 abbrev told : ReportView
 told = record {

@@ -1,16 +1,9 @@
--- The numbers of the faults of a replay, and which of them is that of a write.
+-- The numbers of the faults of an answer.
 use Rattle.std.specs.Prelude.{ℕ}
-use Rattle.fx_plain.specs.declared.out_fault.OutFault.{OutFault}
-use Rattle.fx_plain.specs.declared.out_fault.OutFault.TheVariants as out
-use Rattle.fx_plain.specs.declared.plain_fault.PlainFault.{PlainFault}
-use Rattle.fx_plain.specs.declared.plain_fault.PlainFault.TheVariants.{Read, Write, Memory}
+use Rattle.fx_report.specs.declared.answer_fault.AnswerFault.{AnswerFault}
+use Rattle.fx_report.specs.declared.answer_fault.AnswerFault.TheVariants.{Read, Write, Memory}
 
-abbrev pub plain_fault_number : PlainFault → ℕ
-plain_fault_number Read = 1
-plain_fault_number Write = 2
-plain_fault_number Memory = 3
-
--- that of a write that failed
-abbrev pub fault_of_writing : OutFault → PlainFault
-fault_of_writing out.Write = Write
-fault_of_writing out.Memory = Memory
+abbrev pub answer_fault_number : AnswerFault → ℕ
+answer_fault_number Read = 1
+answer_fault_number Write = 2
+answer_fault_number Memory = 3

@@ -1,8 +1,8 @@
 -- What reading a text takes from its reader, where the bytes that the reader has left are known.
 use Rattle.std.specs.Prelude.{◌≡◌, ℕ, ◌-◌, ◌≤◌, Option, List, ◌++◌, length, take, IfSome}
 use Rattle.std.specs.Io.KnownBytes.{Consumes, IsAtEnd}
-use Rattle.fx_plain.specs.declared.plain_fault.PlainFault.{PlainFault}
-use Rattle.fx_plain.specs.declared.plain_fault.PlainFault.TheVariants.{Read, Write, Memory}
+use Rattle.fx_report.specs.declared.answer_fault.AnswerFault.{AnswerFault}
+use Rattle.fx_report.specs.declared.answer_fault.AnswerFault.TheVariants.{Read, Write, Memory}
 
 -- the piece was taken and appended, and only at the end is it empty
 pub record TakesPiece (left rest : Option (List ℕ)) (text longer : List ℕ) (n : ℕ) : Type 0 where
@@ -30,7 +30,7 @@ pub record ReadsText (most : ℕ) (left rest : Option (List ℕ)) (text : List �
   pub taken : Consumes left rest (take most text)
 
 -- the text was not read, or not kept. With all bytes in hand that are wanted no read follows that could fail
-abbrev pub FailsToRead : ℕ → PlainFault → Option (List ℕ) → Option (List ℕ) → Type 0
+abbrev pub FailsToRead : ℕ → AnswerFault → Option (List ℕ) → Option (List ℕ) → Type 0
 FailsToRead most Read left rest = TakesAtMost (most - 1) left rest
 FailsToRead most Memory left rest = TakesAtMost most left rest
 FailsToRead most Write left rest = ⊥

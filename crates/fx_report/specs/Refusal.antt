@@ -2,7 +2,7 @@
 use Rattle.std.specs.Prelude.{ℕ, List, ◌++◌, codes, decimal}
 use Rattle.fx_text.specs.declared.fault.TextFault.{TextFault}
 use Rattle.fx_text.specs.Fault.{kind_number}
-use Rattle.fx_plain.specs.Text.{line_end}
+use Rattle.fx_report.specs.Text.{line_end}
 
 -- the kind of the fault by its number, and the byte that it is at
 abbrev pub refusal_text : TextFault → List ℕ

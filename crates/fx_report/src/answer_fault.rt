@@ -1,4 +1,4 @@
-//! Why a replay gave no text, or not all of it.
+//! Why a text was not answered, or not whole.
 ghost use Rattle.std.specs.Prelude.{◌≡◌};
 
 use crate::out_fault::OutFault;
@@ -6,9 +6,9 @@ use fx_term::Memory;
 use std::alloc::AllocError;
 use thiserror::Error;
 
-/// Why a script was not replayed, or its text not written whole.
+/// Why a text was not answered, or its answer not written whole.
 #[derive(Clone, Copy, PartialEq, Eq, Debug, Error)]
-pub enum PlainFault {
+pub enum AnswerFault {
     /// The reader answered an error. Nothing was written.
     #[error("the text cannot be read")]
     Read,
@@ -20,50 +20,51 @@ pub enum PlainFault {
     Memory,
 }
 
-impl PlainFault {
-    ghost use Rattle.fx_plain.specs.PlainFault.{plain_fault_number};
+impl AnswerFault {
+    ghost use Rattle.fx_report.specs.AnswerFault.{answer_fault_number};
 
     /// Its number, which never changes.
     pub fn number(&self) -> u8
-        ensures { result ≡ plain_fault_number self.now }
+        ensures { result ≡ answer_fault_number self.now }
     {
         match self {
-            PlainFault::Read => 1,
-            PlainFault::Write => 2,
-            PlainFault::Memory => 3,
+            AnswerFault::Read => 1,
+            AnswerFault::Write => 2,
+            AnswerFault::Memory => 3,
         }
     }
 }
 
-impl From<Memory> for PlainFault {
-    ghost use Rattle.fx_plain.specs.declared.plain_fault.PlainFault.TheVariants.{Memory};
+impl From<Memory> for AnswerFault {
+    ghost use Rattle.fx_report.specs.declared.answer_fault.AnswerFault.TheVariants.{Memory};
 
     ghost from_gives = { λ _ fault. fault ≡ Memory };
 
-    fn from(_refused: Memory) -> PlainFault {
-        PlainFault::Memory
+    fn from(_refused: Memory) -> AnswerFault {
+        AnswerFault::Memory
     }
 }
 
-impl From<OutFault> for PlainFault {
-    ghost use Rattle.fx_plain.specs.PlainFault.{fault_of_writing};
+impl From<OutFault> for AnswerFault {
+    ghost use Rattle.fx_report.specs.declared.answer_fault.AnswerFault.TheVariants.{Write, Memory};
+    ghost use Rattle.fx_report.specs.Output.{fault_of_writing};
 
-    ghost from_gives = { λ fault made. made ≡ fault_of_writing fault };
+    ghost from_gives = { λ fault made. made ≡ fault_of_writing Write Memory fault };
 
-    fn from(fault: OutFault) -> PlainFault {
+    fn from(fault: OutFault) -> AnswerFault {
         match fault {
-            OutFault::Write => PlainFault::Write,
-            OutFault::Memory => PlainFault::Memory,
+            OutFault::Write => AnswerFault::Write,
+            OutFault::Memory => AnswerFault::Memory,
         }
     }
 }
 
-impl From<AllocError> for PlainFault {
-    ghost use Rattle.fx_plain.specs.declared.plain_fault.PlainFault.TheVariants.{Memory};
+impl From<AllocError> for AnswerFault {
+    ghost use Rattle.fx_report.specs.declared.answer_fault.AnswerFault.TheVariants.{Memory};
 
     ghost from_gives = { λ _ fault. fault ≡ Memory };
 
-    fn from(_refused: AllocError) -> PlainFault {
-        PlainFault::Memory
+    fn from(_refused: AllocError) -> AnswerFault {
+        AnswerFault::Memory
     }
 }

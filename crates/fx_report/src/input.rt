@@ -1,10 +1,10 @@
 //! Reads a text, and no more of it than is wanted.
 ghost use Rattle.std.specs.Prelude.{◌≡◌, ◌≢◌, ◌≤◌, ◌<◌, IfOk, IfErr};
 ghost use Rattle.std.specs.Io.KnownBytes.{Keeps};
-ghost use Rattle.fx_plain.specs.declared.plain_fault.PlainFault.TheVariants.{Read, Write};
-ghost use Rattle.fx_plain.specs.Input.{TakesPiece, TakesPrefix, TakesAtMost, FailsToRead};
+ghost use Rattle.fx_report.specs.declared.answer_fault.AnswerFault.TheVariants.{Read, Write};
+ghost use Rattle.fx_report.specs.Input.{TakesPiece, TakesPrefix, TakesAtMost, FailsToRead};
 
-use crate::plain_fault::PlainFault;
+use crate::answer_fault::AnswerFault;
 use std::alloc::Global;
 use std::io::Read;
 
@@ -14,7 +14,7 @@ pub const MOST_OF_SCRIPT: usize = 65_537;
 const PIECE: usize = 4096;
 
 /// Reads one piece of the text, of at most `room` bytes, and appends it. An empty one is the end.
-fn read_piece<R: Read>(reader: &mut R, text: &mut Vec<u8>, room: usize) -> Result<usize, PlainFault>
+fn read_piece<R: Read>(reader: &mut R, text: &mut Vec<u8>, room: usize) -> Result<usize, AnswerFault>
     requires { 0 < room }
     ensures count { IfOk result (λ n. n ≤ room) }
     ensures piece { IfOk result (λ n. TakesPiece
@@ -28,7 +28,7 @@ fn read_piece<R: Read>(reader: &mut R, text: &mut Vec<u8>, room: usize) -> Resul
     let mut piece = [0u8; PIECE];
     let wanted = room.min(PIECE);
     match reader.read(&mut piece[..wanted]) {
-        Err(_) => Err(PlainFault::Read),
+        Err(_) => Err(AnswerFault::Read),
         Ok(n) => {
             text.extend_from_slice(&piece[..n])?;
             Ok(n)
@@ -38,7 +38,7 @@ fn read_piece<R: Read>(reader: &mut R, text: &mut Vec<u8>, room: usize) -> Resul
 
 /// The text that the reader has left: all of it, or its first `most` bytes where it has more. A fault
 /// is `Read` or `Memory`.
-pub fn read_text<R: Read>(alloc: Global, reader: &mut R, most: usize) -> Result<Vec<u8>, PlainFault>
+pub fn read_text<R: Read>(alloc: Global, reader: &mut R, most: usize) -> Result<Vec<u8>, AnswerFault>
     ensures text { IfOk result
         (λ text. TakesPrefix most (R.remaining reader.old) (R.remaining reader.new) text.items) }
     ensures fault { IfErr result

@@ -1,8 +1,8 @@
 //! The lines of a report and of its traces.
 ghost use Rattle.std.specs.Prelude.{◌≡◌, ◌++◌, length, OnOk, string_bytes};
-ghost use Rattle.fx_plain.specs.Text.{names_of, line_end};
+ghost use Rattle.fx_report.specs.Text.{names_of, line_end};
 ghost use Rattle.fx_term.specs.QueuesNamed.{NamesQueueBelow};
-ghost use Rattle.fx_plain.specs.Text.{outcome_text, halt_line, queue_line, event_text, event_line};
+ghost use Rattle.fx_report.specs.Text.{outcome_text, halt_line, queue_line, event_text, event_line};
 
 use fx_term::{Event, Item, Outcome};
 use fx_text::QueueDecl;

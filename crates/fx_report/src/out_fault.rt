@@ -17,7 +17,7 @@ pub enum OutFault {
 }
 
 impl OutFault {
-    ghost use Rattle.fx_plain.specs.Output.{out_fault_number};
+    ghost use Rattle.fx_report.specs.Output.{out_fault_number};
 
     /// Its number, which never changes.
     pub fn number(&self) -> u8
@@ -31,7 +31,7 @@ impl OutFault {
 }
 
 impl From<AllocError> for OutFault {
-    ghost use Rattle.fx_plain.specs.declared.out_fault.OutFault.TheVariants.{Memory};
+    ghost use Rattle.fx_report.specs.declared.out_fault.OutFault.TheVariants.{Memory};
 
     ghost from_gives = { λ _ fault. fault ≡ Memory };
 
@@ -41,7 +41,7 @@ impl From<AllocError> for OutFault {
 }
 
 impl From<Memory> for OutFault {
-    ghost use Rattle.fx_plain.specs.declared.out_fault.OutFault.TheVariants.{Memory};
+    ghost use Rattle.fx_report.specs.declared.out_fault.OutFault.TheVariants.{Memory};
 
     ghost from_gives = { λ _ fault. fault ≡ Memory };
 

@@ -1,8 +1,8 @@
 //! Writes a text.
 ghost use Rattle.std.specs.Prelude.{◌≡◌, OnOk, IfErr};
 ghost use Rattle.std.specs.Io.KnownBytes.{Appends};
-ghost use Rattle.fx_plain.specs.declared.out_fault.OutFault.TheVariants.{Write};
-ghost use Rattle.fx_plain.specs.Output.{FailsToWrite};
+ghost use Rattle.fx_report.specs.declared.out_fault.OutFault.TheVariants.{Write};
+ghost use Rattle.fx_report.specs.Output.{FailsToWrite};
 
 use crate::out_fault::OutFault;
 use std::io::Write;

@@ -1,6 +1,6 @@
 //! The line for a text that is refused.
 ghost use Rattle.std.specs.Prelude.{◌≡◌, IfOk, string_bytes};
-ghost use Rattle.fx_plain.specs.Refusal.{refusal_text};
+ghost use Rattle.fx_report.specs.Refusal.{refusal_text};
 
 use fx_text::TextFault;
 use std::alloc::{AllocError, Global};

@@ -3,32 +3,29 @@ ghost use Rattle.std.specs.Prelude.{◌≡◌, ◌++◌, length, map, All, OnOk,
 ghost use Rattle.std.specs.List.{flat_map};
 ghost use Rattle.std.specs.Io.KnownBytes.{Appends};
 ghost use Rattle.fx_text.specs.View.{meaning};
-ghost use Rattle.fx_plain.specs.Output.{FailsToWrite};
-ghost use Rattle.fx_plain.specs.Text.{names_of, queue_names, IsWritableFiber, IsWritable};
+ghost use Rattle.fx_report.specs.Output.{FailsToWrite};
+ghost use Rattle.fx_report.specs.Text.{names_of, queue_names, IsWritableFiber, IsWritable};
 ghost use Rattle.fx_term.specs.QueuesNamed.{NamesQueueBelow};
-ghost use Rattle.fx_plain.specs.Text.{ends, state_text, halt_text, fiber_line, queue_lines, trace_lines};
-ghost use Rattle.fx_plain.specs.Text.{report_text, trace_text};
+ghost use Rattle.fx_report.specs.Text.{ends, state_text, halt_text, fiber_line, queue_lines, trace_lines};
+ghost use Rattle.fx_report.specs.Text.{report_text, trace_text};
 
 use crate::lines::{push_event_line, push_fiber_line, push_queue_line};
 use crate::out_fault::OutFault;
 use crate::output::write_text;
-use fx_fiber::{FiberReport, Report, State};
+use fx_fiber::{FiberReport, Report};
 use fx_term::{Event, Item, Outcome};
 use fx_text::{QueueDecl, Script};
 use std::alloc::{AllocError, Global};
 use std::io::Write;
 
-/// The outcome of a fiber that has ended, which its trace tells.
+/// The outcome that a fiber has ended with, which its trace tells.
 fn outcome_of(fiber: &FiberReport) -> Option<Outcome>
     requires { ends fiber.now.trace ≡ fiber.now.has_ended }
     ensures { halt_text result ≡ state_text fiber.now.has_ended fiber.now.trace }
 {
-    match fiber.state {
-        State::Blocked => None,
-        State::Ended => match fiber.trace.last() {
-            Some(Event::Ended(outcome)) => Some(*outcome),
-            _ => unreachable!(),
-        },
+    match fiber.trace.last() {
+        Some(Event::Ended(outcome)) => Some(*outcome),
+        _ => None,
     }
 }
 
@@ -150,6 +147,3 @@ pub fn write_trace<W: Write>(
     let text = format_traces(alloc, script, report)?;
     write_text(writer, text.as_bytes())
 }
-
-#[cfg(test)]
-mod tests;

@@ -2,8 +2,8 @@
 ghost use Rattle.std.specs.Prelude.{◌≡◌, All};
 ghost use Rattle.std.specs.Bool.{OnTrue};
 ghost use Rattle.fx_text.specs.View.{meaning};
-ghost use Rattle.fx_plain.specs.Text.{queue_names, ends};
-ghost use Rattle.fx_plain.specs.Text.{IsWritableFiber, IsWritable};
+ghost use Rattle.fx_report.specs.Text.{queue_names, ends};
+ghost use Rattle.fx_report.specs.Text.{IsWritableFiber, IsWritable};
 ghost use Rattle.fx_term.specs.QueuesNamed.{NamesQueueBelow};
 
 use super::*;

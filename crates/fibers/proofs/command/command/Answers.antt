@@ -1,5 +1,5 @@
 use Rattle.std.proofs.Common.{option_map}
-use Rattle.fx_plain.proofs.Written.{keeps_same}
+use Rattle.fx_report.proofs.Written.{keeps_same}
 use Rattle.fibers.specs.CommandAnswer.Runs.{other_words, answered, unreadable, no_memory, not_taken}
 use Rattle.fibers.proofs.CommandAnswer.{refusal_runs}
 use Rattle.fibers.proofs.command.command.Goals as goal

@@ -12,6 +12,6 @@ returns-in_err-write_text g c =
 pub returns : goal.returns
 returns g c = record {
   text = _;
-  performed = checked;
+  answer = checked;
   appended = rw (c.as_bytes.ensures.value, c.in_ok-line.ensures) at c.in_ok-write_text.ensures.whole;
 }

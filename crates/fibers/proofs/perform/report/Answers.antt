@@ -11,6 +11,6 @@ returns-in_err-write_report g c =
 pub returns : goal.returns
 returns g c = record {
   text = _;
-  performed = replayed_with_status _ _ _ _ c.in_ok-report.ensures.replayed c.status_after.ensures;
+  answer = replayed_with_status _ _ _ _ c.in_ok-report.ensures.replayed c.status_after.ensures;
   appended = c.in_ok-write_report.ensures.whole;
 }

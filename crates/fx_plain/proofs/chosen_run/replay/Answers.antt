@@ -5,7 +5,7 @@ use Rattle.fx_fiber.specs.LawfulReport.{IsLawfulReport}
 use Rattle.fx_fiber.specs.Causes.{IsLawfulInOneOrder}
 use Rattle.fx_text.specs.View.{meaning}
 use Rattle.fx_plain.specs.Chosen.{IsReplay}
-use Rattle.fx_plain.specs.Replay.{script_of}
+use Rattle.fx_report.specs.Script.{script_of}
 use Rattle.fx_plain.proofs.LawfulRuns.{replay_is_lawful}
 use Rattle.fx_plain.proofs.ReplayOrder.{replay_is_in_order}
 use Rattle.fx_plain.proofs.chosen_run.replay.Goals as goal

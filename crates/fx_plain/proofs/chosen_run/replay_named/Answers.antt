@@ -1,18 +1,18 @@
-use Rattle.std.proofs.Common.{◌+◌, ℕ, [], drop, true, sym, subst, arith}
+use Rattle.std.proofs.Common.{◌+◌, ℕ, [], drop, true, arith}
 use Rattle.std.proofs.lemmas.List.{drop_more, drop_all}
 use Rattle.std.proofs.lemmas.Result.{IfOk-weaker}
-use Rattle.fx_term.specs.QueuesNamed.{NamesQueuesBelow}
 use Rattle.fx_term.proofs.CoreTerms.{code_is_core}
 use Rattle.fx_fiber.specs.Report.{ReportView}
 use Rattle.fx_fiber.specs.Headline.{KeepsWhatIsPromised}
 use Rattle.fx_text.specs.View.{meaning}
 use Rattle.fx_text.specs.declared.pick.Pick.TheVariants as pick
 use Rattle.fx_plain.specs.Chosen.{IsReplay}
-use Rattle.fx_plain.specs.Replay.{script_of}
-use Rattle.fx_plain.specs.Text.{queue_names, IsWritable}
+use Rattle.fx_report.specs.Script.{script_of}
+use Rattle.fx_report.specs.Text.{queue_names, IsWritable}
 use Rattle.fx_plain.specs.PlainMachine.{IsUnderWay}
-use Rattle.fx_plain.proofs.LawfulRuns.{replay_keeps_promises}
-use Rattle.fx_plain.proofs.QueueNames.{names_are_as_many, as_many_names, names_declared}
+use Rattle.fx_plain.proofs.LawfulRuns.{replay_is_lawful, replay_keeps_promises}
+use Rattle.fx_report.proofs.QueueNames.{names_declared}
+use Rattle.fx_report.proofs.WritableReports.{lawful_is_writable}
 use Rattle.fx_plain.proofs.chosen_run.replay_named.Goals as goal
 
 pub loop-pick-preserved : goal.loop-pick-preserved
@@ -31,7 +31,7 @@ returns-clause-replayed g c =
     let ended : IsUnderWay g.J.CodeBrand.nodes s picks [] c.loop-pick.machine =
     rw (drop_all c.loop-pick.pick-index picks (let end = c.loop-pick-test.false in omega arith)) at c.loop-pick.invariant.1 in
     IfOk-weaker c.into_report.result _ (IsReplay s picks)
-    (λ (report : ReportView). λ replays. replays s picks (c.in_ok-run_to_rest.ensures.way s picks ended)) c.into_report.ensures.replay
+    (λ (report : ReportView). λ replays. replays s picks (c.in_ok-run_to_rest.ensures.way s picks ended)) c.into_report.ensures
 
 pub returns-clause-promised : goal.returns-clause-promised
 returns-clause-promised g c =
@@ -42,13 +42,9 @@ returns-clause-promised g c =
 
 pub returns-clause-writable : goal.returns-clause-writable
 returns-clause-writable g c = λ le.
-    let script = c.args.script.now in
-    let s = script_of (meaning script) in
+    let m = meaning c.args.script.now in
+    let s = script_of m in
     let picks = c.args.picks.now in
-    let names = queue_names (meaning script) in
-    let ended : IsUnderWay g.J.CodeBrand.nodes s picks [] c.loop-pick.machine =
-    rw (drop_all c.loop-pick.pick-index picks (let end = c.loop-pick-test.false in omega arith)) at c.loop-pick.invariant.1 in
-    let last = c.in_ok-run_to_rest.ensures.way s picks ended in
-    let named = subst (λ (n : ℕ). NamesQueuesBelow n s.term) (sym (names_are_as_many script)) (names_declared script c.in_ok-machine.ensures.code le) in
-    IfOk-weaker c.into_report.result _ (IsWritable names)
-    (λ (report : ReportView). λ writable. writable s last.machine names last.stands (as_many_names script) named) c.into_report.ensures.writable
+    let named = names_declared c.args.script.now c.in_ok-machine.ensures.code le in
+    IfOk-weaker c.into_report.result (IsReplay s picks) (IsWritable (queue_names m))
+    (λ (report : ReportView). λ replays. lawful_is_writable m (λ f. true) report named (replay_is_lawful s picks report replays)) (returns-clause-replayed g c)

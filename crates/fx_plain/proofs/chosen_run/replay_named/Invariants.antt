@@ -1,6 +1,6 @@
 use Rattle.std.proofs.Common.{drop}
 use Rattle.fx_text.specs.View.{meaning}
-use Rattle.fx_plain.specs.Replay.{script_of}
+use Rattle.fx_report.specs.Script.{script_of}
 use Rattle.fx_plain.specs.PlainMachine.{StandsForSome, IsUnderWay}
 use Rattle.fx_plain.proofs.chosen_run.replay_named.Given as goal
 

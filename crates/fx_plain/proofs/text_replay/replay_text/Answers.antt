@@ -1,6 +1,7 @@
 use Rattle.std.proofs.lemmas.Result.{err_from_is_err_and}
-use Rattle.fx_plain.proofs.Answered.{answers_text, fails_to_answer, reads_text}
-use Rattle.fx_plain.proofs.Written.{keeps_same}
+use Rattle.fx_report.proofs.Answered.{answers_text, fails_to_answer, reads_text}
+use Rattle.fx_report.proofs.Written.{keeps_same}
+use Rattle.fx_plain.specs.TextReplay.{IsReplayOf}
 use Rattle.fx_plain.proofs.text_replay.replay_text.Goals as goal
 
 pub returns-in_err-answer : goal.returns-in_err-answer
@@ -18,8 +19,8 @@ returns-in_err-write_text g c =
       reads_text _ _ _ _ taken,
       record {
         status = _;
-        whole = _;
-        answer = answers_text _ _ _ _ _ _ taken c.in_ok-answer.ensures;
+        text = _;
+        answer = answers_text (IsReplayOf c.args.picks.now) _ _ _ _ _ taken c.in_ok-answer.ensures;
         part = rw c.as_bytes.ensures.value at part;
       },
     )
@@ -30,8 +31,8 @@ returns g c =
       _,
       reads_text _ _ _ _ taken,
       record {
-        written = _;
-        answer = answers_text _ _ _ _ _ _ taken c.in_ok-answer.ensures;
+        text = _;
+        answer = answers_text (IsReplayOf c.args.picks.now) _ _ _ _ _ taken c.in_ok-answer.ensures;
         appended = rw c.as_bytes.ensures.value at c.in_ok-write_text.ensures.whole;
       },
     )

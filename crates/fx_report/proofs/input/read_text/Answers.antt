@@ -1,8 +1,8 @@
 use Rattle.std.proofs.Common.{◌≡◌, ◌≤◌, ◌+◌, ◌-◌, ◌<◌, length, arith}
 use Rattle.std.proofs.lemmas.Result.{err_from_is_err_and}
-use Rattle.fx_plain.proofs.Taken.{consumes_more, fails_to_read, piece_within, read_to_end, read_most}
-use Rattle.fx_plain.proofs.input.read_text.Goals as goal
-use Rattle.fx_plain.proofs.input.read_text.Goals.{else-loop-text-test, then-loop-text-test+in_ok-read_piece+then-branch-eq0}
+use Rattle.fx_report.proofs.Taken.{consumes_more, fails_to_read, piece_within, read_to_end, read_most}
+use Rattle.fx_report.proofs.input.read_text.Goals as goal
+use Rattle.fx_report.proofs.input.read_text.Goals.{else-loop-text-test, then-loop-text-test+in_ok-read_piece+then-branch-eq0}
 
 pub loop-text-preserved : goal.loop-text-preserved
 loop-text-preserved g c =

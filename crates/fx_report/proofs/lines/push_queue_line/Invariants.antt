@@ -1,8 +1,8 @@
 use Rattle.std.proofs.Common.{◌≡◌, ◌++◌, length, codes, string_bytes}
 use Rattle.std.specs.List.{flat_map}
 use Rattle.fx_term.specs.declared.item.Item.{Item}
-use Rattle.fx_plain.specs.Text.{number}
-use Rattle.fx_plain.proofs.lines.push_queue_line.Given as goal
+use Rattle.fx_report.specs.Text.{number}
+use Rattle.fx_report.proofs.lines.push_queue_line.Given as goal
 
 -- what is written so far, and the values of the other elements, are the line
 abbrev pub invariant-loop-rest : goal.invariant-loop-rest

@@ -1,6 +1,6 @@
 use Rattle.std.proofs.Common.{◌+◌, ◌≤◌, length, arith, length-drop}
-use Rattle.fx_plain.proofs.Written.{appends_more, take-pieces}
-use Rattle.fx_plain.proofs.output.write_text.Goals as goal
+use Rattle.fx_report.proofs.Written.{appends_more, take-pieces}
+use Rattle.fx_report.proofs.output.write_text.Goals as goal
 
 pub loop-at-preserved : goal.loop-at-preserved
 loop-at-preserved g c =

@@ -1,5 +1,5 @@
 use Rattle.std.proofs.Common.{append_assoc}
-use Rattle.fx_plain.proofs.refusal.format_refusal.Goals as goal
+use Rattle.fx_report.proofs.refusal.format_refusal.Goals as goal
 
 pub returns : goal.returns
 returns c =

@@ -1,6 +1,6 @@
 use Rattle.std.proofs.Common.{◌≡◌, ◌++◌, drop, map, string_bytes}
-use Rattle.fx_plain.specs.Text.{names_of, queue_lines}
-use Rattle.fx_plain.proofs.write.push_queue_lines.Given as goal
+use Rattle.fx_report.specs.Text.{names_of, queue_lines}
+use Rattle.fx_report.proofs.write.push_queue_lines.Given as goal
 
 -- what is written so far, and the lines of the other queues, are the whole
 abbrev pub invariant-loop-i : goal.invariant-loop-i

@@ -1,7 +1,7 @@
 use Rattle.std.proofs.Common.{◌≡◌, ◌++◌, take, string_bytes}
 use Rattle.std.specs.List.{flat_map}
-use Rattle.fx_plain.specs.Text.{names_of, event_line}
-use Rattle.fx_plain.proofs.write.push_trace_lines.Given as goal
+use Rattle.fx_report.specs.Text.{names_of, event_line}
+use Rattle.fx_report.proofs.write.push_trace_lines.Given as goal
 
 abbrev pub invariant-loop-event : goal.invariant-loop-event
 invariant-loop-event l =

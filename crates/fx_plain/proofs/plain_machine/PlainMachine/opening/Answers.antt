@@ -6,7 +6,7 @@ use Rattle.fx_fiber.specs.Origin.{origin_of, main_begin_of}
 use Rattle.fx_fiber.specs.Fiber.{progress}
 use Rattle.fx_term.specs.declared.node.Node.{Node}
 use Rattle.fx_fiber.proofs.Beginnings.{main_begins}
-use Rattle.fx_plain.specs.Replay.{script_of}
+use Rattle.fx_report.specs.Script.{script_of}
 use Rattle.fx_plain.specs.PlainCalls.{PortView, new_port}
 use Rattle.fx_plain.specs.World.{WorldView}
 use Rattle.fx_plain.specs.declared.class.Class.TheVariants.{Unstarted}

@@ -3,7 +3,7 @@ use Rattle.fx_text.specs.View.{meaning}
 use Rattle.fx_text.specs.declared.queues.QueueDecl.{QueueDecl}
 use Rattle.fx_plain.specs.PlainQueue.{empty_queue}
 use Rattle.fx_term.specs.declared.begin.Begin.{Begin}
-use Rattle.fx_plain.specs.Replay.{script_of}
+use Rattle.fx_report.specs.Script.{script_of}
 use Rattle.fx_plain.proofs.Capacities.{empty_by_capacity}
 use Rattle.fx_plain.proofs.plain_world.PlainWorld.new.Goals as goal
 

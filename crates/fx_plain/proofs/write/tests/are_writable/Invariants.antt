@@ -1,5 +1,5 @@
 use Rattle.std.proofs.Common.{take, All}
-use Rattle.fx_plain.specs.Text.{IsWritableFiber}
+use Rattle.fx_report.specs.Text.{IsWritableFiber}
 use Rattle.fx_plain.proofs.write.tests.are_writable.Given as goal
 
 abbrev pub invariant-loop-fiber : goal.invariant-loop-fiber

@@ -1,10 +1,11 @@
 -- Lists whose elements have keys that rise: what is found by a key, and when two such lists are equal.
 use Rattle.std.proofs.Common.{◌≡◌, ℕ, zero, suc, ◌+◌, ◌<◌, ◌≤◌, Bool, true, false, Option, Some, None, List, [], ◌∷◌, map, refl, sym, ◌∙◌, ap, subst}
-use Rattle.std.proofs.Common.{arith, inl, inr, le_refl, Contains}
+use Rattle.std.proofs.Common.{arith, inl, inr, le_refl, All, Contains}
 use Rattle.std.specs.Prelude.{◌==◌, ◌||◌, slice_index}
 use Rattle.std.specs.List.{find, list_any}
 use Rattle.std.specs.List.Sorted.{IsStrictlyIncreasing}
 use Rattle.std.proofs.lemmas.Bool.{cases_order, cases_eq, eq-eqb, eqb-true, ne_eqb, or_cases, or_left, or_right}
+use Rattle.std.proofs.lemmas.List.Elements.{All-nil, All-cons}
 use Rattle.std.proofs.lemmas.Option.{none-some, same_Some}
 
 module _ {X : Type 0} (key : X → ℕ) where
@@ -62,6 +63,17 @@ module _ {X : Type 0} (key : X → ℕ) where
   pub passing_is_found : (test : X → Bool) (xs : List X) → RisesFrom 0 xs → list_any test xs ≡ true
       → (x : X) × (found (key x) xs ≡ Some x) × (test x ≡ true)
   passing_is_found test xs rises e = (let p = passes_at 0 test xs rises e in (p.element, p.is, p.passes))
+
+  -- what is so of each that is found by its key is so of each
+  all_above : (P : X → Type 0) (n : ℕ) (xs : List X) → RisesFrom n xs → ((f : ℕ) (x : X) → n ≤ f → found f xs ≡ Some x → P x) → All P xs
+  all_above P n [] rises each = All-nil P
+  all_above P n (x ∷ xs) rises each =
+      let low = rises.0 in
+      All-cons P x xs (each (key x) x low (found_first x xs))
+      (all_above P (suc (key x)) xs rises.1 (λ f y above is. each f y (omega arith) (found_rest f x xs (λ same. omega arith) ∙ is)))
+
+  pub all_found : (P : X → Type 0) (xs : List X) → IsStrictlyIncreasing (map key xs) → ((f : ℕ) (x : X) → found f xs ≡ Some x → P x) → All P xs
+  all_found P xs rises each = all_above P 0 xs (rises_from xs rises) (λ f x above. each f x)
 
   -- what is found passes what it passes in the list
   pub found_passes : (f : ℕ) (test : X → Bool) (xs : List X) (x : X) → found f xs ≡ Some x → test x ≡ true → list_any test xs ≡ true

@@ -1,0 +1,9 @@
+pub mod Keys
+pub mod TextRows
+pub mod QueueNames
+pub mod Endings
+pub mod WritableReports
+pub mod Written
+pub mod Taken
+pub mod FirstFault
+pub mod Answered

@@ -1,0 +1,10 @@
+pub mod Script
+pub mod Text
+pub mod Status
+pub mod Refusal
+pub mod Output
+pub mod AnswerFault
+pub mod Input
+pub mod Answer
+pub mod Written
+pub mod Answering

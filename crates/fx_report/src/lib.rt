@@ -1,0 +1,51 @@
+//! Reports of a script's fibers as texts, and what the text of a script is answered with, whatever
+//! made the run: nothing here has a world, a port or a fiber.
+//!
+//! A report has two texts, a line each:
+//!
+//! | text | a line |
+//! |---|---|
+//! | report | a fiber, with how it is at the end; then a queue, with what is left in it |
+//! | traces | an event of a fiber, fiber by fiber |
+//!
+//! The text of a script has one answer, a status and a printed text, or a fault and none:
+//!
+//! | the text | status | what is printed |
+//! |---|---|---|
+//! | is a script, and all fibers ended | [`ENDED`] | the report |
+//! | is a script, and a fiber waits for good | [`BLOCKED`] | the report |
+//! | is refused | [`REFUSED`] | one line, with the fault's kind and byte |
+//!
+//! Its rules:
+//!
+//! 1. What the two texts say of a report is all that it has: they are written of a report that is
+//!    writable. That each lawful one is, is a law, in [`laws`].
+//! 2. A text is made whole before its first byte is written, so at want of memory nothing is.
+//! 3. What was written is the text, or a prefix of it where the writer fails.
+//! 4. Of a text that may be too long one byte more is read than it may have, and no more.
+//! 5. Which reports a script has is for whoever runs it to say: what is proved here of answers holds of
+//!    any such relation, as "the report of this replay" or "some lawful report" ([`Answer`]).
+//!
+//! What never happens: a byte that is of no text; a number of a status or a limit that stands in two
+//! places; a read after the end that was wanted.
+#![tactic(auto)]
+
+mod answer;
+mod answer_fault;
+mod input;
+pub mod laws;
+mod lines;
+mod out_fault;
+mod output;
+mod refusal;
+mod status;
+mod write;
+
+pub use answer::Answer;
+pub use answer_fault::AnswerFault;
+pub use input::{MOST_OF_SCRIPT, read_text};
+pub use out_fault::OutFault;
+pub use output::write_text;
+pub use refusal::format_refusal;
+pub use status::{BLOCKED, ENDED, FAULT, OTHER_WORDS, REFUSED, UNREADABLE, status_after};
+pub use write::{write_report, write_trace};
