@@ -1,9 +1,10 @@
 -- The limits of a text, and of what is made of it.
 use Rattle.std.specs.Prelude.{ℕ, ◌+◌, ◌*◌}
+use Rattle.fx_text.specs.declared.script.TheConstants.{MOST_BYTES}
 
 -- the most bytes of a text
 abbrev pub most_bytes : ℕ
-most_bytes = 65536
+most_bytes = MOST_BYTES
 
 -- the most `(` that may be open inside main, which has the first of 100
 abbrev pub most_open : ℕ

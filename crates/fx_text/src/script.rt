@@ -21,7 +21,7 @@ use fx_term::{Code, CodeFault, Node};
 use std::alloc::Global;
 
 /// The most bytes of a text.
-const MOST_BYTES: usize = 65536;
+const MOST_BYTES: usize = 65_536;
 
 /// The most `(` that may be open inside main, which has the first of 100.
 const MOST_OPEN: usize = 99;
