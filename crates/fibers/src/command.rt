@@ -13,11 +13,10 @@ use crate::files::{FetchFault, Files};
 use crate::perform::perform;
 use crate::texts::{picks_in, script_in};
 use fx_report::{AnswerFault, MOST_OF_SCRIPT, REFUSED, read_text, write_text};
+pub use fx_report::{FAULT, OTHER_WORDS, UNREADABLE};
 use fx_text::{Pick, Script};
 use std::alloc::Global;
 use std::io::Write;
-
-pub use fx_report::{FAULT, OTHER_WORDS, UNREADABLE};
 
 const USAGE: &str =
     "usage: fibers [check F | replay F [SCHEDULE] | trace F [SCHEDULE] | run F WORKERS]";

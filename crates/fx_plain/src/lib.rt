@@ -71,9 +71,10 @@ mod text_replay;
 mod write;
 
 pub use chosen_run::replay;
-pub use fx_report::AnswerFault as PlainFault;
-pub use fx_report::{BLOCKED, ENDED, MOST_OF_SCRIPT, OutFault, REFUSED, format_refusal, read_text};
-pub use fx_report::{status_after, write_report, write_text, write_trace};
+pub use fx_report::{
+    AnswerFault as PlainFault, BLOCKED, ENDED, MOST_OF_SCRIPT, OutFault, REFUSED, format_refusal,
+    read_text, status_after, write_report, write_text, write_trace,
+};
 pub use plain_port::PlainPort;
 pub use plain_world::PlainWorld;
 pub use text_replay::replay_text;

@@ -1,7 +1,6 @@
 -- A lawful report is writable.
 use Rattle.std.proofs.Common.{◌≡◌, ℕ, Bool, Some, List, All, length, sym, ◌∙◌, ap, subst}
 use Rattle.std.proofs.lemmas.List.{length-map}
-use Rattle.fx_term.specs.declared.event.Event.{Event}
 use Rattle.fx_term.specs.QueuesNamed.{NamesQueuesBelow, NamesQueueBelow}
 use Rattle.fx_term.specs.Script.{ScriptView}
 use Rattle.fx_fiber.specs.Origin.{Origin}

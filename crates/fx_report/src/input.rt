@@ -14,7 +14,11 @@ pub const MOST_OF_SCRIPT: usize = 65_537;
 const PIECE: usize = 4096;
 
 /// Reads one piece of the text, of at most `room` bytes, and appends it. An empty one is the end.
-fn read_piece<R: Read>(reader: &mut R, text: &mut Vec<u8>, room: usize) -> Result<usize, AnswerFault>
+fn read_piece<R: Read>(
+    reader: &mut R,
+    text: &mut Vec<u8>,
+    room: usize,
+) -> Result<usize, AnswerFault>
     requires { 0 < room }
     ensures count { IfOk result (λ n. n ≤ room) }
     ensures piece { IfOk result (λ n. TakesPiece
@@ -38,7 +42,11 @@ fn read_piece<R: Read>(reader: &mut R, text: &mut Vec<u8>, room: usize) -> Resul
 
 /// The text that the reader has left: all of it, or its first `most` bytes where it has more. A fault
 /// is `Read` or `Memory`.
-pub fn read_text<R: Read>(alloc: Global, reader: &mut R, most: usize) -> Result<Vec<u8>, AnswerFault>
+pub fn read_text<R: Read>(
+    alloc: Global,
+    reader: &mut R,
+    most: usize,
+) -> Result<Vec<u8>, AnswerFault>
     ensures text { IfOk result
         (λ text. TakesPrefix most (R.remaining reader.old) (R.remaining reader.new) text.items) }
     ensures fault { IfErr result

@@ -1,5 +1,6 @@
 //! Readers and writers that fail.
 use super::*;
+use fx_report::ENDED;
 use std::io;
 use std::test::Fail;
 

@@ -1,4 +1,4 @@
-use Rattle.std.proofs.Common.{◌+◌, ℕ, [], drop, true, arith}
+use Rattle.std.proofs.Common.{◌+◌, [], drop, true, arith}
 use Rattle.std.proofs.lemmas.List.{drop_more, drop_all}
 use Rattle.std.proofs.lemmas.Result.{IfOk-weaker}
 use Rattle.fx_term.proofs.CoreTerms.{code_is_core}
