@@ -9,16 +9,16 @@ use Rattle.fx_report.specs.declared.status.TheConstants.{REFUSED}
 use Rattle.fx_report.specs.Output.{fault_of_writing}
 use Rattle.fx_report.specs.Written.{WritesAnswer}
 use Rattle.fx_report.proofs.Written.{keeps_same}
-use Rattle.fibers.specs.declared.call.Command.{Command}
-use Rattle.fibers.specs.declared.command_fault.Refusal.{Refusal}
-use Rattle.fibers.specs.declared.command_fault.CommandFault.{CommandFault}
-use Rattle.fibers.specs.declared.command_fault.CommandFault.TheVariants.{Refused, Unreadable, Memory, Write}
-use Rattle.fibers.specs.Fetched.{FetchesScript, FetchesSchedule, FetchesNoScript, FetchesNoSchedule}
-use Rattle.fibers.specs.Performed.{Performs}
-use Rattle.fibers.specs.CommandAnswer.{performed, no_script, no_schedule, known_schedule, AnswersTo, Leaves}
-use Rattle.fibers.specs.CommandAnswer.{TellsRefusal, told, Runs, answered}
-use Rattle.fibers.specs.CommandAnswer.TellsRefusal.{not_taken as line_not_taken}
-use Rattle.fibers.specs.CommandAnswer.Runs.{not_taken}
+use Rattle.fx_command.specs.declared.call.Command.{Command}
+use Rattle.fx_command.specs.declared.command_fault.Refusal.{Refusal}
+use Rattle.fx_command.specs.declared.command_fault.CommandFault.{CommandFault}
+use Rattle.fx_command.specs.declared.command_fault.CommandFault.TheVariants.{Refused, Unreadable, Memory, Write}
+use Rattle.fx_command.specs.Fetched.{FetchesScript, FetchesSchedule, FetchesNoScript, FetchesNoSchedule}
+use Rattle.fx_command.specs.Performed.{Performs}
+use Rattle.fx_command.specs.CommandAnswer.{performed, no_script, no_schedule, known_schedule, AnswersTo, Leaves}
+use Rattle.fx_command.specs.CommandAnswer.{TellsRefusal, told, Runs, answered}
+use Rattle.fx_command.specs.CommandAnswer.TellsRefusal.{not_taken as line_not_taken}
+use Rattle.fx_command.specs.CommandAnswer.Runs.{not_taken}
 
 -- some text of which so much is known
 known_or_empty : (known : Option (List ℕ)) → List ℕ

@@ -12,12 +12,12 @@ use Rattle.fx_text.specs.Grammar.{IsScript}
 use Rattle.fx_text.specs.Schedule.{IsSchedule, nothing, schedule_reading}
 use Rattle.fx_report.specs.Answering.{most_read}
 use Rattle.fx_report.proofs.Answered.{read_long}
-use Rattle.fibers.specs.declared.command_fault.CommandFault.{CommandFault}
-use Rattle.fibers.specs.declared.command_fault.CommandFault.TheVariants.{Refused, Unreadable, Memory, Write}
-use Rattle.fibers.specs.CommandFault.{IsRefusal, IsUnreadOrRefusal}
-use Rattle.fibers.specs.Refused.{IsNoScript, IsNoSchedule}
-use Rattle.fibers.specs.Fetched.{IsPrefixOf, OfText, KeepsFiles}
-use Rattle.fibers.specs.CommandAnswer.{known_schedule}
+use Rattle.fx_command.specs.declared.command_fault.CommandFault.{CommandFault}
+use Rattle.fx_command.specs.declared.command_fault.CommandFault.TheVariants.{Refused, Unreadable, Memory, Write}
+use Rattle.fx_command.specs.CommandFault.{IsRefusal, IsUnreadOrRefusal}
+use Rattle.fx_command.specs.Refused.{IsNoScript, IsNoSchedule}
+use Rattle.fx_command.specs.Fetched.{IsPrefixOf, OfText, KeepsFiles}
+use Rattle.fx_command.specs.CommandAnswer.{known_schedule}
 
 -- the text was read whole, or it is too long and so is what was read of it
 same_or_long : (most : ℕ) (text read : List ℕ) → read ≡ take (1 + most) text → (read ≡ text) ⊎ ((most < length read) × (most < length text))

@@ -2,7 +2,7 @@
 use Rattle.std.proofs.Common.{◌≡◌, ℕ, Option, Err, List}
 use Rattle.fx_text.specs.declared.pick.Pick.{Pick}
 use Rattle.fx_text.specs.Meaning.{Meaning}
-use Rattle.fx_fiber.specs.Report.{ReportView}
+use Rattle.fx_model.specs.Report.{ReportView}
 use Rattle.fx_plain.specs.Chosen.{IsReplay}
 use Rattle.fx_report.specs.Script.{script_of}
 use Rattle.fx_report.specs.Text.{queue_names, report_text, trace_text}
@@ -10,9 +10,9 @@ use Rattle.fx_report.specs.Status.{status_of}
 use Rattle.fx_report.specs.declared.out_fault.OutFault.{OutFault}
 use Rattle.fx_report.specs.declared.out_fault.OutFault.TheVariants.{Write, Memory}
 use Rattle.fx_report.specs.Output.{FailsToWrite}
-use Rattle.fibers.specs.declared.call.Command.{Command}
-use Rattle.fibers.specs.declared.call.Command.TheVariants.{Replay, Trace}
-use Rattle.fibers.specs.Performed.{IsPerformed, replayed, traced, Performs}
+use Rattle.fx_command.specs.declared.call.Command.{Command}
+use Rattle.fx_command.specs.declared.call.Command.TheVariants.{Replay, Trace}
+use Rattle.fx_command.specs.Performed.{IsPerformed, replayed, traced, Performs}
 
 pub replayed_with_status : (m : Meaning) (picks : List Pick) (r : ReportView) (status : ℕ) → IsReplay (script_of m) picks r → status ≡ status_of r
     → IsPerformed m picks Replay status (report_text (queue_names m) r)

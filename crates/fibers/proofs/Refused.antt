@@ -9,7 +9,7 @@ use Rattle.fx_text.specs.Grammar.{IsScript}
 use Rattle.fx_text.specs.Schedule.{IsSchedule, schedule_reading}
 use Rattle.fx_report.specs.Refusal.{refusal_text}
 use Rattle.fx_report.proofs.FirstFault.{unless_memory, has_no_meaning}
-use Rattle.fibers.specs.Refused.{IsNoScript, schedule_refusal_text, IsNoSchedule}
+use Rattle.fx_command.specs.Refused.{IsNoScript, schedule_refusal_text, IsNoSchedule}
 
 pub no_script : (text line : List ℕ) (f : TextFault) → (f.kind ≡ kind.Memory → ⊥)
     → ((m : Meaning) → IsScript text m → (f ≡ record { kind = kind.Memory; at = 0 }) ⊎ (◌≡◌ {A = Result Meaning TextFault} (Ok m) (Err f)))

@@ -8,11 +8,11 @@ use Rattle.fx_text.specs.Schedule.{IsSchedule}
 use Rattle.fx_report.specs.declared.status.TheConstants.{OTHER_WORDS, REFUSED, UNREADABLE, FAULT}
 use Rattle.fx_report.specs.Output.{WritesPrefix}
 use Rattle.fx_report.specs.Written.{WritesAnswer, WritesPart}
-use Rattle.fibers.specs.declared.call.Command.{Command}
-use Rattle.fibers.specs.declared.command_fault.CommandFault.{CommandFault}
-use Rattle.fibers.specs.declared.command_fault.CommandFault.TheVariants.{Refused, Unreadable, Memory, Write}
-use Rattle.fibers.specs.Refused.{IsNoScript, IsNoSchedule}
-use Rattle.fibers.specs.Performed.{IsPerformed}
+use Rattle.fx_command.specs.declared.call.Command.{Command}
+use Rattle.fx_command.specs.declared.command_fault.CommandFault.{CommandFault}
+use Rattle.fx_command.specs.declared.command_fault.CommandFault.TheVariants.{Refused, Unreadable, Memory, Write}
+use Rattle.fx_command.specs.Refused.{IsNoScript, IsNoSchedule}
+use Rattle.fx_command.specs.Performed.{IsPerformed}
 
 -- the status and the printed text for a script and a schedule: what was asked for, or one line where one of them is no such text. A schedule is read only
 -- after a script

@@ -1,7 +1,7 @@
 -- Which fault of a command a text has that is not accepted.
 use Rattle.std.specs.Prelude.{ℕ, List, string_bytes}
-use Rattle.fibers.specs.declared.command_fault.CommandFault.{CommandFault}
-use Rattle.fibers.specs.declared.command_fault.CommandFault.TheVariants.{Refused, Unreadable, Memory, Write}
+use Rattle.fx_command.specs.declared.command_fault.CommandFault.{CommandFault}
+use Rattle.fx_command.specs.declared.command_fault.CommandFault.TheVariants.{Refused, Unreadable, Memory, Write}
 
 -- memory ran out, or the text is refused by a line that is right
 abbrev pub IsRefusal : (List ℕ → Type 0) → CommandFault → Type 0

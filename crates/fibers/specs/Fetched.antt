@@ -4,9 +4,9 @@ use Rattle.fx_text.specs.declared.pick.Pick.{Pick}
 use Rattle.fx_text.specs.Meaning.{Meaning}
 use Rattle.fx_text.specs.Grammar.{IsScript}
 use Rattle.fx_text.specs.Schedule.{IsSchedule}
-use Rattle.fibers.specs.declared.command_fault.CommandFault.{CommandFault}
-use Rattle.fibers.specs.CommandFault.{IsUnreadOrRefusal}
-use Rattle.fibers.specs.Refused.{IsNoScript, IsNoSchedule}
+use Rattle.fx_command.specs.declared.command_fault.CommandFault.{CommandFault}
+use Rattle.fx_command.specs.CommandFault.{IsUnreadOrRefusal}
+use Rattle.fx_command.specs.Refused.{IsNoScript, IsNoSchedule}
 
 -- the first bytes of the text of which so much is known, as many as are wanted, or all
 pub record IsPrefixOf (most : ℕ) (known : Option (List ℕ)) (read : List ℕ) : Type 0 where

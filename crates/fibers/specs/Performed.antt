@@ -4,7 +4,7 @@ use Rattle.std.specs.Io.KnownBytes.{Keeps}
 use Rattle.fx_term.specs.Script.{total}
 use Rattle.fx_text.specs.declared.pick.Pick.{Pick}
 use Rattle.fx_text.specs.Meaning.{Meaning}
-use Rattle.fx_fiber.specs.Report.{ReportView}
+use Rattle.fx_model.specs.Report.{ReportView}
 use Rattle.fx_report.specs.declared.out_fault.OutFault.{OutFault}
 use Rattle.fx_report.specs.declared.out_fault.OutFault.TheVariants.{Write, Memory}
 use Rattle.fx_report.specs.declared.status.TheConstants.{ENDED}
@@ -13,8 +13,8 @@ use Rattle.fx_report.specs.Script.{script_of}
 use Rattle.fx_report.specs.Text.{line_end, queue_names, report_text, trace_text}
 use Rattle.fx_report.specs.Status.{status_of}
 use Rattle.fx_report.specs.Written.{WritesAnswer, WritesPart}
-use Rattle.fibers.specs.declared.call.Command.{Command}
-use Rattle.fibers.specs.declared.call.Command.TheVariants.{Check, Replay, Trace}
+use Rattle.fx_command.specs.declared.call.Command.{Command}
+use Rattle.fx_command.specs.declared.call.Command.TheVariants.{Check, Replay, Trace}
 
 -- the line of a check
 abbrev pub counts_text : ℕ → ℕ → List ℕ

@@ -1,11 +1,11 @@
 //! Does what the words after the program's name ask for.
 ghost use Rattle.std.specs.Prelude.{◌≡◌, ◌≢◌, IfSome, IfOk, IfErr, codes, option_map, string_bytes, length};
 ghost use Rattle.fx_text.specs.View.{meaning};
-ghost use Rattle.fibers.specs.CommandFault.{IsUnread};
-ghost use Rattle.fibers.specs.Fetched.{IsPrefixOf, FetchesScript, FetchesNoScript};
-ghost use Rattle.fibers.specs.Fetched.{FetchesSchedule, FetchesNoSchedule, KeepsFiles};
+ghost use Rattle.fx_command.specs.CommandFault.{IsUnread};
+ghost use Rattle.fx_command.specs.Fetched.{IsPrefixOf, FetchesScript, FetchesNoScript};
+ghost use Rattle.fx_command.specs.Fetched.{FetchesSchedule, FetchesNoSchedule, KeepsFiles};
 ghost use Rattle.fx_report.specs.Written.{WritesAnswer};
-ghost use Rattle.fibers.specs.CommandAnswer.{known_schedule, AnswersTo, Leaves, TellsRefusal, Runs};
+ghost use Rattle.fx_command.specs.CommandAnswer.{known_schedule, AnswersTo, Leaves, TellsRefusal, Runs};
 
 use crate::call::Call;
 use crate::command_fault::{CommandFault, Refusal};

@@ -30,7 +30,7 @@ pub(crate) enum CommandFault<'a> {
 }
 
 impl From<AllocError> for CommandFault<'_> {
-    ghost use Rattle.fibers.specs.declared.command_fault.CommandFault.TheVariants.{Memory};
+    ghost use Rattle.fx_command.specs.declared.command_fault.CommandFault.TheVariants.{Memory};
 
     ghost from_gives = { λ _ fault. fault ≡ Memory };
 
@@ -41,7 +41,7 @@ impl From<AllocError> for CommandFault<'_> {
 
 impl From<OutFault> for CommandFault<'_> {
     ghost use Rattle.fx_report.specs.Output.{fault_of_writing};
-    ghost use Rattle.fibers.specs.declared.command_fault.CommandFault.TheVariants.{Memory, Write};
+    ghost use Rattle.fx_command.specs.declared.command_fault.CommandFault.TheVariants.{Memory, Write};
 
     ghost from_gives = { λ fault made. made ≡ fault_of_writing Write Memory fault };
 

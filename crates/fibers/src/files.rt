@@ -16,7 +16,7 @@ pub enum FetchFault {
 }
 
 impl FetchFault {
-    ghost use Rattle.fibers.specs.FetchFault.{fetch_fault_number};
+    ghost use Rattle.fx_command.specs.FetchFault.{fetch_fault_number};
 
     /// Its number, which never changes.
     pub fn number(&self) -> u8

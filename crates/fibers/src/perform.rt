@@ -1,8 +1,8 @@
 //! Does with a script what is asked, and prints it.
 ghost use Rattle.std.specs.Prelude.{◌≡◌, ◌≤◌, IfOk, length, string_bytes};
 ghost use Rattle.fx_text.specs.View.{meaning};
-ghost use Rattle.fibers.specs.declared.call.Command.TheVariants as command;
-ghost use Rattle.fibers.specs.Performed.{counts_text, check_text, Performs};
+ghost use Rattle.fx_command.specs.declared.call.Command.TheVariants as command;
+ghost use Rattle.fx_command.specs.Performed.{counts_text, check_text, Performs};
 
 use crate::call::Command;
 use fx_plain::replay;

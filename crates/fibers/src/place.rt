@@ -1,6 +1,6 @@
 //! Where a byte of a text stands.
 ghost use Rattle.std.specs.Prelude.{◌≡◌};
-ghost use Rattle.fibers.specs.Place.{line_after, column_after};
+ghost use Rattle.fx_command.specs.Place.{line_after, column_after};
 
 /// A line and a column, both from 1. A column is a byte.
 #[derive(Clone, Copy, PartialEq, Eq, Debug)]

@@ -4,8 +4,8 @@ ghost use Rattle.fx_text.specs.Grammar.{IsScript};
 ghost use Rattle.fx_text.specs.Schedule.{IsSchedule};
 ghost use Rattle.fx_text.specs.View.{meaning};
 ghost use Rattle.fx_report.specs.Refusal.{refusal_text};
-ghost use Rattle.fibers.specs.CommandFault.{IsRefusal};
-ghost use Rattle.fibers.specs.Refused.{IsNoScript, schedule_refusal_text, IsNoSchedule};
+ghost use Rattle.fx_command.specs.CommandFault.{IsRefusal};
+ghost use Rattle.fx_command.specs.Refused.{IsNoScript, schedule_refusal_text, IsNoSchedule};
 
 use crate::command_fault::{CommandFault, Refusal};
 use crate::explain::explain;

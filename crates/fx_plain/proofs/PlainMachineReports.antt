@@ -8,7 +8,7 @@ use Rattle.fx_term.specs.declared.node.Node.{Node}
 use Rattle.fx_term.specs.declared.item.Item.{Item}
 use Rattle.fx_term.specs.Script.{ScriptView, total}
 use Rattle.fx_fiber.specs.Fiber.{has_ended}
-use Rattle.fx_fiber.specs.Report.{FiberReportView, ReportView}
+use Rattle.fx_model.specs.Report.{FiberReportView, ReportView}
 use Rattle.fx_text.specs.declared.pick.Pick.{Pick}
 use Rattle.fx_plain.specs.declared.plain_machine.Started.{Started}
 use Rattle.fx_plain.specs.declared.plain_machine.PlainMachine.{PlainMachine}

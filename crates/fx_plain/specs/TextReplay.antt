@@ -1,6 +1,6 @@
 -- What a replay does to the bytes that its reader has left and its writer holds, each where they are known.
 use Rattle.std.specs.Prelude.{ℕ, Option, Result, List}
-use Rattle.fx_fiber.specs.Report.{ReportView}
+use Rattle.fx_model.specs.Report.{ReportView}
 use Rattle.fx_text.specs.declared.pick.Pick.{Pick}
 use Rattle.fx_text.specs.Meaning.{Meaning}
 use Rattle.fx_report.specs.declared.answer_fault.AnswerFault.{AnswerFault}

@@ -10,7 +10,7 @@ use Rattle.fx_text.specs.Limits.{most_bytes}
 use Rattle.fx_text.specs.Meaning.{Meaning}
 use Rattle.fx_text.specs.Reading.{reading}
 use Rattle.fx_text.specs.Grammar.{IsScript}
-use Rattle.fx_fiber.specs.Report.{ReportView}
+use Rattle.fx_model.specs.Report.{ReportView}
 use Rattle.fx_report.specs.declared.answer_fault.AnswerFault.TheVariants.{Memory}
 use Rattle.fx_report.specs.declared.status.TheConstants.{REFUSED}
 use Rattle.fx_report.specs.Text.{queue_names, report_text}

@@ -3,11 +3,11 @@ use Rattle.std.proofs.Common.{◌≡◌, ℕ, Bool, Some, List, All, length, sym
 use Rattle.std.proofs.lemmas.List.{length-map}
 use Rattle.fx_term.specs.QueuesNamed.{NamesQueuesBelow, NamesQueueBelow}
 use Rattle.fx_term.specs.Script.{ScriptView}
-use Rattle.fx_fiber.specs.Origin.{Origin}
-use Rattle.fx_fiber.specs.Report.{FiberReportView, ReportView, fiber_in}
-use Rattle.fx_fiber.specs.LawfulReport.{IsLawfulReport}
-use Rattle.fx_fiber.proofs.HeadlineLaws.{each_begins_so}
-use Rattle.fx_fiber.proofs.QueueNames.{run_starts_named, run_names}
+use Rattle.fx_model.specs.Origin.{Origin}
+use Rattle.fx_model.specs.Report.{FiberReportView, ReportView, fiber_in}
+use Rattle.fx_model.specs.LawfulReport.{IsLawfulReport}
+use Rattle.fx_model.proofs.HeadlineLaws.{each_begins_so}
+use Rattle.fx_model.proofs.QueueNames.{run_starts_named, run_names}
 use Rattle.fx_text.specs.Meaning.{Meaning}
 use Rattle.fx_report.specs.Script.{script_of}
 use Rattle.fx_report.specs.Text.{queue_names, ends, IsWritableFiber, IsWritable}

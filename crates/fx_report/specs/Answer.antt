@@ -1,6 +1,6 @@
 -- What the text of a script is answered with.
 use Rattle.std.specs.Prelude.{◌≡◌, ℕ, Err, List}
-use Rattle.fx_fiber.specs.Report.{ReportView}
+use Rattle.fx_model.specs.Report.{ReportView}
 use Rattle.fx_text.specs.declared.fault.TextFault.{TextFault}
 use Rattle.fx_text.specs.Meaning.{Meaning}
 use Rattle.fx_text.specs.Reading.{reading}

@@ -1,7 +1,7 @@
 -- What it does to the bytes that a reader has left and a writer holds, each where they are known, to answer the text of a script.
 use Rattle.std.specs.Prelude.{ℕ, ◌+◌, Option, Result, Ok, Err, List}
 use Rattle.std.specs.Io.KnownBytes.{Keeps}
-use Rattle.fx_fiber.specs.Report.{ReportView}
+use Rattle.fx_model.specs.Report.{ReportView}
 use Rattle.fx_text.specs.Limits.{most_bytes}
 use Rattle.fx_text.specs.Meaning.{Meaning}
 use Rattle.fx_report.specs.declared.answer_fault.AnswerFault.{AnswerFault}

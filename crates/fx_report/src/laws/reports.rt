@@ -1,8 +1,8 @@
 //! Laws of reports and their texts.
 ghost use Rattle.std.specs.Prelude.{ℕ, Bool, length};
 ghost use Rattle.fx_term.specs.QueuesNamed.{NamesQueuesBelow};
-ghost use Rattle.fx_fiber.specs.Report.{ReportView};
-ghost use Rattle.fx_fiber.specs.LawfulReport.{IsLawfulReport};
+ghost use Rattle.fx_model.specs.Report.{ReportView};
+ghost use Rattle.fx_model.specs.LawfulReport.{IsLawfulReport};
 ghost use Rattle.fx_text.specs.Meaning.{Meaning};
 ghost use Rattle.fx_report.specs.Script.{script_of};
 ghost use Rattle.fx_report.specs.Text.{queue_names, IsWritable};

@@ -1,7 +1,7 @@
 use Rattle.std.proofs.lemmas.Result.{err_from_is_err_and}
-use Rattle.fibers.proofs.Fetched.{schedule_kept}
-use Rattle.fibers.proofs.CommandAnswer.{leaves_no_script, leaves_no_schedule, leaves_unwritten, writes_answer}
-use Rattle.fibers.proofs.command.answer.Goals as goal
+use Rattle.fx_command.proofs.Fetched.{schedule_kept}
+use Rattle.fx_command.proofs.CommandAnswer.{leaves_no_script, leaves_no_schedule, leaves_unwritten, writes_answer}
+use Rattle.fx_command.proofs.command.answer.Goals as goal
 
 pub returns-in_err-script-clause-fault : goal.returns-in_err-script-clause-fault
 returns-in_err-script-clause-fault g c =

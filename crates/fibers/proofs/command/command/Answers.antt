@@ -1,8 +1,8 @@
 use Rattle.std.proofs.Common.{option_map}
 use Rattle.fx_report.proofs.Written.{keeps_same}
-use Rattle.fibers.specs.CommandAnswer.Runs.{other_words, answered, unreadable, no_memory, not_taken}
-use Rattle.fibers.proofs.CommandAnswer.{refusal_runs}
-use Rattle.fibers.proofs.command.command.Goals as goal
+use Rattle.fx_command.specs.CommandAnswer.Runs.{other_words, answered, unreadable, no_memory, not_taken}
+use Rattle.fx_command.proofs.CommandAnswer.{refusal_runs}
+use Rattle.fx_command.proofs.command.command.Goals as goal
 
 pub returns-in_default : goal.returns-in_default
 returns-in_default g c = other_words (keeps_same _)

@@ -1,8 +1,8 @@
 use Rattle.std.proofs.Common.{[], refl}
 use Rattle.fx_text.specs.Schedule.{IsSchedule}
-use Rattle.fibers.specs.Refused.{IsNoSchedule}
-use Rattle.fibers.proofs.Fetched.{most_of_schedule, if_fetched, if_not_fetched, schedule_of_prefix, no_schedule_of_prefix, empty_schedule}
-use Rattle.fibers.proofs.command.schedule_of.Goals as goal
+use Rattle.fx_command.specs.Refused.{IsNoSchedule}
+use Rattle.fx_command.proofs.Fetched.{most_of_schedule, if_fetched, if_not_fetched, schedule_of_prefix, no_schedule_of_prefix, empty_schedule}
+use Rattle.fx_command.proofs.command.schedule_of.Goals as goal
 
 pub returns-in_default-clause-found : goal.returns-in_default-clause-found
 returns-in_default-clause-found g c = rw (c.in_default.is, c.new.ensures.items) (record { text = []; is = refl; holds = empty_schedule })

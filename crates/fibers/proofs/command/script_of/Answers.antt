@@ -1,9 +1,9 @@
 use Rattle.fx_text.specs.Grammar.{IsScript}
 use Rattle.fx_text.specs.View.{meaning}
 use Rattle.fx_report.specs.Answering.{most_read}
-use Rattle.fibers.specs.Refused.{IsNoScript}
-use Rattle.fibers.proofs.Fetched.{if_fetched, if_not_fetched, script_of_prefix, no_script_of_prefix}
-use Rattle.fibers.proofs.command.script_of.Goals as goal
+use Rattle.fx_command.specs.Refused.{IsNoScript}
+use Rattle.fx_command.proofs.Fetched.{if_fetched, if_not_fetched, script_of_prefix, no_script_of_prefix}
+use Rattle.fx_command.proofs.command.script_of.Goals as goal
 
 pub returns-clause-found : goal.returns-clause-found
 returns-clause-found g c =

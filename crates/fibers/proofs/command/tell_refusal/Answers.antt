@@ -1,5 +1,5 @@
-use Rattle.fibers.specs.CommandAnswer.TellsRefusal.{told, not_taken}
-use Rattle.fibers.proofs.command.tell_refusal.Goals as goal
+use Rattle.fx_command.specs.CommandAnswer.TellsRefusal.{told, not_taken}
+use Rattle.fx_command.proofs.command.tell_refusal.Goals as goal
 
 pub returns-in-Ok : goal.returns-in-Ok
 returns-in-Ok g c = told (rw c.as_bytes.ensures.value at c.in-Ok.ensures.whole)

@@ -1,7 +1,7 @@
 use Rattle.std.proofs.lemmas.Result.{err_from_is_err_and}
-use Rattle.fibers.specs.Performed.{checked}
-use Rattle.fibers.proofs.Performed.{fails_to_perform}
-use Rattle.fibers.proofs.perform.check.Goals as goal
+use Rattle.fx_command.specs.Performed.{checked}
+use Rattle.fx_command.proofs.Performed.{fails_to_perform}
+use Rattle.fx_command.proofs.perform.check.Goals as goal
 
 pub returns-in_err-write_text : goal.returns-in_err-write_text
 returns-in_err-write_text g c =

@@ -1,5 +1,5 @@
 use Rattle.std.proofs.lemmas.List.{length-map}
-use Rattle.fibers.proofs.perform.format_check.Goals as goal
+use Rattle.fx_command.proofs.perform.format_check.Goals as goal
 
 pub returns : goal.returns
 returns c =

@@ -1,7 +1,7 @@
 use Rattle.std.proofs.lemmas.Result.{err_from_is_err_and}
-use Rattle.fibers.specs.Performed.{replayed}
-use Rattle.fibers.proofs.Performed.{replayed_with_status, fails_to_perform}
-use Rattle.fibers.proofs.perform.report.Goals as goal
+use Rattle.fx_command.specs.Performed.{replayed}
+use Rattle.fx_command.proofs.Performed.{replayed_with_status, fails_to_perform}
+use Rattle.fx_command.proofs.perform.report.Goals as goal
 
 pub returns-in_err-write_report : goal.returns-in_err-write_report
 returns-in_err-write_report g c =

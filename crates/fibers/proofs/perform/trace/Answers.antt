@@ -1,7 +1,7 @@
 use Rattle.std.proofs.lemmas.Result.{err_from_is_err_and}
-use Rattle.fibers.specs.Performed.{traced}
-use Rattle.fibers.proofs.Performed.{traced_with_status, fails_to_perform}
-use Rattle.fibers.proofs.perform.trace.Goals as goal
+use Rattle.fx_command.specs.Performed.{traced}
+use Rattle.fx_command.proofs.Performed.{traced_with_status, fails_to_perform}
+use Rattle.fx_command.proofs.perform.trace.Goals as goal
 
 pub returns-in_err-write_trace : goal.returns-in_err-write_trace
 returns-in_err-write_trace g c =

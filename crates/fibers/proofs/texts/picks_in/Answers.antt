@@ -1,6 +1,6 @@
 use Rattle.std.proofs.lemmas.Result.{err_from_is_err_and}
-use Rattle.fibers.proofs.Refused.{no_schedule}
-use Rattle.fibers.proofs.texts.picks_in.Goals as goal
+use Rattle.fx_command.proofs.Refused.{no_schedule}
+use Rattle.fx_command.proofs.texts.picks_in.Goals as goal
 
 pub returns-in_err-schedule_refusal-in_default : goal.returns-in_err-schedule_refusal-in_default
 returns-in_err-schedule_refusal-in_default c =

@@ -1,6 +1,6 @@
 use Rattle.std.proofs.lemmas.Result.{err_from_is_err_and}
-use Rattle.fibers.proofs.Refused.{no_script}
-use Rattle.fibers.proofs.texts.script_in.Goals as goal
+use Rattle.fx_command.proofs.Refused.{no_script}
+use Rattle.fx_command.proofs.texts.script_in.Goals as goal
 
 pub returns-in_err-script_refusal-in_default : goal.returns-in_err-script_refusal-in_default
 returns-in_err-script_refusal-in_default c =

@@ -1,5 +1,5 @@
 use Rattle.std.proofs.Common.{◌-◌, ◌≤◌, length}
-use Rattle.fibers.proofs.open_groups.OpenGroups.after.Given as goal
+use Rattle.fx_command.proofs.open_groups.OpenGroups.after.Given as goal
 
 abbrev pub invariant-loop-at : goal.invariant-loop-at
 invariant-loop-at l = l.at ≤ length l.before
