@@ -12,7 +12,7 @@ use Rattle.fx_fiber.specs.Step.{Progress, Step}
 use Rattle.fx_fiber.specs.Step as step
 use Rattle.fx_fiber.specs.Run.{first_counts, Leads, IsRun, events}
 use Rattle.fx_fiber.specs.Balanced.{acquired_number, acquired_numbers}
-use Rattle.fx_fiber.proofs.Keeping.{events_append}
+use Rattle.fx_fiber.proofs.Runs.{events_append}
 
 -- the labels acquire the numbers from the one count to below the other
 record IsNumbered (ls : List Label) (c d : Counts) : Type 0 where

@@ -12,7 +12,7 @@ use Rattle.fx_fiber.specs.Run.{first_counts, Leads, IsRun, events}
 use Rattle.fx_fiber.specs.Balanced.{acquired_numbers, IsBalanced, IsBalancedSoFar, nothing}
 use Rattle.fx_fiber.proofs.AcquiredNumbers.{acquired_in_order, range_is_distinct}
 use Rattle.fx_fiber.proofs.HeldResources.{Held, BeingReleased, held_for, held_at, core_holds_none, held_by_clean_ups}
-use Rattle.fx_fiber.proofs.Keeping.{events_append}
+use Rattle.fx_fiber.proofs.Runs.{events_append}
 use Rattle.fx_fiber.proofs.Nesting.{LeadsTo, Changes, changes_inside, changes_lead, releases, released_acquires_same, released_is_nested}
 use Rattle.fx_fiber.proofs.CancelledSteps.{must_is_paired}
 use Rattle.fx_fiber.proofs.PairedMasks.{paired_has_no_seal}

@@ -8,7 +8,6 @@ use Rattle.fx_term.specs.Need.{need}
 use Rattle.fx_fiber.specs.Origin.{Origin, main_origin, origin_of, main_begin_of}
 use Rattle.fx_term.specs.Code.{IsCode}
 use Rattle.fx_fiber.specs.Step.{Runs}
-use Rattle.fx_fiber.specs.Sound.{IsSoundBegin}
 use Rattle.fx_fiber.specs.Work.{work_left}
 use Rattle.fx_term.proofs.FillNothing.{fill_none}
 use Rattle.fx_fiber.specs.Scopes.{IsScopedOver}
@@ -22,16 +21,6 @@ main_begins nodes = ap of_term (fill_none [] (root_term nodes))
   where
     of_term : Term → Origin
     of_term t = record { term = t; next = 1; end = 1 + need (root_term nodes) }
-
--- where it begins no name is in scope
-pub main_begins_soundly : {queues : ℕ} (nodes : List Node) → IsCode queues nodes → IsSoundBegin nodes (main_begin_of nodes)
-main_begins_soundly [] code = absurd (code.tree.some_node refl)
-main_begins_soundly (n ∷ nodes) code = record {
-  tree = code.tree.forest.before;
-  bound = 0;
-  fits = omega arith;
-  node = record { number = omega arith; levels = code.scope.levels };
-}
 
 -- its work can be counted
 pub main_work_fits : {queues : ℕ} (nodes : List Node) → IsCode queues nodes → work_left (Runs (origin_of nodes (main_begin_of nodes)).term) < 2 ^ 63

@@ -4,8 +4,7 @@ use Rattle.fx_term.specs.declared.event.Event.{Event}
 use Rattle.fx_term.specs.declared.event.Event.TheVariants as event
 use Rattle.fx_term.specs.declared.outcome.Outcome.{Outcome}
 use Rattle.fx_fiber.specs.Row.{Counts, Label, Shows}
-use Rattle.fx_fiber.specs.Step.{Progress, Step, row, cleans}
-use Rattle.fx_fiber.specs.Fiber.{has_ended}
+use Rattle.fx_fiber.specs.Step.{Progress, has_ended, Step, row, cleans}
 use Rattle.fx_fiber.proofs.RowLabels.{IsLabelOfRow, row_label}
 
 -- the step with this label is the last

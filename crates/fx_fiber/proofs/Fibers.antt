@@ -24,10 +24,9 @@ use Rattle.fx_fiber.specs.declared.machine.unwound.Unwound.{Unwound}
 use Rattle.fx_fiber.specs.declared.machine.Machine.{Machine}
 use Rattle.fx_fiber.specs.Path.{is_open, must_cancel}
 use Rattle.fx_fiber.specs.Row.{Shows, Learns, part_after, joined, request, awaited, first_left, first_right}
-use Rattle.fx_fiber.specs.Step.{Progress, leaf_at, must_cancel_at, Step, row, cleans}
+use Rattle.fx_fiber.specs.Step.{Progress, leaf_at, must_cancel_at, looks_first, Step, row, cleans}
 use Rattle.fx_fiber.specs.Fiber.{is_fiber_number}
 use Rattle.fx_fiber.specs.Scopes.{IsArgGiven, IsProgressScopedOver}
-use Rattle.fx_fiber.specs.MakesStep.{looks_first}
 use Rattle.fx_fiber.specs.declared.source.Source.TheVariants.{Either}
 use Rattle.fx_fiber.specs.Waiting.{wait_at}
 use Rattle.fx_fiber.specs.declared.source.Source.TheVariants as waiting_for

@@ -6,9 +6,8 @@ use Rattle.fx_term.specs.declared.outcome.Outcome.{Outcome}
 use Rattle.fx_term.specs.Forms.{IsCore}
 use Rattle.fx_fiber.specs.Row.{Counts, Label, Starts}
 use Rattle.fx_fiber.specs.Origin.{Origin}
-use Rattle.fx_fiber.specs.Step.{Progress, Runs, Unwinds, CleansUp, HasEnded}
+use Rattle.fx_fiber.specs.Step.{Progress, Runs, Unwinds, CleansUp, HasEnded, has_ended}
 use Rattle.fx_fiber.specs.Run.{first_counts, IsRun, events}
-use Rattle.fx_fiber.specs.Fiber.{has_ended}
 use Rattle.fx_fiber.specs.Outside.{outcome_at}
 use Rattle.fx_fiber.proofs.BalancedRuns.{ended_run_is_balanced}
 use Rattle.fx_fiber.proofs.CancelledSteps.{cancels_where_opened}

@@ -1,6 +1,7 @@
 pub mod Paths
 pub mod RowLabels
 pub mod Cleanups
+pub mod Runs
 pub mod Work
 pub mod WorkOfCode
 pub mod Contexts

@@ -21,7 +21,8 @@ use Rattle.fx_fiber.specs.Sound.{closed_outside, AreClosedBy, IsSound, IsSoundMa
 use Rattle.fx_fiber.specs.Methods.{IsEntered, IsGoing, IsSame, must_cancel_machine, is_open_machine, label_of, IsRuleMade, IsOwnMade, Told, Asks}
 use Rattle.fx_fiber.specs.Calls.{PortCalls}
 use Rattle.fx_fiber.specs.declared.stepped.Stepped.{Stepped}
-use Rattle.fx_fiber.specs.MakesStep.{looks_first, LooksInVain, Calls}
+use Rattle.fx_fiber.specs.MakesStep.{LooksInVain, Calls}
+use Rattle.fx_fiber.specs.Step.{looks_first}
 use Rattle.fx_fiber.proofs.Contexts.{open_within, must_within, clean_up_is_closed}
 use Rattle.fx_fiber.proofs.Rules.{IsLeafTerm}
 use Rattle.fx_fiber.proofs.Nodes.{leaf_of_focus}

@@ -6,7 +6,7 @@ use Rattle.fx_term.specs.Term.{Term, Let, Handle, OnCancel, Bracket, Masked, Ope
 use Rattle.fx_mask.specs.Closing.{Closing, Region, Seal, without_region, is_none_closed}
 use Rattle.fx_fiber.specs.Path.{closed_regions, is_open}
 use Rattle.fx_fiber.specs.PairedMasks.{Mark, Closes, Opens, Seals, marks, IsPaired, nothing, idle, pair, appended}
-use Rattle.fx_fiber.proofs.Contexts.{without_innermost}
+use Rattle.fx_mask.proofs.Closing.{without_innermost}
 
 -- what is closed inside these marks
 abbrev closed_inside : List Closing → List Mark → List Closing

@@ -21,7 +21,8 @@ use Rattle.fx_fiber.specs.declared.machine.focus.Focus.TheVariants.{Eval, Return
 use Rattle.fx_fiber.specs.declared.machine.Machine.{Machine}
 use Rattle.fx_fiber.specs.declared.source.Source.{Source}
 use Rattle.fx_fiber.specs.declared.source.Source.TheVariants.{Room, Element}
-use Rattle.fx_fiber.specs.Waiting.{wait_at, value_offered}
+use Rattle.fx_fiber.specs.Waiting.{wait_at}
+use Rattle.fx_fiber.specs.MakesStep.{value_offered}
 use Rattle.fx_fiber.specs.Machine.{filled, waiting, progress_at, progress_of, counts_of}
 use Rattle.fx_fiber.specs.Sound.{IsNode, IsBound, IsSound, IsSoundMachine}
 use Rattle.fx_fiber.specs.Methods.{WaitsFor, IsSame, IsEvaluating, IsLeafNode, must_cancel_machine}

@@ -1,9 +1,8 @@
 -- The numbers that a fiber has left for the fibers that it starts.
 use Rattle.std.proofs.Common.{◌≡◌, Bool, true, false, refl}
 use Rattle.fx_term.specs.Term.{Term}
-use Rattle.fx_fiber.specs.Row.{Counts, Label, Starts, Row, start, inside}
+use Rattle.fx_fiber.specs.Row.{Counts, range_of, Label, Starts, Row, start, inside}
 use Rattle.fx_fiber.specs.Step.{Progress, Step, row, cleans}
-use Rattle.fx_fiber.specs.Calls.{range_of}
 
 -- the step with this label starts a fiber
 abbrev pub starts : Label → Bool

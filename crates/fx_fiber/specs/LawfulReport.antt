@@ -11,10 +11,9 @@ use Rattle.fx_term.specs.Script.{ScriptView, total}
 use Rattle.fx_term.specs.Queue.{Leaves, cut, queue_events}
 use Rattle.fx_fiber.specs.Row.{Counts, Label, Shows, Learns, Starts}
 use Rattle.fx_fiber.specs.Origin.{Origin}
-use Rattle.fx_fiber.specs.Step.{Progress}
+use Rattle.fx_fiber.specs.Step.{Progress, has_ended}
 use Rattle.fx_fiber.specs.Run.{IsRun, events}
 use Rattle.fx_fiber.specs.Origin.{main_origin}
-use Rattle.fx_fiber.specs.Fiber.{has_ended}
 use Rattle.fx_fiber.specs.Outside.{can_step}
 use Rattle.fx_fiber.specs.Report.{FiberReportView, ReportView, fiber_in, parent_in, trace_in, left_in, is_requested_in, final_outside}
 

@@ -23,6 +23,15 @@ pub record Counts : Type 0 where
   pub end : ℕ
   pub known : Bool
 
+-- the numbers from `next` to below `end`
+pub record Range : Type 0 where
+  pub next : ℕ
+  pub end : ℕ
+
+-- those that a fiber has left for the fibers that it starts
+abbrev pub range_of : Counts → Range
+range_of c = record { next = c.next; end = c.end }
+
 -- what a step shows of itself: nothing; an event; an event for which a fiber had to have ended, with that outcome; or the start of a fiber
 pub data Label : Type 0 where
   Silent : Label

@@ -1,5 +1,5 @@
 -- The steps of a fiber: cancellation, a request that is seen, the table, the ends, and unwinding.
-use Rattle.std.specs.Prelude.{◌≡◌, ℕ, Bool, true, false, not, Option, Some, None, List, [], ◌∷◌}
+use Rattle.std.specs.Prelude.{◌≡◌, ℕ, Bool, true, false, ◌&&◌, not, Option, Some, None, List, [], ◌∷◌}
 use Rattle.fx_term.specs.declared.done.Done.{Done}
 use Rattle.fx_term.specs.declared.done.Done.TheVariants.{Val, Err}
 use Rattle.fx_term.specs.declared.outcome.Outcome.{Outcome}
@@ -36,10 +36,20 @@ leaf_at (Runs t) = Some (leaf t)
 leaf_at (CleansUp k t rest) = Some (leaf t)
 leaf_at _ = None
 
+-- the fiber has ended
+abbrev pub has_ended : Progress → Bool
+has_ended (HasEnded o) = true
+has_ended _ = false
+
 -- cancellation is the one rule
 abbrev pub must_cancel_at : Bool → Progress → Bool
 must_cancel_at known (Runs t) = must_cancel known t
 must_cancel_at known _ = false
+
+-- a look comes before the table and the ends: at an open position where cancellation is not the one rule
+abbrev pub looks_first : Bool → Progress → Bool
+looks_first known (Runs t) = is_open t && not (must_cancel known t)
+looks_first known _ = false
 
 -- A step of a fiber. The answers of the outside are read from the labels
 pub data Step (c : Counts) : Progress → Label → Counts → Progress → Type 0 where

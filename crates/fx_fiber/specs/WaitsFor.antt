@@ -1,8 +1,7 @@
 -- That a fiber waits for something, and whether that has come.
 use Rattle.std.specs.Prelude.{◌≡◌, ◌||◌, Bool, true, false, is_some, Some, option_and_then}
 use Rattle.fx_fiber.specs.Row.{Counts}
-use Rattle.fx_fiber.specs.Step.{Progress, leaf_at, must_cancel_at}
-use Rattle.fx_fiber.specs.MakesStep.{looks_first}
+use Rattle.fx_fiber.specs.Step.{Progress, leaf_at, must_cancel_at, looks_first}
 use Rattle.fx_fiber.specs.Outside.{Outside}
 use Rattle.fx_fiber.specs.declared.source.Source.{Source}
 use Rattle.fx_fiber.specs.declared.source.Source.TheVariants.{Nothing, Outcome, Either, Room, Element}

@@ -61,10 +61,10 @@ impl<P: Port> Fiber<P> {
     ghost use Rattle.fx_fiber.specs.Bare.{IsFirstBare};
     ghost use Rattle.fx_fiber.specs.Scopes.{IsScopedOver};
     ghost use Rattle.fx_fiber.specs.NeedLeft.{HasRoom};
-    ghost use Rattle.fx_fiber.specs.Fiber.{is_fiber_number, IsAtFirst, IsLawful, IsUnchanged, progress, has_ended};
+    ghost use Rattle.fx_fiber.specs.Fiber.{is_fiber_number, IsAtFirst, IsLawful, IsUnchanged, progress};
     ghost use Rattle.fx_fiber.specs.MakesStep.{DoesStep};
     ghost use Rattle.std.specs.Prelude.{option_and_then};
-    ghost use Rattle.fx_fiber.specs.Step.{Runs, leaf_at};
+    ghost use Rattle.fx_fiber.specs.Step.{Runs, leaf_at, has_ended};
     ghost use Rattle.fx_fiber.specs.Waiting.{wait_at};
     ghost use Rattle.fx_fiber.specs.Outside.{can_step};
     ghost use Rattle.fx_fiber.specs.Closed.{outside_of};

@@ -9,9 +9,8 @@ use Rattle.fx_term.specs.declared.event.Event.{Event}
 use Rattle.fx_term.specs.declared.event.Event.TheVariants as event
 use Rattle.fx_fiber.specs.Row.{Counts, Label}
 use Rattle.fx_fiber.specs.Origin.{Origin}
-use Rattle.fx_fiber.specs.Step.{Progress, Runs, Unwinds, CleansUp, HasEnded}
+use Rattle.fx_fiber.specs.Step.{Progress, Runs, Unwinds, CleansUp, HasEnded, has_ended}
 use Rattle.fx_fiber.specs.Run.{IsRun, events}
-use Rattle.fx_fiber.specs.Fiber.{has_ended}
 use Rattle.fx_fiber.specs.Outside.{outcome_at}
 use Rattle.fx_fiber.specs.Report.{outcome_shown}
 use Rattle.fx_fiber.specs.LawfulReport.{EndsWith}

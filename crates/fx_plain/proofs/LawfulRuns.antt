@@ -11,10 +11,9 @@ use Rattle.fx_term.specs.declared.outcome.Outcome.{Outcome}
 use Rattle.fx_term.specs.declared.event.Event.TheVariants as event
 use Rattle.fx_fiber.specs.Row.{Counts, Label, Silent, Shows, Learns, Starts}
 use Rattle.fx_fiber.specs.Origin.{Origin}
-use Rattle.fx_fiber.specs.Step.{Progress, HasEnded}
+use Rattle.fx_fiber.specs.Step.{Progress, HasEnded, has_ended}
 use Rattle.fx_fiber.specs.Run.{events, first_counts}
 use Rattle.fx_fiber.specs.Origin.{main_origin}
-use Rattle.fx_fiber.specs.Fiber.{has_ended}
 use Rattle.fx_text.specs.declared.pick.Pick.{Pick}
 use Rattle.fx_term.specs.declared.item.Item.{Item}
 use Rattle.fx_term.specs.Queue.{queue_events}

@@ -11,12 +11,12 @@ use Rattle.fx_term.specs.Queue.{values_put}
 use Rattle.fx_term.specs.Script.{ScriptView, total}
 use Rattle.fx_fiber.specs.Row.{Counts, Label, Starts}
 use Rattle.fx_fiber.specs.Origin.{Origin, origin_of}
-use Rattle.fx_fiber.specs.Step.{Progress, leaf_at, Step}
+use Rattle.fx_fiber.specs.Step.{Progress, leaf_at, looks_first, Step}
 use Rattle.fx_fiber.specs.Run.{events}
 use Rattle.fx_fiber.specs.Fiber.{FiberView, progress}
 use Rattle.fx_fiber.specs.declared.stepped.Stepped.{Stepped}
-use Rattle.fx_fiber.specs.MakesStep.{looks_first, Calls, MakesStep}
-use Rattle.fx_fiber.proofs.Keeping.{events_append}
+use Rattle.fx_fiber.specs.MakesStep.{Calls, MakesStep}
+use Rattle.fx_fiber.proofs.Runs.{events_append}
 use Rattle.fx_fiber.proofs.StepLabels.{step_tells}
 use Rattle.fx_plain.specs.declared.plain_machine.Started.{Started}
 use Rattle.fx_plain.specs.declared.plain_machine.PlainMachine.{PlainMachine}

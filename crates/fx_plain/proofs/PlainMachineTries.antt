@@ -19,8 +19,8 @@ use Rattle.fx_fiber.specs.Fiber.{FiberView, progress, IsAtFirst}
 use Rattle.fx_fiber.specs.declared.source.Source.{Source}
 use Rattle.fx_fiber.specs.declared.stepped.Stepped.{Stepped}
 use Rattle.fx_fiber.specs.declared.stepped.Stepped.TheVariants.{Went, Child, Waits, Gave, Ended}
-use Rattle.fx_fiber.specs.Waiting.{wait_at, value_offered}
-use Rattle.fx_fiber.specs.MakesStep.{is_yielding, AnswersSilently, Answers, StartsChild, Tells, MakesStep, OnlyWaits, DoesStep}
+use Rattle.fx_fiber.specs.Waiting.{wait_at}
+use Rattle.fx_fiber.specs.MakesStep.{is_yielding, value_offered, AnswersSilently, Answers, StartsChild, Tells, MakesStep, OnlyWaits, DoesStep}
 use Rattle.fx_plain.specs.declared.class.Class.TheVariants as class
 use Rattle.fx_plain.specs.declared.plain_machine.Started.{Started}
 use Rattle.fx_plain.specs.declared.plain_machine.PlainMachine.{PlainMachine}

@@ -8,7 +8,7 @@ use Rattle.fx_fiber.specs.Row.{Counts, Label, Silent, Shows, Learns, Starts}
 use Rattle.fx_fiber.specs.Origin.{main_origin}
 use Rattle.fx_fiber.specs.Step.{Progress, Step}
 use Rattle.fx_fiber.specs.Run.{events}
-use Rattle.fx_fiber.proofs.Keeping.{events_append}
+use Rattle.fx_fiber.proofs.Runs.{events_append}
 use Rattle.fx_fiber.proofs.QueueNames.{LabelNamesBelow, ProgressNamesBelow, step_names, events_name}
 use Rattle.fx_plain.specs.WholeMachine.{StartedFiber, WholeMachine, Move, Steps, Requests, opening, begun, fibers_after, stepped, moved, with_at}
 use Rattle.fx_plain.specs.WholeMachine.{WholeMachineLeads, IsWholeMachineRun}

@@ -8,10 +8,9 @@ use Rattle.fx_term.specs.Script.{ScriptView, total}
 use Rattle.fx_term.specs.Queue.{values_put}
 use Rattle.fx_fiber.specs.Row.{Counts, Label, Shows, Learns, Starts}
 use Rattle.fx_fiber.specs.Origin.{Origin}
-use Rattle.fx_fiber.specs.Step.{Progress, Runs, Step}
+use Rattle.fx_fiber.specs.Step.{Progress, Runs, looks_first, Step}
 use Rattle.fx_fiber.specs.Run.{first_counts, events}
 use Rattle.fx_fiber.specs.Origin.{main_origin}
-use Rattle.fx_fiber.specs.MakesStep.{looks_first}
 use Rattle.fx_fiber.specs.Outside.{Outside, outcome_at, can_step}
 use Rattle.fx_fiber.specs.NeedLeft.{TakesItsRange}
 
