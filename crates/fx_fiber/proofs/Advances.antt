@@ -6,9 +6,9 @@ use Rattle.fx_term.specs.declared.node.Node.{Node}
 use Rattle.fx_term.specs.declared.node.Node.TheVariants as node
 use Rattle.fx_term.specs.declared.done.Done.{Done}
 use Rattle.fx_term.specs.declared.event.Event.TheVariants as event
-use Rattle.fx_fiber.specs.Path.{is_canceled_form}
-use Rattle.fx_fiber.specs.Row.{Counts}
-use Rattle.fx_fiber.specs.Step.{leaf_at, looks_first}
+use Rattle.fx_model.specs.Path.{is_canceled_form}
+use Rattle.fx_model.specs.Row.{Counts}
+use Rattle.fx_model.specs.Step.{leaf_at, looks_first}
 use Rattle.fx_fiber.specs.Deed.{Deed, Saw}
 use Rattle.fx_fiber.specs.declared.machine.focus.Focus.TheVariants.{Return, Turn, Await, Unwinding}
 use Rattle.fx_fiber.specs.declared.machine.unwound.Unwound.{Unwound}

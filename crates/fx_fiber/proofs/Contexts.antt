@@ -10,12 +10,12 @@ use Rattle.fx_frames.specs.declared.frame.Frame.{Frame}
 use Rattle.fx_frames.specs.declared.frame.Frame.TheVariants as frame
 use Rattle.fx_frames.specs.Frames.{cleanups_of}
 use Rattle.fx_fiber.specs.declared.machine.unwound.Unwound.{Unwound}
-use Rattle.fx_fiber.specs.Path.{CleanupTerm, Finalizer, Release, closed_under, closed_regions}
-use Rattle.fx_fiber.specs.Path.{cleanups_with, cleanup_terms, leaf, is_canceled_form, is_open, must_cancel}
-use Rattle.fx_fiber.specs.Row.{Counts, Label, Row}
+use Rattle.fx_model.specs.Path.{CleanupTerm, Finalizer, Release, closed_under, closed_regions}
+use Rattle.fx_model.specs.Path.{cleanups_with, cleanup_terms, leaf, is_canceled_form, is_open, must_cancel}
+use Rattle.fx_model.specs.Row.{Counts, Label, Row}
 use Rattle.fx_fiber.specs.Machine.{filled, acquire_in, all_but_innermost, outside_frame, context_of, in_frame, within, cleanup_terms_of}
 use Rattle.fx_fiber.specs.Sound.{closed_outside, IsClosedBy, AreClosedBy}
-use Rattle.fx_fiber.proofs.Paths.{leaf_plug, closed_plug, cleanups_plug, row_plug}
+use Rattle.fx_model.proofs.Paths.{leaf_plug, closed_plug, cleanups_plug, row_plug}
 
 module _ (nodes : List Node) (ns : List ℕ) where
   -- a row of the term inside is a row of the whole

@@ -6,10 +6,10 @@ use Rattle.fx_term.specs.declared.event.Event.{Event}
 use Rattle.fx_term.specs.declared.event.Event.TheVariants as event
 use Rattle.fx_term.specs.declared.outcome.Outcome.{Outcome}
 use Rattle.fx_term.specs.Term.{Term}
-use Rattle.fx_fiber.specs.Row.{Counts, Range, range_of, Label, Shows}
-use Rattle.fx_fiber.specs.Step.{Progress, Runs, has_ended, Step}
-use Rattle.fx_fiber.specs.Run.{events}
-use Rattle.fx_fiber.specs.Origin.{origin_of}
+use Rattle.fx_model.specs.Row.{Counts, Range, range_of, Label, Shows}
+use Rattle.fx_model.specs.Step.{Progress, Runs, has_ended, Step}
+use Rattle.fx_model.specs.Run.{events}
+use Rattle.fx_model.specs.Origin.{origin_of}
 use Rattle.fx_fiber.specs.declared.machine.Machine.{Machine}
 use Rattle.fx_fiber.specs.declared.machine.made.Made.{Made}
 use Rattle.fx_fiber.specs.declared.machine.made.Made.TheVariants as made
@@ -18,22 +18,22 @@ use Rattle.fx_fiber.specs.Deed.{Deed, Ended, AreDeedsOf, AreDeeds}
 use Rattle.fx_fiber.specs.Machine.{progress_of, counts_of}
 use Rattle.fx_fiber.specs.Sound.{IsSoundMachine}
 use Rattle.fx_fiber.specs.Bare.{IsFirstMachine}
-use Rattle.fx_fiber.specs.Work.{work_left}
-use Rattle.fx_fiber.specs.PutsLeft.{puts_of, puts_with}
+use Rattle.fx_model.specs.Work.{work_left}
+use Rattle.fx_model.specs.PutsLeft.{puts_of, puts_with}
 use Rattle.fx_fiber.specs.Methods.{Steps, IsSame, label_of, deeds_made, Advances}
 use Rattle.fx_fiber.specs.Calls.{PortCalls, first_range}
 use Rattle.fx_fiber.specs.MakesStep.{Answers}
 use Rattle.fx_fiber.specs.Fiber.{is_fiber_number, IsKept}
-use Rattle.fx_fiber.proofs.Runs.{leads_on, events_append}
-use Rattle.fx_fiber.proofs.Work.{step_work}
-use Rattle.fx_fiber.proofs.Ends.{shows_end, ended_after}
-use Rattle.fx_fiber.proofs.Ranges.{step_keeps_range}
+use Rattle.fx_model.proofs.Runs.{leads_on, events_append}
+use Rattle.fx_model.proofs.Work.{step_work}
+use Rattle.fx_model.proofs.Ends.{shows_end, ended_after}
+use Rattle.fx_model.proofs.Ranges.{step_keeps_range}
 use Rattle.std.proofs.lemmas.Bool.{lt-ltb}
-use Rattle.fx_fiber.specs.NeedLeft.{need_left, HasRoom}
-use Rattle.fx_fiber.specs.Scopes.{IsScopedOver}
-use Rattle.fx_fiber.proofs.RangeLaws.{step_need}
-use Rattle.fx_fiber.proofs.ScopedRuns.{GivesTaken, step_over}
-use Rattle.fx_fiber.proofs.StepLabels.{step_tells}
+use Rattle.fx_model.specs.NeedLeft.{need_left, HasRoom}
+use Rattle.fx_model.specs.Scopes.{IsScopedOver}
+use Rattle.fx_model.proofs.RangeLaws.{step_need}
+use Rattle.fx_model.proofs.ScopedRuns.{GivesTaken, step_over}
+use Rattle.fx_model.proofs.StepLabels.{step_tells}
 
 -- one more step, with its deeds
 deeds_more : (nodes : List Node) (ls : List Label) (ds : List Deed) (l : Label) (es : List Deed) → AreDeeds nodes ls ds → AreDeedsOf nodes l es

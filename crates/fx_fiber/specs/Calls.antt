@@ -4,7 +4,7 @@ use Rattle.fx_term.specs.declared.begin.Begin.{Begin}
 use Rattle.fx_term.specs.declared.outcome.Outcome.{Outcome}
 use Rattle.fx_term.specs.declared.offered.Offered.{Offered}
 use Rattle.fx_term.specs.declared.offered.Offered.TheVariants.{Done, Full}
-use Rattle.fx_fiber.specs.Row.{Range}
+use Rattle.fx_model.specs.Row.{Range}
 
 -- for each call the port and the outside before it, what it is given, its answer, and both after it; the answer of a start is the port of the child
 pub record PortCalls (P S : Type 0) : Type 1 where

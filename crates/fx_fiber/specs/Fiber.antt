@@ -5,14 +5,14 @@ use Rattle.fx_term.specs.declared.begin.Begin.{Begin}
 use Rattle.fx_term.specs.declared.event.Event.{Event}
 use Rattle.fx_mask.specs.Closing.{Closing}
 use Rattle.fx_frames.specs.declared.frame.Frame.{Frame}
-use Rattle.fx_fiber.specs.Row.{Counts, Range, range_of, Label}
-use Rattle.fx_fiber.specs.Step.{Progress, Runs, has_ended}
-use Rattle.fx_fiber.specs.Run.{first_counts, IsRun, events}
-use Rattle.fx_fiber.specs.Origin.{Origin, origin_of}
+use Rattle.fx_model.specs.Row.{Counts, Range, range_of, Label}
+use Rattle.fx_model.specs.Step.{Progress, Runs, has_ended}
+use Rattle.fx_model.specs.Run.{first_counts, IsRun, events}
+use Rattle.fx_model.specs.Origin.{Origin, origin_of}
 use Rattle.fx_fiber.specs.Deed.{Deed, AreDeeds}
-use Rattle.fx_fiber.specs.Work.{work_left}
-use Rattle.fx_fiber.specs.Scopes.{IsProgressScopedOver}
-use Rattle.fx_fiber.specs.NeedLeft.{need_left}
+use Rattle.fx_model.specs.Work.{work_left}
+use Rattle.fx_model.specs.Scopes.{IsProgressScopedOver}
+use Rattle.fx_model.specs.NeedLeft.{need_left}
 use Rattle.fx_fiber.specs.declared.machine.focus.Focus.{Focus}
 use Rattle.fx_fiber.specs.declared.machine.unwound.Unwound.{Unwound}
 use Rattle.fx_fiber.specs.declared.machine.Machine.{Machine}

@@ -5,14 +5,14 @@ use Rattle.fx_term.specs.declared.node.Node.{Node}
 use Rattle.fx_term.specs.declared.node.Arg.TheVariants.{Number}
 use Rattle.fx_term.specs.declared.event.Event.TheVariants as event
 use Rattle.fx_term.specs.Term.{Term, Cede, First, Offer, TryOffer}
-use Rattle.fx_fiber.specs.Row.{Label, Silent, Shows, Learns, Starts}
-use Rattle.fx_fiber.specs.Step.{Progress, leaf_at, must_cancel_at, looks_first, Step}
-use Rattle.fx_fiber.specs.Run.{events}
-use Rattle.fx_fiber.specs.Origin.{Origin, origin_of}
+use Rattle.fx_model.specs.Row.{Label, Silent, Shows, Learns, Starts}
+use Rattle.fx_model.specs.Step.{Progress, leaf_at, must_cancel_at, looks_first, Step}
+use Rattle.fx_model.specs.Run.{events}
+use Rattle.fx_model.specs.Origin.{Origin, origin_of}
 use Rattle.fx_fiber.specs.Calls.{PortCalls}
-use Rattle.fx_fiber.specs.declared.source.Source.{Source}
-use Rattle.fx_fiber.specs.declared.source.Source.TheVariants.{Nothing, Outcome, Either, Room, Element}
-use Rattle.fx_fiber.specs.Waiting.{wait_at}
+use Rattle.fx_model.specs.declared.source.Source.{Source}
+use Rattle.fx_model.specs.declared.source.Source.TheVariants.{Nothing, Outcome, Either, Room, Element}
+use Rattle.fx_model.specs.Waiting.{wait_at}
 use Rattle.fx_term.specs.declared.offered.Offered.TheVariants.{Done, Full}
 use Rattle.fx_fiber.specs.declared.stepped.Stepped.{Stepped}
 use Rattle.fx_fiber.specs.declared.stepped.Stepped.TheVariants.{Went, Child, Waits, Gave, Ended}

@@ -58,21 +58,13 @@
 #![tactic(auto)]
 
 mod begin;
-mod closed;
 mod fiber;
-mod fiber_report;
-pub mod laws;
 mod machine;
 mod port;
-mod report;
-mod source;
 mod stepped;
 
 pub use begin::main_begin;
-pub use closed::Closed;
 pub use fiber::Fiber;
-pub use fiber_report::{FiberReport, State};
+pub use fx_model::{Closed, FiberReport, Report, Source, State, laws};
 pub use port::Port;
-pub use report::Report;
-pub use source::Source;
 pub use stepped::Stepped;
