@@ -1,5 +1,5 @@
 -- What the main fiber begins with.
-use Rattle.std.proofs.Common.{◌≡◌, ℕ, ◌<◌, ◌^◌, Bool, [], ◌∷◌, refl, ap, subst, sym, arith}
+use Rattle.std.proofs.Common.{◌≡◌, ℕ, ◌<◌, ◌^◌, Bool, [], refl, ap, subst, sym, arith}
 use Rattle.fx_term.specs.declared.node.Node.{Node}
 use Rattle.std.specs.Prelude.{◌+◌, List}
 use Rattle.fx_term.specs.Term.{Term}

@@ -1,5 +1,5 @@
 -- A term that names queues below a bound shows only events that do, and starts only such terms.
-use Rattle.std.proofs.Common.{ℕ, ◌<◌, ◌≤◌, arith, Bool, Option, Some, None, List, [], ◌∷◌, All}
+use Rattle.std.proofs.Common.{ℕ, ◌≤◌, arith, Bool, Option, Some, None, [], ◌∷◌, All}
 use Rattle.std.proofs.lemmas.List.Elements.{All-nil, All-cons}
 use Rattle.fx_term.specs.declared.outcome.Outcome.{Outcome}
 use Rattle.fx_term.specs.declared.outcome.Outcome.TheVariants as outcome
@@ -7,13 +7,12 @@ use Rattle.fx_term.specs.declared.event.Event.TheVariants as event
 use Rattle.fx_term.specs.Term.{Term, Let, Handle, If, For, Mask, Poll, OnCancel, Bracket, Start, Join, Offer, TryOffer, Take, TryTake, Masked, Opened, InUse}
 use Rattle.fx_term.specs.Term.{InRelease, Loop, put, put_named}
 use Rattle.fx_term.specs.QueuesNamed.{NamesQueuesBelow, NamesQueueBelow}
-use Rattle.fx_model.specs.Path.{Context, OnCancelIn, AcquireIn, MaskedIn, OpenedIn, InUseIn, InReleaseIn, plug, CleanupTerm, cleanups_with, cleanup_terms}
+use Rattle.fx_model.specs.Path.{Context, OnCancelIn, AcquireIn, MaskedIn, OpenedIn, InUseIn, InReleaseIn, plug, cleanups_with}
 use Rattle.fx_model.specs.Row.{Counts, Label, Silent, Shows, Learns, Starts, part_after, Row}
 use Rattle.fx_model.specs.Row as row
-use Rattle.fx_model.specs.Origin.{Origin}
 use Rattle.fx_model.specs.Step.{Progress, Runs, AreAll, IsProgressOf, Step}
 use Rattle.fx_model.specs.Step as step
-use Rattle.fx_model.specs.Run.{first_counts, Leads, IsRun, events}
+use Rattle.fx_model.specs.Run.{events}
 use Rattle.fx_model.proofs.Cleanups.{all_on_path}
 
 -- a greater bound does as well

@@ -5,7 +5,7 @@ ghost use Rattle.fx_term.specs.Meaning.{root_term};
 ghost use Rattle.fx_model.specs.Origin.{main_origin, origin_of, main_begin_of};
 
 /// What the main fiber of a code is given is its whole term, and the numbers that this can use. So
-/// what other laws say of runs from there holds of the fiber that `Fiber::new` gives.
+/// what other laws say of runs from there holds of each fiber that is given so.
 pub fn main_fiber_begins_at_the_root()
     ensures { (nodes : List Node)
         → origin_of nodes (main_begin_of nodes) ≡ main_origin (root_term nodes) }
