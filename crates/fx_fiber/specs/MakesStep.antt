@@ -6,7 +6,7 @@ use Rattle.fx_term.specs.declared.node.Arg.TheVariants.{Number}
 use Rattle.fx_term.specs.declared.event.Event.TheVariants as event
 use Rattle.fx_term.specs.Term.{Term, Cede, First, Offer, TryOffer}
 use Rattle.fx_model.specs.Row.{Label, Silent, Shows, Learns, Starts}
-use Rattle.fx_model.specs.Step.{Progress, leaf_at, must_cancel_at, looks_first, Step}
+use Rattle.fx_model.specs.Step.{leaf_at, must_cancel_at, looks_first, Step}
 use Rattle.fx_model.specs.Run.{events}
 use Rattle.fx_model.specs.Origin.{Origin, origin_of}
 use Rattle.fx_fiber.specs.Calls.{PortCalls}
