@@ -4,7 +4,7 @@ use Rattle.std.specs.Io.KnownBytes.{Appends, Keeps}
 use Rattle.fx_term.specs.Script.{total}
 use Rattle.fx_text.specs.declared.pick.Pick.{Pick}
 use Rattle.fx_text.specs.Meaning.{Meaning}
-use Rattle.fx_fiber.specs.Report.{ReportView}
+use Rattle.fx_model.specs.Report.{ReportView}
 use Rattle.fx_plain.specs.declared.out_fault.OutFault.{OutFault}
 use Rattle.fx_plain.specs.declared.out_fault.OutFault.TheVariants.{Write, Memory}
 use Rattle.fx_plain.specs.Chosen.{IsReplay}

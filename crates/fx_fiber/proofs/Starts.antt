@@ -12,22 +12,22 @@ use Rattle.fx_term.specs.Meaning.{term_of}
 use Rattle.fx_term.specs.Need.{need}
 use Rattle.fx_fiber.specs.declared.machine.focus.Focus.TheVariants.{Eval}
 use Rattle.fx_fiber.specs.declared.machine.Machine.{Machine}
-use Rattle.fx_fiber.specs.Row.{Counts, Starts, numbers_taken, start}
-use Rattle.fx_fiber.specs.Origin.{child_origin, origin_of}
-use Rattle.fx_fiber.specs.Step.{Step}
-use Rattle.fx_fiber.specs.Work.{work, work_left}
-use Rattle.fx_fiber.specs.NeedLeft.{need_left}
+use Rattle.fx_model.specs.Row.{Counts, Starts, numbers_taken, start}
+use Rattle.fx_model.specs.Origin.{child_origin, origin_of}
+use Rattle.fx_model.specs.Step.{Step}
+use Rattle.fx_model.specs.Work.{work, work_left}
+use Rattle.fx_model.specs.NeedLeft.{need_left}
 use Rattle.fx_fiber.specs.Fiber.{is_fiber_number}
-use Rattle.fx_fiber.specs.Scopes.{IsScopedOver, IsProgressScopedOver}
+use Rattle.fx_model.specs.Scopes.{IsScopedOver, IsProgressScopedOver}
 use Rattle.fx_fiber.specs.Machine.{filled, progress_at, progress_of, counts_of}
 use Rattle.fx_fiber.specs.Sound.{IsNode, IsBound, IsSound, IsSoundBegin}
 use Rattle.fx_fiber.specs.Methods.{Steps, IsSame, IsEvaluating, must_cancel_machine}
-use Rattle.fx_fiber.proofs.AllWork.{step_leaves_less, unknown_small}
+use Rattle.fx_model.proofs.AllWork.{step_leaves_less, unknown_small}
 use Rattle.fx_fiber.proofs.Keeping.{taken_fit}
 use Rattle.fx_fiber.proofs.Leaves.{levels, child, row_at, name_reaches, register_stays, named_sound, named_is}
 use Rattle.fx_fiber.proofs.Nodes.{child_before}
-use Rattle.fx_fiber.proofs.RangeLaws.{step_need}
-use Rattle.fx_fiber.proofs.ScopedRuns.{step_over}
+use Rattle.fx_model.proofs.RangeLaws.{step_need}
+use Rattle.fx_model.proofs.ScopedRuns.{step_over}
 
 -- numbers for names leave the need as it is
 pub fill_need : (b : ℕ) (ns : List ℕ) (t : Term) → need (fill b ns t) ≡ need t

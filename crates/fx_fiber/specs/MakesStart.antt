@@ -3,8 +3,8 @@ use Rattle.std.specs.Prelude.{◌≡◌, List, [], ◌∷◌, ◌++◌}
 use Rattle.fx_term.specs.declared.node.Node.{Node}
 use Rattle.fx_term.specs.declared.event.Event.{Event}
 use Rattle.fx_term.specs.declared.event.Event.TheVariants as event
-use Rattle.fx_fiber.specs.Row.{Starts}
-use Rattle.fx_fiber.specs.Origin.{Origin}
+use Rattle.fx_model.specs.Row.{Starts}
+use Rattle.fx_model.specs.Origin.{Origin}
 use Rattle.fx_fiber.specs.Calls.{PortCalls}
 use Rattle.fx_fiber.specs.Fiber.{FiberView, IsAtFirst}
 use Rattle.fx_fiber.specs.MakesStep.{StartsChild}

@@ -2,12 +2,11 @@
 ghost use Rattle.std.specs.Prelude.{◌≡◌, ◌<◌, ◌^◌, [], false, IfOk, OnErr};
 
 use crate::begin::main_begin;
-use crate::closed::Closed;
 use crate::machine::focus::Focus;
 use crate::machine::made::Made;
 use crate::port::Port;
-use crate::source::Source;
 use crate::stepped::Stepped;
+use fx_model::{Closed, Source};
 use fx_term::{Code, Event, Memory};
 use std::alloc::Global;
 use std::marker::Model;
@@ -54,20 +53,20 @@ impl<P: Port> Model for Fiber<P> {
 
 impl<P: Port> Fiber<P> {
     ghost use Rattle.fx_term.specs.Meaning.{root_term};
-    ghost use Rattle.fx_fiber.specs.Origin.{origin_of, main_origin, main_begin_of};
-    ghost use Rattle.fx_fiber.specs.Run.{first_counts};
+    ghost use Rattle.fx_model.specs.Origin.{origin_of, main_origin, main_begin_of};
+    ghost use Rattle.fx_model.specs.Run.{first_counts};
     ghost use Rattle.fx_fiber.specs.Calls.{first_range};
-    ghost use Rattle.fx_fiber.specs.Work.{work_left};
+    ghost use Rattle.fx_model.specs.Work.{work_left};
     ghost use Rattle.fx_fiber.specs.Bare.{IsFirstBare};
-    ghost use Rattle.fx_fiber.specs.Scopes.{IsScopedOver};
-    ghost use Rattle.fx_fiber.specs.NeedLeft.{HasRoom};
-    ghost use Rattle.fx_fiber.specs.Fiber.{is_fiber_number, IsAtFirst, IsLawful, IsUnchanged, progress, has_ended};
+    ghost use Rattle.fx_model.specs.Scopes.{IsScopedOver};
+    ghost use Rattle.fx_model.specs.NeedLeft.{HasRoom};
+    ghost use Rattle.fx_fiber.specs.Fiber.{is_fiber_number, IsAtFirst, IsLawful, IsUnchanged, progress};
     ghost use Rattle.fx_fiber.specs.MakesStep.{DoesStep};
     ghost use Rattle.std.specs.Prelude.{option_and_then};
-    ghost use Rattle.fx_fiber.specs.Step.{Runs, leaf_at};
-    ghost use Rattle.fx_fiber.specs.Waiting.{wait_at};
-    ghost use Rattle.fx_fiber.specs.Outside.{can_step};
-    ghost use Rattle.fx_fiber.specs.Closed.{outside_of};
+    ghost use Rattle.fx_model.specs.Step.{Runs, leaf_at, has_ended};
+    ghost use Rattle.fx_model.specs.Waiting.{wait_at};
+    ghost use Rattle.fx_model.specs.Outside.{can_step};
+    ghost use Rattle.fx_model.specs.Closed.{outside_of};
 
     /// The main fiber before its first step.
     pub fn new(alloc: Global, code: &Code, port: P) -> Result<Fiber<P>, Memory>

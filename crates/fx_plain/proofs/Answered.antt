@@ -10,7 +10,7 @@ use Rattle.fx_text.specs.Meaning.{Meaning}
 use Rattle.fx_text.specs.Reading.{reading}
 use Rattle.fx_text.specs.Grammar.{IsScript}
 use Rattle.fx_text.specs.declared.pick.Pick.{Pick}
-use Rattle.fx_fiber.specs.Report.{ReportView}
+use Rattle.fx_model.specs.Report.{ReportView}
 use Rattle.fx_plain.specs.declared.plain_fault.PlainFault.TheVariants.{Memory}
 use Rattle.fx_plain.specs.Chosen.{IsReplay}
 use Rattle.fx_plain.specs.Replay.{script_of}

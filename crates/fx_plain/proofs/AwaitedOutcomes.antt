@@ -3,7 +3,7 @@ use Rattle.std.proofs.Common.{◌≡◌, ℕ, Bool, true, false, Option, Some, r
 use Rattle.std.specs.Prelude.{◌==◌, ◌||◌, if◌then◌else◌, is_some}
 use Rattle.std.proofs.lemmas.Bool.{cases_eq, eqb-false}
 use Rattle.fx_term.specs.declared.outcome.Outcome as outcome
-use Rattle.fx_fiber.specs.declared.source.Source.TheVariants.{Outcome, Either}
+use Rattle.fx_model.specs.declared.source.Source.TheVariants.{Outcome, Either}
 use Rattle.fx_plain.specs.declared.class.Class.{Class}
 use Rattle.fx_plain.specs.declared.class.Class.TheVariants.{Unstarted, Able, Waits, Over}
 use Rattle.fx_plain.specs.WholeMachine.{with_at}

@@ -12,21 +12,21 @@ use Rattle.fx_term.specs.declared.event.Event.TheVariants as event
 use Rattle.fx_term.specs.Script.{ScriptView}
 use Rattle.fx_term.specs.Queue.{cut, QueueState, empty_queue, Taking, replayed_from, replayed, queue_events, values_put}
 use Rattle.fx_term.proofs.QueueLaws.{replayed_append}
-use Rattle.fx_fiber.specs.Row.{Counts, Label, Learns, Starts}
-use Rattle.fx_fiber.specs.Origin.{Origin}
-use Rattle.fx_fiber.specs.Step.{Progress, Step}
-use Rattle.fx_fiber.specs.Run.{events}
-use Rattle.fx_fiber.specs.Outside.{outcome_at}
-use Rattle.fx_fiber.specs.Report.{is_request_for}
-use Rattle.fx_fiber.specs.Causes.{values_got, taking_of, shown, TakesWhatWasPut, LearnsOfEnd, Needs, taken_element, end_of_other, start}
-use Rattle.fx_fiber.proofs.Keeping.{events_append}
-use Rattle.fx_fiber.proofs.OutcomeLaws.{no_step_after_end}
-use Rattle.fx_fiber.proofs.ShownLabels.{shown_length, shown_append, one_shown, shown_holds}
-use Rattle.fx_fiber.proofs.EventLabels.{start_label, seen_label, learnt_label}
-use Rattle.fx_fiber.proofs.StepLabels.{IsProper, step_tells}
-use Rattle.fx_fiber.proofs.Takes.{takes_counted, taken_before, fewer_before, taken_was_put}
-use Rattle.fx_fiber.proofs.OneOrder.{GrowsAt, Stands, stood, comes, stands, take_stays, old_or_new, HasOrder, StoodBefore, both, cause, IsRequestedIn}
-use Rattle.fx_fiber.proofs.OneOrder.{SeenAfter, seen, sees, order_grows}
+use Rattle.fx_model.specs.Row.{Counts, Label, Learns, Starts}
+use Rattle.fx_model.specs.Origin.{Origin}
+use Rattle.fx_model.specs.Step.{Progress, Step}
+use Rattle.fx_model.specs.Run.{events}
+use Rattle.fx_model.specs.Outside.{outcome_at}
+use Rattle.fx_model.specs.Report.{is_request_for}
+use Rattle.fx_model.specs.Causes.{values_got, taking_of, shown, TakesWhatWasPut, LearnsOfEnd, Needs, taken_element, end_of_other, start}
+use Rattle.fx_model.proofs.Runs.{events_append}
+use Rattle.fx_model.proofs.OutcomeLaws.{no_step_after_end}
+use Rattle.fx_model.proofs.ShownLabels.{shown_length, shown_append, one_shown, shown_holds}
+use Rattle.fx_model.proofs.EventLabels.{start_label, seen_label, learnt_label}
+use Rattle.fx_model.proofs.StepLabels.{IsProper, step_tells}
+use Rattle.fx_model.proofs.Takes.{takes_counted, taken_before, fewer_before, taken_was_put}
+use Rattle.fx_model.proofs.OneOrder.{GrowsAt, Stands, stood, comes, stands, take_stays, old_or_new, HasOrder, StoodBefore, both, cause, IsRequestedIn}
+use Rattle.fx_model.proofs.OneOrder.{SeenAfter, seen, sees, order_grows}
 use Rattle.fx_plain.specs.WholeMachine.{StartedFiber, WholeMachine, opening, IsAnswered, moved}
 use Rattle.fx_plain.proofs.Moments.{moment_after, moment_now, moment_kept}
 use Rattle.fx_plain.proofs.WholeMachineSteps.{still_itself}

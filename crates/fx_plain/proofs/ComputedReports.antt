@@ -14,7 +14,7 @@ use Rattle.fx_term.specs.declared.queue_event.QueueEvent.TheVariants.{Put, Got}
 use Rattle.fx_term.specs.Queue.{QueueState, empty_queue, after_got, replayed_from}
 use Rattle.fx_term.proofs.QueueLaws.{stays_none}
 use Rattle.fx_term.specs.Script.{ScriptView, total}
-use Rattle.fx_fiber.specs.Report.{FiberReportView}
+use Rattle.fx_model.specs.Report.{FiberReportView}
 use Rattle.fx_plain.specs.WholeMachine.{StartedFiber, WholeMachine, opening}
 use Rattle.fx_plain.specs.Chosen.{report_of_fiber, IsReportOf, IsReplay}
 use Rattle.fx_plain.proofs.LawfulRuns.{IsKept, opening_is_kept, chosen_keeps}

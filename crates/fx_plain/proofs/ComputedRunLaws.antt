@@ -11,13 +11,12 @@ use Rattle.fx_term.specs.declared.outcome.Outcome.{Outcome}
 use Rattle.fx_term.specs.declared.event.Event.TheVariants as event
 use Rattle.fx_term.specs.Term.{Term, Pure, Raise, Canceled, Cede, Let, Handle, If, For, Mask, Poll, OnCancel, Bracket, Start, Join, Cancel, First, Offer}
 use Rattle.fx_term.specs.Term.{TryOffer, Take, TryTake, Finished, Masked, Opened, InUse, InRelease, Loop, Await}
-use Rattle.fx_fiber.specs.Path.{Context, LetIn, HandleIn, OnCancelIn, AcquireIn, MaskedIn, OpenedIn, InUseIn, InReleaseIn, plug, CleanupTerm, Finalizer}
-use Rattle.fx_fiber.specs.Path.{Release, leaf, is_open, must_cancel}
-use Rattle.fx_fiber.specs.Row.{Counts, Label, Shows, Row}
-use Rattle.fx_fiber.specs.Row as row
-use Rattle.fx_fiber.specs.Step.{Progress, Runs, Unwinds, CleansUp, HasEnded, leaf_at, Step}
-use Rattle.fx_fiber.specs.Step as step
-use Rattle.fx_fiber.specs.MakesStep.{looks_first}
+use Rattle.fx_model.specs.Path.{Context, LetIn, HandleIn, OnCancelIn, AcquireIn, MaskedIn, OpenedIn, InUseIn, InReleaseIn, plug, CleanupTerm, Finalizer}
+use Rattle.fx_model.specs.Path.{Release, leaf, is_open, must_cancel}
+use Rattle.fx_model.specs.Row.{Counts, Label, Shows, Row}
+use Rattle.fx_model.specs.Row as row
+use Rattle.fx_model.specs.Step.{Progress, Runs, Unwinds, CleansUp, HasEnded, leaf_at, looks_first, Step}
+use Rattle.fx_model.specs.Step as step
 use Rattle.fx_text.specs.declared.pick.Pick.{Pick}
 use Rattle.fx_text.specs.declared.pick.Pick.TheVariants as pick
 use Rattle.fx_term.specs.declared.item.Item.{Item}
@@ -26,9 +25,9 @@ use Rattle.fx_plain.specs.WholeMachine.{StartedFiber, WholeMachine, Move, Steps,
 use Rattle.fx_plain.specs.WholeMachine.{IsAnswered, requested_from_outside}
 use Rattle.fx_plain.specs.Chosen.{LooksLeftFirst, ChosenStep, IsChosen}
 use Rattle.fx_plain.specs.Chosen as chosen
-use Rattle.fx_fiber.proofs.Paths.{leaf_plug, row_plug}
-use Rattle.fx_fiber.proofs.Mapped.{mapped}
-use Rattle.fx_fiber.proofs.Moves.{Moved, done_of, ends, moved_in, move_in, loop_move}
+use Rattle.fx_model.proofs.Paths.{leaf_plug, row_plug}
+use Rattle.fx_model.proofs.Mapped.{mapped}
+use Rattle.fx_model.proofs.Moves.{Moved, done_of, ends, moved_in, move_in, loop_move}
 use Rattle.fx_plain.proofs.ComputedSteps.{Answers, Next, if_move, canceled_move, join_move, await_move, first_move, offer_move}
 use Rattle.fx_plain.proofs.ComputedSteps.{try_offer_move, take_move, try_take_move, move, runs_on, cleans_on, running, looking, at_place, cleaning, next}
 use Rattle.fx_plain.proofs.ComputedRuns.{answers_of, MoveMade, went, stepped_fiber, step_of, least_able, RunTo, after, and_then, run_to_rest, replayed}

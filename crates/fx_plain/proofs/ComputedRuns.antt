@@ -4,7 +4,7 @@ use Rattle.std.specs.List.{range_with_len, filter, filter_map}
 use Rattle.fx_text.specs.declared.pick.Pick.{Pick}
 use Rattle.fx_text.specs.declared.pick.Pick.TheVariants as pick
 use Rattle.fx_term.specs.Script.{ScriptView, total}
-use Rattle.fx_fiber.specs.Report.{ReportView}
+use Rattle.fx_model.specs.Report.{ReportView}
 use Rattle.fx_plain.specs.WholeMachine.{StartedFiber, WholeMachine, Move, Steps, Requests, outcome_of, has_room, front, can_step_in, moved}
 use Rattle.fx_plain.specs.WholeMachine.{requested_from_outside}
 use Rattle.fx_plain.specs.Chosen.{report_of_fiber}

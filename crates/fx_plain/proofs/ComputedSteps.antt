@@ -10,13 +10,13 @@ use Rattle.fx_term.specs.declared.event.Event.TheVariants as event
 use Rattle.fx_term.specs.Term.{Term, Pure, Raise, Canceled, Cede, Let, Handle, If, For, Mask, Poll, OnCancel, Bracket, Start, Join, Cancel, First, Offer}
 use Rattle.fx_term.specs.Term.{TryOffer, Take, TryTake, Finished, Masked, Opened, InUse, InRelease, Loop, Await, put}
 use Rattle.fx_term.specs.Need.{need}
-use Rattle.fx_fiber.specs.Path.{LetIn, HandleIn, OnCancelIn, AcquireIn, MaskedIn, OpenedIn, InUseIn, InReleaseIn, CleanupTerm, Finalizer, Release}
-use Rattle.fx_fiber.specs.Path.{cleanup_terms, is_open, must_cancel}
-use Rattle.fx_fiber.specs.Row.{Counts, Label, Silent, Shows, Learns, Starts, one_more_mask, numbers_taken, known_canceled}
-use Rattle.fx_fiber.specs.Origin.{child_origin}
-use Rattle.fx_fiber.specs.Row.{part_after}
-use Rattle.fx_fiber.proofs.Moves.{Moved, silently, done_of, move_in, loop_move}
-use Rattle.fx_fiber.specs.Step.{Progress, Runs, Unwinds, CleansUp, HasEnded}
+use Rattle.fx_model.specs.Path.{LetIn, HandleIn, OnCancelIn, AcquireIn, MaskedIn, OpenedIn, InUseIn, InReleaseIn, CleanupTerm, Finalizer, Release}
+use Rattle.fx_model.specs.Path.{cleanup_terms, is_open, must_cancel}
+use Rattle.fx_model.specs.Row.{Counts, Label, Silent, Shows, Learns, Starts, one_more_mask, numbers_taken, known_canceled}
+use Rattle.fx_model.specs.Origin.{child_origin}
+use Rattle.fx_model.specs.Row.{part_after}
+use Rattle.fx_model.proofs.Moves.{Moved, silently, done_of, move_in, loop_move}
+use Rattle.fx_model.specs.Step.{Progress, Runs, Unwinds, CleansUp, HasEnded}
 
 -- what a fiber sees outside: outcomes, room and fronts of queues, and whether it is requested
 pub record Answers : Type 0 where

@@ -7,16 +7,15 @@ use Rattle.std.proofs.Math.Seq.{drop-append_seam}
 use Rattle.fx_term.specs.declared.outcome.Outcome.{Outcome}
 use Rattle.fx_term.specs.declared.event.Event.{Event}
 use Rattle.fx_term.specs.declared.event.Event.TheVariants as event
-use Rattle.fx_fiber.specs.Row.{Counts, Label}
-use Rattle.fx_fiber.specs.Origin.{Origin}
-use Rattle.fx_fiber.specs.Step.{Progress, Runs, Unwinds, CleansUp, HasEnded}
-use Rattle.fx_fiber.specs.Run.{IsRun, events}
-use Rattle.fx_fiber.specs.Fiber.{has_ended}
-use Rattle.fx_fiber.specs.Outside.{outcome_at}
-use Rattle.fx_fiber.specs.Report.{outcome_shown}
-use Rattle.fx_fiber.specs.LawfulReport.{EndsWith}
-use Rattle.fx_fiber.specs.Headline.{StopsAt}
-use Rattle.fx_fiber.proofs.OutcomeLaws.{run_outcome, run_stops}
+use Rattle.fx_model.specs.Row.{Counts, Label}
+use Rattle.fx_model.specs.Origin.{Origin}
+use Rattle.fx_model.specs.Step.{Progress, Runs, Unwinds, CleansUp, HasEnded, has_ended}
+use Rattle.fx_model.specs.Run.{IsRun, events}
+use Rattle.fx_model.specs.Outside.{outcome_at}
+use Rattle.fx_model.specs.Report.{outcome_shown}
+use Rattle.fx_model.specs.LawfulReport.{EndsWith}
+use Rattle.fx_model.specs.Headline.{StopsAt}
+use Rattle.fx_model.proofs.OutcomeLaws.{run_outcome, run_stops}
 use Rattle.fx_plain.specs.Text.{is_end, ends}
 
 none_shown : (es : List Event) → outcome_shown es ≡ None → list_any is_end es ≡ false

@@ -8,17 +8,17 @@ use Rattle.std.proofs.lemmas.List.{length-append}
 use Rattle.std.proofs.lemmas.List.Elements.{filter-append}
 use Rattle.fx_term.specs.declared.event.Event.{Event}
 use Rattle.fx_term.specs.declared.event.Event.TheVariants as event
-use Rattle.fx_fiber.specs.Row.{Counts, Label, Silent, Shows, Learns, Starts}
-use Rattle.fx_fiber.specs.Origin.{Origin}
-use Rattle.fx_fiber.specs.Step.{Progress, Step}
-use Rattle.fx_fiber.specs.Run.{IsRun, events}
-use Rattle.fx_fiber.specs.Origin.{main_origin}
-use Rattle.fx_fiber.proofs.Keeping.{leads_on, events_append}
+use Rattle.fx_model.specs.Row.{Counts, Label, Silent, Shows, Learns, Starts}
+use Rattle.fx_model.specs.Origin.{Origin}
+use Rattle.fx_model.specs.Step.{Progress, Step}
+use Rattle.fx_model.specs.Run.{IsRun, events}
+use Rattle.fx_model.specs.Origin.{main_origin}
+use Rattle.fx_model.proofs.Runs.{leads_on, events_append}
 use Rattle.fx_term.specs.Script.{ScriptView}
-use Rattle.fx_fiber.specs.LawfulReport.{is_start_of, starts_of, is_parent}
+use Rattle.fx_model.specs.LawfulReport.{is_start_of, starts_of, is_parent}
 use Rattle.fx_plain.specs.WholeMachine.{StartedFiber, WholeMachine, begun, opening, stepped, moved}
 use Rattle.fx_plain.proofs.Maps.{same_number}
-use Rattle.fx_fiber.proofs.StepLabels.{IsProper, step_tells}
+use Rattle.fx_model.proofs.StepLabels.{IsProper, step_tells}
 use Rattle.fx_plain.proofs.WholeMachineSteps.{Comes, itself, child, other, comes, still_itself, still_other, still_none, child_is_there}
 use Rattle.fx_plain.proofs.RangesKept.{HasRanges, opened_at, fresh, child_is_another}
 

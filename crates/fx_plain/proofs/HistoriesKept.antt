@@ -8,10 +8,10 @@ use Rattle.std.proofs.lemmas.Option.{none-some, same_Some}
 use Rattle.std.proofs.lemmas.List.Elements.{filter-append, filter_map-append}
 use Rattle.fx_term.specs.declared.event.Event.{Event}
 use Rattle.fx_term.specs.declared.event.Event.TheVariants as event
-use Rattle.fx_fiber.specs.Row.{Counts, Label, Silent, Shows, Learns, Starts}
-use Rattle.fx_fiber.specs.Step.{Progress, Step}
-use Rattle.fx_fiber.specs.Run.{events}
-use Rattle.fx_fiber.proofs.Keeping.{events_append}
+use Rattle.fx_model.specs.Row.{Counts, Label, Silent, Shows, Learns, Starts}
+use Rattle.fx_model.specs.Step.{Progress, Step}
+use Rattle.fx_model.specs.Run.{events}
+use Rattle.fx_model.proofs.Runs.{events_append}
 use Rattle.fx_term.specs.declared.item.Item.{Item}
 use Rattle.fx_term.specs.declared.queue_event.QueueEvent.{QueueEvent}
 use Rattle.fx_term.specs.declared.queue_event.QueueEvent.TheVariants.{Put, Got}
@@ -20,7 +20,7 @@ use Rattle.fx_term.specs.Queue.{values_put}
 use Rattle.fx_term.specs.Script.{ScriptView}
 use Rattle.fx_plain.specs.WholeMachine.{StartedFiber, WholeMachine, opening, front, has_room, IsAnswered, queues_after, moved}
 use Rattle.fx_plain.proofs.Maps.{at_that, at_other, same_number}
-use Rattle.fx_fiber.proofs.StepLabels.{IsProper, step_tells}
+use Rattle.fx_model.proofs.StepLabels.{IsProper, step_tells}
 use Rattle.fx_term.proofs.QueueLaws.{replayed_append, length-numbered, elements_are_offers}
 use Rattle.fx_plain.proofs.WholeMachineSteps.{still_itself, still_other, still_none, child_is_there}
 use Rattle.fx_plain.proofs.RangesKept.{HasRanges, fresh, child_is_another}

@@ -9,24 +9,23 @@ use Rattle.std.proofs.lemmas.List.Elements.{All-weaker}
 use mathlib.Core.Path.{fun_ext}
 use Rattle.fx_term.specs.declared.outcome.Outcome.{Outcome}
 use Rattle.fx_term.specs.declared.event.Event.TheVariants as event
-use Rattle.fx_fiber.specs.Row.{Counts, Label, Silent, Shows, Learns, Starts}
-use Rattle.fx_fiber.specs.Origin.{Origin}
-use Rattle.fx_fiber.specs.Step.{Progress, HasEnded}
-use Rattle.fx_fiber.specs.Run.{events, first_counts}
-use Rattle.fx_fiber.specs.Origin.{main_origin}
-use Rattle.fx_fiber.specs.Fiber.{has_ended}
+use Rattle.fx_model.specs.Row.{Counts, Label, Silent, Shows, Learns, Starts}
+use Rattle.fx_model.specs.Origin.{Origin}
+use Rattle.fx_model.specs.Step.{Progress, HasEnded, has_ended}
+use Rattle.fx_model.specs.Run.{events, first_counts}
+use Rattle.fx_model.specs.Origin.{main_origin}
 use Rattle.fx_text.specs.declared.pick.Pick.{Pick}
 use Rattle.fx_term.specs.declared.item.Item.{Item}
 use Rattle.fx_term.specs.Queue.{queue_events}
-use Rattle.fx_fiber.specs.Outside.{outcome_at, Outside, can_step}
+use Rattle.fx_model.specs.Outside.{outcome_at, Outside, can_step}
 use Rattle.fx_term.specs.Forms.{IsCore}
 use Rattle.fx_term.specs.Script.{ScriptView, total}
-use Rattle.fx_fiber.specs.Report.{FiberReportView, ReportView, fiber_in, parent_of_report, parent_in, trace_of_report, trace_in, outcome_shown, is_request_for}
-use Rattle.fx_fiber.specs.Report.{is_requested_in, final_outside}
-use Rattle.fx_fiber.specs.LawfulReport.{starts_of, is_parent, HasStarters, HasRun, HasRuns, BeginsAs, HasOrigins, HasHistory, IsLearnt, IsSeenRightly}
-use Rattle.fx_fiber.specs.LawfulReport.{IsLawfulReport}
-use Rattle.fx_fiber.specs.Headline.{KeepsWhatIsPromised}
-use Rattle.fx_fiber.proofs.HeadlineLaws.{ended_report_holds}
+use Rattle.fx_model.specs.Report.{FiberReportView, ReportView, fiber_in, parent_of_report, parent_in, trace_of_report, trace_in, outcome_shown, is_request_for}
+use Rattle.fx_model.specs.Report.{is_requested_in, final_outside}
+use Rattle.fx_model.specs.LawfulReport.{starts_of, is_parent, HasStarters, HasRun, HasRuns, BeginsAs, HasOrigins, HasHistory, IsLearnt, IsSeenRightly}
+use Rattle.fx_model.specs.LawfulReport.{IsLawfulReport}
+use Rattle.fx_model.specs.Headline.{KeepsWhatIsPromised}
+use Rattle.fx_model.proofs.HeadlineLaws.{ended_report_holds}
 use Rattle.fx_plain.specs.WholeMachine.{StartedFiber, WholeMachine, Move, opening, outcome_of_fiber, outcome_of, outside_of, can_step_fiber, can_step_in}
 use Rattle.fx_plain.specs.WholeMachine.{moved, FiberSteps, requested_from_outside}
 use Rattle.fx_plain.specs.Chosen.{IsChosen, step, no_step, request, no_request, least, rests, report_of_fiber, IsReportOf, IsReplay}
@@ -36,7 +35,7 @@ use Rattle.fx_plain.proofs.FamilyKept.{parent_of_fiber, parent_of, labels_of_fib
 use Rattle.fx_plain.proofs.RunsKept.{IsSo, AreSo, HasRequests, opening_is_so, opening_has_requests, are_so_kept, requests_kept, request_is_so}
 use Rattle.fx_plain.proofs.RunsKept.{request_has_requests}
 use Rattle.fx_plain.proofs.HistoriesKept.{HasHistories, opening_has_histories, histories_kept}
-use Rattle.fx_fiber.proofs.OutcomeLaws.{run_outcome, run_stops}
+use Rattle.fx_model.proofs.OutcomeLaws.{run_outcome, run_stops}
 use Rattle.fx_plain.proofs.Keys.{rises_from, passing_is_found, found_passes, contained_passes}
 
 -- what each machine of a run keeps

@@ -1,8 +1,8 @@
 -- Going on the way of the run that picks choose, a pick or a step at a time.
 use Rattle.std.proofs.Common.{◌≡◌, ℕ, ◌<◌, ◌≤◌, false, List, [], ◌∷◌}
 use Rattle.fx_term.specs.Script.{ScriptView, total}
-use Rattle.fx_fiber.specs.Row.{Label}
-use Rattle.fx_fiber.specs.Report.{ReportView}
+use Rattle.fx_model.specs.Row.{Label}
+use Rattle.fx_model.specs.Report.{ReportView}
 use Rattle.fx_text.specs.declared.pick.Pick.{Pick}
 use Rattle.fx_text.specs.declared.pick.Pick.TheVariants as pick
 use Rattle.fx_plain.specs.WholeMachine.{WholeMachine, Steps, Requests, opening, can_step_in, requested_from_outside}

@@ -7,7 +7,7 @@ use Rattle.std.specs.List.Sorted.{IsStrictlyIncreasing}
 use Rattle.std.proofs.lemmas.Bool.{cases_eq, eq-eqb, ne_eqb}
 use Rattle.fx_term.specs.declared.item.Item.{Item}
 use Rattle.fx_term.specs.Script.{ScriptView}
-use Rattle.fx_fiber.specs.Report.{FiberReportView, ReportView}
+use Rattle.fx_model.specs.Report.{FiberReportView, ReportView}
 use Rattle.fx_text.specs.declared.pick.Pick.{Pick}
 use Rattle.fx_plain.specs.WholeMachine.{WholeMachine}
 use Rattle.fx_plain.specs.Chosen.{IsReportOf, IsReplay}

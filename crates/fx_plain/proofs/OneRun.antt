@@ -10,21 +10,20 @@ use Rattle.fx_term.specs.declared.outcome.Outcome.TheVariants.{Succeeded, Errore
 use Rattle.fx_term.specs.declared.event.Event.TheVariants as event
 use Rattle.fx_term.specs.declared.item.Item.{Item}
 use Rattle.fx_term.specs.Term.{Term, Finished}
-use Rattle.fx_fiber.specs.Path.{Context, LetIn, plug, CleanupTerm, leaf, is_open, must_cancel}
-use Rattle.fx_fiber.specs.Row.{Counts, Label, Shows, Row}
-use Rattle.fx_fiber.specs.Row as row
-use Rattle.fx_fiber.specs.Step.{Progress, Runs, HasEnded, leaf_at, Step}
-use Rattle.fx_fiber.specs.Step as step
-use Rattle.fx_fiber.specs.MakesStep.{looks_first}
+use Rattle.fx_model.specs.Path.{Context, LetIn, plug, CleanupTerm, leaf, is_open, must_cancel}
+use Rattle.fx_model.specs.Row.{Counts, Label, Shows, Row}
+use Rattle.fx_model.specs.Row as row
+use Rattle.fx_model.specs.Step.{Progress, Runs, HasEnded, leaf_at, looks_first, Step}
+use Rattle.fx_model.specs.Step as step
 use Rattle.fx_term.specs.Script.{ScriptView, total}
 use Rattle.fx_text.specs.declared.pick.Pick.{Pick}
 use Rattle.fx_plain.specs.WholeMachine.{StartedFiber, WholeMachine, Move, Steps, Requests, outcome_of, outside_of, front, can_step_fiber, can_step_in}
 use Rattle.fx_plain.specs.WholeMachine.{IsAnswered, requested_from_outside}
 use Rattle.fx_plain.specs.Chosen.{LooksLeftFirst, ChosenStep, IsChosen}
 use Rattle.fx_plain.specs.Chosen as chosen
-use Rattle.fx_fiber.proofs.Paths.{leaf_plug}
-use Rattle.fx_fiber.proofs.RowLabels.{row_unseen}
-use Rattle.fx_fiber.proofs.Moves.{Moved, done_of, moved_in, move_in, loop_move}
+use Rattle.fx_model.proofs.Paths.{leaf_plug}
+use Rattle.fx_model.proofs.RowLabels.{row_unseen}
+use Rattle.fx_model.proofs.Moves.{Moved, done_of, moved_in, move_in, loop_move}
 use Rattle.fx_plain.proofs.ComputedSteps.{Answers, Next, canceled_move, join_move, await_move, first_move, offer_move}
 use Rattle.fx_plain.proofs.ComputedSteps.{try_offer_move, take_move, try_take_move, move, runs_on, cleans_on, running, looking, at_place, cleaning, next}
 use Rattle.fx_plain.proofs.ComputedRuns.{answers_of, MoveMade, went, stepped_fiber, step_of, least_able, RunTo, after, and_then, run_to_rest, replayed}

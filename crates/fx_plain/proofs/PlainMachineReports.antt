@@ -8,9 +8,10 @@ use Rattle.std.proofs.lemmas.List.Elements.{All-nil, All-cons}
 use Rattle.fx_term.specs.declared.node.Node.{Node}
 use Rattle.fx_term.specs.declared.item.Item.{Item}
 use Rattle.fx_term.specs.Script.{ScriptView, total}
-use Rattle.fx_fiber.specs.Run.{events}
-use Rattle.fx_fiber.specs.Fiber.{progress, has_ended}
-use Rattle.fx_fiber.specs.Report.{FiberReportView, ReportView}
+use Rattle.fx_model.specs.Run.{events}
+use Rattle.fx_fiber.specs.Fiber.{progress}
+use Rattle.fx_model.specs.Step.{has_ended}
+use Rattle.fx_model.specs.Report.{FiberReportView, ReportView}
 use Rattle.fx_text.specs.declared.pick.Pick.{Pick}
 use Rattle.fx_plain.specs.declared.plain_machine.Started.{Started}
 use Rattle.fx_plain.specs.declared.plain_machine.PlainMachine.{PlainMachine}

@@ -9,15 +9,15 @@ use Rattle.fx_term.specs.declared.node.Node.{Node}
 use Rattle.fx_term.specs.declared.event.Event.{Event}
 use Rattle.fx_term.specs.Queue.{values_put}
 use Rattle.fx_term.specs.Script.{ScriptView, total}
-use Rattle.fx_fiber.specs.Row.{Counts, Label, Starts}
-use Rattle.fx_fiber.specs.Origin.{Origin, origin_of}
-use Rattle.fx_fiber.specs.Step.{Progress, leaf_at, Step}
-use Rattle.fx_fiber.specs.Run.{events}
+use Rattle.fx_model.specs.Row.{Counts, Label, Starts}
+use Rattle.fx_model.specs.Origin.{Origin, origin_of}
+use Rattle.fx_model.specs.Step.{Progress, leaf_at, looks_first, Step}
+use Rattle.fx_model.specs.Run.{events}
 use Rattle.fx_fiber.specs.Fiber.{FiberView, progress}
 use Rattle.fx_fiber.specs.declared.stepped.Stepped.{Stepped}
-use Rattle.fx_fiber.specs.MakesStep.{looks_first, Calls, MakesStep}
-use Rattle.fx_fiber.proofs.Keeping.{events_append}
-use Rattle.fx_fiber.proofs.StepLabels.{step_tells}
+use Rattle.fx_fiber.specs.MakesStep.{Calls, MakesStep}
+use Rattle.fx_model.proofs.Runs.{events_append}
+use Rattle.fx_model.proofs.StepLabels.{step_tells}
 use Rattle.fx_plain.specs.declared.plain_machine.Started.{Started}
 use Rattle.fx_plain.specs.declared.plain_machine.PlainMachine.{PlainMachine}
 use Rattle.fx_plain.specs.WholeMachine.{StartedFiber, WholeMachine, Move, Steps, fibers_after, opening, stepped, moved, FiberSteps, WholeMachineLeads}

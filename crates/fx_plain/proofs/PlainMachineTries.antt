@@ -12,15 +12,15 @@ use Rattle.fx_term.specs.Term.{Term}
 use Rattle.fx_term.specs.declared.event.Event.{Event}
 use Rattle.fx_term.specs.Queue.{values_put}
 use Rattle.fx_term.specs.Script.{ScriptView, total}
-use Rattle.fx_fiber.specs.Row.{Label, Silent, Shows, Learns, Starts}
-use Rattle.fx_fiber.specs.Origin.{Origin, origin_of}
-use Rattle.fx_fiber.specs.Step.{leaf_at}
+use Rattle.fx_model.specs.Row.{Label, Silent, Shows, Learns, Starts}
+use Rattle.fx_model.specs.Origin.{Origin, origin_of}
+use Rattle.fx_model.specs.Step.{leaf_at}
 use Rattle.fx_fiber.specs.Fiber.{FiberView, progress, IsAtFirst}
-use Rattle.fx_fiber.specs.declared.source.Source.{Source}
+use Rattle.fx_model.specs.declared.source.Source.{Source}
 use Rattle.fx_fiber.specs.declared.stepped.Stepped.{Stepped}
 use Rattle.fx_fiber.specs.declared.stepped.Stepped.TheVariants.{Went, Child, Waits, Gave, Ended}
-use Rattle.fx_fiber.specs.Waiting.{wait_at, value_offered}
-use Rattle.fx_fiber.specs.MakesStep.{is_yielding, AnswersSilently, Answers, StartsChild, Tells, MakesStep, OnlyWaits, DoesStep}
+use Rattle.fx_model.specs.Waiting.{wait_at}
+use Rattle.fx_fiber.specs.MakesStep.{is_yielding, value_offered, AnswersSilently, Answers, StartsChild, Tells, MakesStep, OnlyWaits, DoesStep}
 use Rattle.fx_plain.specs.declared.class.Class.TheVariants as class
 use Rattle.fx_plain.specs.declared.plain_machine.Started.{Started}
 use Rattle.fx_plain.specs.declared.plain_machine.PlainMachine.{PlainMachine}

@@ -6,7 +6,7 @@ use Rattle.std.proofs.lemmas.List.Sums.{sum_by-cons}
 use Rattle.std.proofs.Math.Nat.{suc-mul}
 use Rattle.fx_term.specs.declared.node.Node.{Node}
 use Rattle.fx_term.specs.Script.{ScriptView, total}
-use Rattle.fx_fiber.proofs.AllWork.{work_of}
+use Rattle.fx_model.proofs.AllWork.{work_of}
 use Rattle.fx_plain.specs.declared.class.Class.{Class}
 use Rattle.fx_plain.specs.declared.plain_machine.PlainMachine.{PlainMachine}
 use Rattle.fx_plain.specs.WholeMachine.{StartedFiber, WholeMachine}

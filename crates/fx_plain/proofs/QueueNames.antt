@@ -6,7 +6,7 @@ use Rattle.std.proofs.lemmas.Simd.{map-map}
 use Rattle.fx_term.specs.Code.{IsCode}
 use Rattle.fx_term.specs.Meaning.{root_term}
 use Rattle.fx_term.specs.QueuesNamed.{NamesQueuesBelow}
-use Rattle.fx_fiber.proofs.QueueNames.{names_below_more}
+use Rattle.fx_model.proofs.QueueNames.{names_below_more}
 use Rattle.fx_text.specs.declared.queues.QueueDecl.{QueueDecl}
 use Rattle.fx_text.specs.declared.script.Script.{Script}
 use Rattle.fx_text.specs.View.{meaning}

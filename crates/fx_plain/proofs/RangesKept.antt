@@ -2,15 +2,15 @@
 use Rattle.std.proofs.Common.{◌≡◌, ℕ, ◌+◌, ◌<◌, ◌≤◌, Some, None, refl, sym, ◌∙◌, ap, subst, arith, ◌⊎◌, inl, inr}
 use Rattle.std.proofs.lemmas.Bool.{cases_eq}
 use Rattle.std.proofs.lemmas.Option.{none-some, same_Some}
-use Rattle.fx_fiber.specs.Row.{Counts, Label, Silent, Shows, Learns, Starts}
-use Rattle.fx_fiber.specs.Origin.{Origin}
-use Rattle.fx_fiber.specs.Step.{Progress, Step}
+use Rattle.fx_model.specs.Row.{Counts, Label, Silent, Shows, Learns, Starts}
+use Rattle.fx_model.specs.Origin.{Origin}
+use Rattle.fx_model.specs.Step.{Progress, Step}
 use Rattle.fx_term.specs.Script.{ScriptView, total}
 use Rattle.fx_plain.specs.WholeMachine.{StartedFiber, WholeMachine, begun, opening, moved}
 use Rattle.fx_plain.proofs.Maps.{at_that, at_other}
-use Rattle.fx_fiber.specs.NeedLeft.{need_left}
-use Rattle.fx_fiber.proofs.RangeLaws.{step_need}
-use Rattle.fx_fiber.proofs.StepLabels.{step_next, StartsNext, TakesNumbers, step_tells}
+use Rattle.fx_model.specs.NeedLeft.{need_left}
+use Rattle.fx_model.proofs.RangeLaws.{step_need}
+use Rattle.fx_model.proofs.StepLabels.{step_next, StartsNext, TakesNumbers, step_tells}
 use Rattle.fx_plain.proofs.WholeMachineSteps.{Comes, itself, child, other, comes, IsFresh, still_none}
 
 -- the number is in the rest of the fiber's range
@@ -29,7 +29,7 @@ pub record HasRanges (s : ScriptView) (m : WholeMachine) : Type 0 where
 
 -- only fiber 0 has started
 pub opened_at : (s : ScriptView) (f : ℕ) (x : StartedFiber) → (opening s).fibers f ≡ Some x
-    → (f ≡ 0) × (x ≡ begun None (Rattle.fx_fiber.specs.Origin.main_origin s.term))
+    → (f ≡ 0) × (x ≡ begun None (Rattle.fx_model.specs.Origin.main_origin s.term))
 opened_at s f x e = elim (cases_eq f 0) [
   | inl same ↦ (same, sym (same_Some _ _ (sym (at_that 0 _ (λ g. None) f same) ∙ e)))
   | inr ne ↦ absurd (none-some x (sym (at_other 0 _ (λ g. None) f ne) ∙ e))

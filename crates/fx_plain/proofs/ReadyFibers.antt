@@ -2,14 +2,13 @@
 use Rattle.std.proofs.Common.{◌≡◌, ℕ, Bool, true, false, Option, Some, None, refl, ◌∙◌}
 use Rattle.std.proofs.lemmas.Option.{none-some}
 use Rattle.fx_term.specs.Script.{ScriptView}
-use Rattle.fx_fiber.specs.Row.{Counts}
-use Rattle.fx_fiber.specs.Step.{Progress, Runs, Unwinds, CleansUp, HasEnded}
-use Rattle.fx_fiber.specs.Fiber.{has_ended}
-use Rattle.fx_fiber.specs.declared.source.Source.{Source}
-use Rattle.fx_fiber.specs.declared.source.Source.TheVariants.{Nothing, Outcome, Either, Room, Element}
-use Rattle.fx_fiber.specs.WaitsFor.{IsWaiting}
-use Rattle.fx_fiber.specs.Outside.{Outside, can_step}
-use Rattle.fx_fiber.proofs.WaitingLaws.{waiting_steps}
+use Rattle.fx_model.specs.Row.{Counts}
+use Rattle.fx_model.specs.Step.{Progress, Runs, Unwinds, CleansUp, HasEnded, has_ended}
+use Rattle.fx_model.specs.declared.source.Source.{Source}
+use Rattle.fx_model.specs.declared.source.Source.TheVariants.{Nothing, Outcome, Either, Room, Element}
+use Rattle.fx_model.specs.WaitsFor.{IsWaiting}
+use Rattle.fx_model.specs.Outside.{Outside, can_step}
+use Rattle.fx_model.proofs.WaitingLaws.{waiting_steps}
 use Rattle.fx_plain.specs.declared.class.Class.{Class}
 use Rattle.fx_plain.specs.declared.class.Class.TheVariants.{Unstarted, Able, Waits, Over}
 use Rattle.fx_plain.specs.WholeMachine.{StartedFiber, WholeMachine, has_room, outside_of, outcome_of, can_step_fiber, can_step_in}

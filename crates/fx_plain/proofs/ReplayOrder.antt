@@ -4,11 +4,11 @@ use mathlib.Core.Path.{fun_ext}
 use Rattle.fx_term.specs.declared.event.Event.{Event}
 use Rattle.fx_term.specs.Script.{ScriptView, total}
 use Rattle.fx_term.specs.Queue.{QueueState}
-use Rattle.fx_fiber.specs.Row.{Label}
-use Rattle.fx_fiber.specs.Report.{ReportView}
-use Rattle.fx_fiber.specs.LawfulReport.{IsLawfulReport}
-use Rattle.fx_fiber.specs.Causes.{LeavesQueue, CausesComeFirst, IsLawfulInOneOrder, IsOneOrder}
-use Rattle.fx_fiber.proofs.OneOrder.{order_told}
+use Rattle.fx_model.specs.Row.{Label}
+use Rattle.fx_model.specs.Report.{ReportView}
+use Rattle.fx_model.specs.LawfulReport.{IsLawfulReport}
+use Rattle.fx_model.specs.Causes.{LeavesQueue, CausesComeFirst, IsLawfulInOneOrder, IsOneOrder}
+use Rattle.fx_model.proofs.OneOrder.{order_told}
 use Rattle.fx_text.specs.declared.pick.Pick.{Pick}
 use Rattle.fx_plain.specs.WholeMachine.{WholeMachine, Move, opening, can_step_in, FiberSteps, requested_from_outside}
 use Rattle.fx_plain.specs.Chosen.{IsChosen, step, no_step, request, no_request, least, rests, IsReportOf, IsReplay}

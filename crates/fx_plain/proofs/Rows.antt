@@ -14,7 +14,7 @@ use Rattle.fx_text.specs.declared.pick.Pick.TheVariants.{Step}
 use Rattle.fx_text.specs.declared.pick.Pick.TheVariants as pick
 use Rattle.fx_term.specs.declared.item.Item.{Item}
 use Rattle.fx_term.specs.Script.{ScriptView}
-use Rattle.fx_fiber.specs.Report.{FiberReportView, ReportView, outcome_shown}
+use Rattle.fx_model.specs.Report.{FiberReportView, ReportView, outcome_shown}
 use Rattle.fx_plain.specs.WholeMachine.{opening}
 use Rattle.fx_plain.specs.Chosen.{IsReplay}
 use Rattle.std.proofs.lemmas.Option.{same_Some}

@@ -1,11 +1,11 @@
 -- What each run of the whole machine keeps.
 use Rattle.std.proofs.Common.{ℕ, List, [], ◌∷◌, refl, arith}
-use Rattle.fx_fiber.specs.Row.{Starts}
-use Rattle.fx_fiber.specs.Origin.{Origin}
+use Rattle.fx_model.specs.Row.{Starts}
+use Rattle.fx_model.specs.Origin.{Origin}
 use Rattle.fx_text.specs.declared.pick.Pick.{Pick}
 use Rattle.fx_term.specs.Script.{ScriptView}
-use Rattle.fx_fiber.proofs.StepLabels.{StartsNext, step_tells}
-use Rattle.fx_fiber.proofs.RangeLaws.{step_need}
+use Rattle.fx_model.proofs.StepLabels.{StartsNext, step_tells}
+use Rattle.fx_model.proofs.RangeLaws.{step_need}
 use Rattle.fx_plain.specs.WholeMachine.{WholeMachine, Move, Steps, Requests, FiberSteps, WholeMachineLeads, IsWholeMachineRun, opening, FindsItsNumber}
 use Rattle.fx_plain.specs.Chosen.{IsChosen}
 use Rattle.fx_plain.specs.Chosen as chosen

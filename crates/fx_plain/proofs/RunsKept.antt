@@ -8,17 +8,17 @@ use Rattle.std.proofs.lemmas.List.Elements.{All-nil, All-push, All-weaker}
 use Rattle.std.proofs.lemmas.List.Folds.{list_any-append}
 use Rattle.fx_term.specs.declared.outcome.Outcome.{Outcome}
 use Rattle.fx_term.specs.declared.event.Event.TheVariants as event
-use Rattle.fx_fiber.specs.Row.{Counts, Label, Silent, Shows, Learns, Starts}
-use Rattle.fx_fiber.specs.Step.{Progress, Runs, Unwinds, CleansUp, HasEnded, Step}
-use Rattle.fx_fiber.specs.Run.{events}
-use Rattle.fx_fiber.specs.Outside.{outcome_at}
-use Rattle.fx_fiber.proofs.Keeping.{events_append}
+use Rattle.fx_model.specs.Row.{Counts, Label, Silent, Shows, Learns, Starts}
+use Rattle.fx_model.specs.Step.{Progress, Runs, Unwinds, CleansUp, HasEnded, Step}
+use Rattle.fx_model.specs.Run.{events}
+use Rattle.fx_model.specs.Outside.{outcome_at}
+use Rattle.fx_model.proofs.Runs.{events_append}
 use Rattle.fx_term.specs.Script.{ScriptView, total}
-use Rattle.fx_fiber.specs.Report.{is_request_for}
+use Rattle.fx_model.specs.Report.{is_request_for}
 use Rattle.fx_plain.specs.WholeMachine.{StartedFiber, WholeMachine, begun, opening, outcome_of_fiber, outcome_of, IsAnswered, requested_after}
 use Rattle.fx_plain.specs.WholeMachine.{stepped, moved, requested_from_outside}
 use Rattle.fx_plain.proofs.Maps.{at_that, at_other, same_number}
-use Rattle.fx_fiber.proofs.StepLabels.{IsProper, step_tells}
+use Rattle.fx_model.proofs.StepLabels.{IsProper, step_tells}
 use Rattle.fx_plain.proofs.WholeMachineSteps.{Comes, itself, child, other, comes, still_itself, still_other, child_is_there, Grows, step_grows, request_grows}
 use Rattle.fx_plain.proofs.RangesKept.{HasRanges, opened_at, fresh, child_is_another}
 

@@ -5,14 +5,14 @@ use Rattle.fx_term.specs.declared.done.Done.TheVariants.{Val, Err}
 use Rattle.std.proofs.lemmas.Bool.{or_left, or_right, lt-ltb}
 use Rattle.std.proofs.lemmas.Option.{none-some}
 use Rattle.fx_term.specs.Term.{Term, Finished}
-use Rattle.fx_fiber.proofs.Paths.{leaf_plug}
-use Rattle.fx_fiber.specs.Path.{leaf, is_open, must_cancel}
-use Rattle.fx_fiber.specs.Row.{Counts, Label, Row}
-use Rattle.fx_fiber.specs.Row as row
-use Rattle.fx_fiber.specs.Step.{Progress, Step}
-use Rattle.fx_fiber.specs.Step as step
+use Rattle.fx_model.proofs.Paths.{leaf_plug}
+use Rattle.fx_model.specs.Path.{leaf, is_open, must_cancel}
+use Rattle.fx_model.specs.Row.{Counts, Label, Row}
+use Rattle.fx_model.specs.Row as row
+use Rattle.fx_model.specs.Step.{Progress, Step}
+use Rattle.fx_model.specs.Step as step
 use Rattle.fx_term.specs.declared.item.Item.{Item}
-use Rattle.fx_fiber.specs.Outside.{leaf_can_step, can_step}
+use Rattle.fx_model.specs.Outside.{leaf_can_step, can_step}
 use Rattle.fx_term.specs.Script.{ScriptView}
 use Rattle.fx_plain.specs.WholeMachine.{WholeMachine, outside_of, can_step_fiber, can_step_in, front, IsAnswered, FiberSteps}
 

@@ -5,7 +5,7 @@ use Rattle.std.specs.Fmt.{digits}
 use Rattle.fx_term.specs.declared.outcome.Outcome.TheVariants.{Succeeded}
 use Rattle.fx_term.specs.declared.outcome.Outcome.TheVariants as outcome
 use Rattle.fx_term.specs.declared.event.Event.TheVariants as event
-use Rattle.fx_fiber.specs.Report.{ReportView}
+use Rattle.fx_model.specs.Report.{ReportView}
 use Rattle.fx_plain.specs.Text.{report_text, trace_text}
 
 abbrev told : ReportView

@@ -4,12 +4,12 @@ use Rattle.std.proofs.lemmas.Bool.{cases_eq}
 use Rattle.std.proofs.lemmas.List.Elements.{All-nil, All-append}
 use Rattle.fx_term.specs.QueuesNamed.{NamesQueuesBelow, NamesQueueBelow}
 use Rattle.fx_term.specs.Script.{ScriptView}
-use Rattle.fx_fiber.specs.Row.{Counts, Label, Silent, Shows, Learns, Starts}
-use Rattle.fx_fiber.specs.Origin.{main_origin}
-use Rattle.fx_fiber.specs.Step.{Progress, Step}
-use Rattle.fx_fiber.specs.Run.{events}
-use Rattle.fx_fiber.proofs.Keeping.{events_append}
-use Rattle.fx_fiber.proofs.QueueNames.{LabelNamesBelow, ProgressNamesBelow, step_names, events_name}
+use Rattle.fx_model.specs.Row.{Counts, Label, Silent, Shows, Learns, Starts}
+use Rattle.fx_model.specs.Origin.{main_origin}
+use Rattle.fx_model.specs.Step.{Progress, Step}
+use Rattle.fx_model.specs.Run.{events}
+use Rattle.fx_model.proofs.Runs.{events_append}
+use Rattle.fx_model.proofs.QueueNames.{LabelNamesBelow, ProgressNamesBelow, step_names, events_name}
 use Rattle.fx_plain.specs.WholeMachine.{StartedFiber, WholeMachine, Move, Steps, Requests, opening, begun, fibers_after, stepped, moved, with_at}
 use Rattle.fx_plain.specs.WholeMachine.{WholeMachineLeads, IsWholeMachineRun}
 use Rattle.fx_plain.proofs.Maps.{at_that, at_other}

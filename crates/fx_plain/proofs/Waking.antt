@@ -4,7 +4,7 @@ use Rattle.std.specs.Prelude.{slice_set, if◌then◌else◌}
 use Rattle.std.proofs.Math.ListN.{get_or-map}
 use Rattle.std.proofs.lemmas.Bool.{cases_eq, cases_lt}
 use Rattle.std.proofs.lemmas.List.{get_or_past, get_or_read, length-map}
-use Rattle.fx_fiber.specs.declared.source.Source.TheVariants.{Outcome, Either}
+use Rattle.fx_model.specs.declared.source.Source.TheVariants.{Outcome, Either}
 use Rattle.fx_plain.specs.declared.class.Class.{Class}
 use Rattle.fx_plain.specs.declared.class.Class.TheVariants.{Unstarted, Able, Waits}
 use Rattle.fx_plain.specs.Classes.{waits_for_end, class_at_end}

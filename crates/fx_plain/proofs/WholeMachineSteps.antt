@@ -4,11 +4,11 @@ use Rattle.std.proofs.lemmas.Bool.{cases_eq}
 use Rattle.std.proofs.lemmas.Option.{none-some, same_Some}
 use Rattle.fx_term.specs.declared.outcome.Outcome.{Outcome}
 use Rattle.fx_term.specs.declared.event.Event.TheVariants as event
-use Rattle.fx_fiber.specs.Row.{Counts, Label, Silent, Shows, Learns, Starts}
-use Rattle.fx_fiber.specs.Origin.{Origin}
-use Rattle.fx_fiber.specs.Step.{Progress, HasEnded, Step}
-use Rattle.fx_fiber.specs.Outside.{outcome_at}
-use Rattle.fx_fiber.proofs.OutcomeLaws.{no_step_after_end}
+use Rattle.fx_model.specs.Row.{Counts, Label, Silent, Shows, Learns, Starts}
+use Rattle.fx_model.specs.Origin.{Origin}
+use Rattle.fx_model.specs.Step.{Progress, HasEnded, Step}
+use Rattle.fx_model.specs.Outside.{outcome_at}
+use Rattle.fx_model.proofs.OutcomeLaws.{no_step_after_end}
 use Rattle.fx_plain.specs.WholeMachine.{StartedFiber, WholeMachine, with_at, begun, fibers_after, stepped, moved, requested_after, requested_from_outside}
 use Rattle.fx_plain.proofs.Maps.{at_itself, at_that, at_other}
 

@@ -2,13 +2,13 @@
 use Rattle.std.proofs.Common.{◌≡◌, ℕ, zero, suc, ◌+◌, ◌<◌, ◌≤◌, Option, Some, None, List, [], ◌∷◌, sym, ◌∙◌, ap, arith, inl, inr}
 use Rattle.std.proofs.lemmas.Bool.{cases_eq}
 use Rattle.fx_term.specs.Script.{ScriptView, total}
-use Rattle.fx_fiber.specs.Origin.{main_origin}
-use Rattle.fx_fiber.specs.Row.{Counts, Label, Silent, Shows, Learns, Starts}
-use Rattle.fx_fiber.specs.Step.{Progress, Step}
-use Rattle.fx_fiber.specs.Work.{work}
-use Rattle.fx_fiber.proofs.AllWork.{work_of, work_started, step_leaves_less}
-use Rattle.fx_fiber.proofs.RangeLaws.{step_need}
-use Rattle.fx_fiber.proofs.StepLabels.{StartsNext, step_tells}
+use Rattle.fx_model.specs.Origin.{main_origin}
+use Rattle.fx_model.specs.Row.{Counts, Label, Silent, Shows, Learns, Starts}
+use Rattle.fx_model.specs.Step.{Progress, Step}
+use Rattle.fx_model.specs.Work.{work}
+use Rattle.fx_model.proofs.AllWork.{work_of, work_started, step_leaves_less}
+use Rattle.fx_model.proofs.RangeLaws.{step_need}
+use Rattle.fx_model.proofs.StepLabels.{StartsNext, step_tells}
 use Rattle.fx_plain.specs.WholeMachine.{StartedFiber, WholeMachine, begun, opening, fibers_after, stepped, moved, FiberSteps}
 use Rattle.fx_plain.specs.WholeMachine.{Move, Steps, Requests, WholeMachineLeads, IsWholeMachineRun, steps_in}
 use Rattle.fx_plain.proofs.Maps.{at_itself, at_other}

@@ -8,11 +8,11 @@ use Rattle.fx_term.specs.declared.outcome.Outcome as outcome
 use Rattle.fx_term.specs.declared.event.Event.TheVariants as event
 use Rattle.fx_term.specs.Need.{need}
 use Rattle.fx_term.specs.Script.{ScriptView, total}
-use Rattle.fx_fiber.specs.Row.{Counts, Label, Shows, Starts}
-use Rattle.fx_fiber.specs.Origin.{Origin}
-use Rattle.fx_fiber.specs.Step.{Progress, Step}
-use Rattle.fx_fiber.specs.declared.source.Source.{Source}
-use Rattle.fx_fiber.specs.WaitsFor.{IsWaiting}
+use Rattle.fx_model.specs.Row.{Counts, Label, Shows, Starts}
+use Rattle.fx_model.specs.Origin.{Origin}
+use Rattle.fx_model.specs.Step.{Progress, Step}
+use Rattle.fx_model.specs.declared.source.Source.{Source}
+use Rattle.fx_model.specs.WaitsFor.{IsWaiting}
 use Rattle.fx_plain.specs.declared.class.Class.{Class}
 use Rattle.fx_plain.specs.declared.class.Class.TheVariants.{Unstarted, Able, Waits, Over}
 use Rattle.fx_plain.specs.WholeMachine.{StartedFiber, WholeMachine, with_at, opening, has_room, outside_of, outcome_of, can_step_in, moved, requested_from_outside}

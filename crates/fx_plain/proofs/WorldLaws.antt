@@ -8,13 +8,13 @@ use Rattle.fx_term.specs.declared.outcome.Outcome.{Outcome}
 use Rattle.fx_term.specs.declared.event.Event.TheVariants as event
 use Rattle.fx_term.specs.Need.{need}
 use Rattle.fx_term.specs.Script.{ScriptView, total}
-use Rattle.fx_fiber.specs.Origin.{Origin, main_origin}
-use Rattle.fx_fiber.specs.Row.{Counts, Label, Silent, Shows, Learns, Starts}
-use Rattle.fx_fiber.specs.Step.{Progress, Step}
-use Rattle.fx_fiber.specs.Outside.{outcome_at}
-use Rattle.fx_fiber.proofs.RangeLaws.{step_need}
-use Rattle.fx_fiber.proofs.StepLabels.{StartsNext, step_tells}
-use Rattle.fx_fiber.proofs.OutcomeLaws.{end_of, step_end_of, no_step_after_end}
+use Rattle.fx_model.specs.Origin.{Origin, main_origin}
+use Rattle.fx_model.specs.Row.{Counts, Label, Silent, Shows, Learns, Starts}
+use Rattle.fx_model.specs.Step.{Progress, Step}
+use Rattle.fx_model.specs.Outside.{outcome_at}
+use Rattle.fx_model.proofs.RangeLaws.{step_need}
+use Rattle.fx_model.proofs.StepLabels.{StartsNext, step_tells}
+use Rattle.fx_model.proofs.OutcomeLaws.{end_of, step_end_of, no_step_after_end}
 use Rattle.fx_plain.specs.WholeMachine.{StartedFiber, WholeMachine, with_at, begun, opening, outcome_of_fiber, outcome_of, fibers_after}
 use Rattle.fx_plain.specs.WholeMachine.{requested_after, IsAnswered, stepped}
 use Rattle.fx_plain.specs.WholeMachine.{moved, requested_from_outside}

@@ -1,7 +1,7 @@
 -- What the text of a script is answered with, where picks choose its run.
 use Rattle.std.specs.Prelude.{◌≡◌, ℕ, if◌then◌else◌, Err, List}
 use Rattle.std.specs.List.{list_all}
-use Rattle.fx_fiber.specs.Report.{FiberReportView, ReportView}
+use Rattle.fx_model.specs.Report.{FiberReportView, ReportView}
 use Rattle.fx_text.specs.declared.fault.TextFault.{TextFault}
 use Rattle.fx_text.specs.declared.pick.Pick.{Pick}
 use Rattle.fx_text.specs.Meaning.{Meaning}

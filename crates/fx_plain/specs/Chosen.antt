@@ -6,11 +6,10 @@ use Rattle.fx_term.specs.declared.node.Arg.TheVariants.{Number}
 use Rattle.fx_term.specs.declared.event.Event.TheVariants as event
 use Rattle.fx_term.specs.Term.{Term, First}
 use Rattle.fx_term.specs.Script.{ScriptView, total}
-use Rattle.fx_fiber.specs.Row.{Label, Learns}
-use Rattle.fx_fiber.specs.Step.{leaf_at}
-use Rattle.fx_fiber.specs.Run.{events}
-use Rattle.fx_fiber.specs.Fiber.{has_ended}
-use Rattle.fx_fiber.specs.Report.{FiberReportView, ReportView, fiber_in, left_in}
+use Rattle.fx_model.specs.Row.{Label, Learns}
+use Rattle.fx_model.specs.Step.{leaf_at, has_ended}
+use Rattle.fx_model.specs.Run.{events}
+use Rattle.fx_model.specs.Report.{FiberReportView, ReportView, fiber_in, left_in}
 use Rattle.fx_text.specs.declared.pick.Pick.{Pick}
 use Rattle.fx_text.specs.declared.pick.Pick.TheVariants as pick
 use Rattle.fx_plain.specs.WholeMachine.{StartedFiber, WholeMachine, Move, Steps, Requests, opening, outcome_of, can_step_in, FiberSteps}

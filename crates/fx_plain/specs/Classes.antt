@@ -2,11 +2,11 @@
 use Rattle.std.specs.Prelude.{◌≡◌, ℕ, ◌==◌, ◌||◌, Bool, true, false, if◌then◌else◌, Option, Some, None, is_some}
 use Rattle.fx_term.specs.declared.outcome.Outcome as outcome
 use Rattle.fx_term.specs.declared.event.Event.TheVariants as event
-use Rattle.fx_fiber.specs.Row.{Label, Shows, Starts}
-use Rattle.fx_fiber.specs.Fiber.{has_ended}
-use Rattle.fx_fiber.specs.declared.source.Source.TheVariants.{Outcome, Either, Room, Element}
-use Rattle.fx_fiber.specs.WaitsFor.{has_come, IsWaiting}
-use Rattle.fx_fiber.specs.Outside.{Outside}
+use Rattle.fx_model.specs.Row.{Label, Shows, Starts}
+use Rattle.fx_model.specs.Step.{has_ended}
+use Rattle.fx_model.specs.declared.source.Source.TheVariants.{Outcome, Either, Room, Element}
+use Rattle.fx_model.specs.WaitsFor.{has_come, IsWaiting}
+use Rattle.fx_model.specs.Outside.{Outside}
 use Rattle.fx_plain.specs.declared.class.Class.{Class}
 use Rattle.fx_plain.specs.declared.class.Class.TheVariants.{Unstarted, Able, Waits, Over}
 use Rattle.fx_plain.specs.WholeMachine.{StartedFiber, WholeMachine, with_at}

@@ -6,14 +6,13 @@ use Rattle.fx_term.specs.declared.event.Event.TheVariants as event
 use Rattle.fx_term.specs.declared.item.Item.{Item}
 use Rattle.fx_term.specs.Script.{ScriptView, total}
 use Rattle.fx_term.specs.Queue.{values_put}
-use Rattle.fx_fiber.specs.Row.{Counts, Label, Shows, Learns, Starts}
-use Rattle.fx_fiber.specs.Origin.{Origin}
-use Rattle.fx_fiber.specs.Step.{Progress, Runs, Step}
-use Rattle.fx_fiber.specs.Run.{first_counts, events}
-use Rattle.fx_fiber.specs.Origin.{main_origin}
-use Rattle.fx_fiber.specs.MakesStep.{looks_first}
-use Rattle.fx_fiber.specs.Outside.{Outside, outcome_at, can_step}
-use Rattle.fx_fiber.specs.NeedLeft.{TakesItsRange}
+use Rattle.fx_model.specs.Row.{Counts, Label, Shows, Learns, Starts}
+use Rattle.fx_model.specs.Origin.{Origin}
+use Rattle.fx_model.specs.Step.{Progress, Runs, looks_first, Step}
+use Rattle.fx_model.specs.Run.{first_counts, events}
+use Rattle.fx_model.specs.Origin.{main_origin}
+use Rattle.fx_model.specs.Outside.{Outside, outcome_at, can_step}
+use Rattle.fx_model.specs.NeedLeft.{TakesItsRange}
 
 -- a fiber that has started: who started it, what it began with, and the labels of its steps; what it keeps beside its term, and how far it is
 pub record StartedFiber : Type 0 where

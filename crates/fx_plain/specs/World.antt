@@ -6,10 +6,10 @@ use Rattle.fx_term.specs.declared.event.Event.TheVariants as event
 use Rattle.fx_term.specs.declared.item.Item.{Item}
 use Rattle.fx_term.specs.Need.{need}
 use Rattle.fx_term.specs.Script.{ScriptView, total}
-use Rattle.fx_fiber.specs.Origin.{Origin, main_origin}
-use Rattle.fx_fiber.specs.Row.{Counts, Label, Shows, Starts}
-use Rattle.fx_fiber.specs.Step.{Progress}
-use Rattle.fx_fiber.specs.Run.{events}
+use Rattle.fx_model.specs.Origin.{Origin, main_origin}
+use Rattle.fx_model.specs.Row.{Counts, Label, Shows, Starts}
+use Rattle.fx_model.specs.Step.{Progress}
+use Rattle.fx_model.specs.Run.{events}
 use Rattle.fx_plain.specs.declared.class.Class.{Class}
 use Rattle.fx_plain.specs.declared.class.Class.TheVariants.{Unstarted, Able}
 use Rattle.fx_plain.specs.PlainQueue.{QueueView, empty_queue, queue_at, have_room, have_element, with_item, without_front}

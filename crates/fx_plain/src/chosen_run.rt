@@ -1,8 +1,8 @@
 //! Replays a script: makes the run of its fibers that a schedule chooses.
 ghost use Rattle.std.specs.Prelude.{◌≡◌, ◌≤◌, true, IfOk, length};
-ghost use Rattle.fx_fiber.specs.LawfulReport.{IsLawfulReport};
-ghost use Rattle.fx_fiber.specs.Causes.{IsLawfulInOneOrder};
-ghost use Rattle.fx_fiber.specs.Headline.{KeepsWhatIsPromised};
+ghost use Rattle.fx_model.specs.LawfulReport.{IsLawfulReport};
+ghost use Rattle.fx_model.specs.Causes.{IsLawfulInOneOrder};
+ghost use Rattle.fx_model.specs.Headline.{KeepsWhatIsPromised};
 ghost use Rattle.fx_text.specs.View.{meaning};
 ghost use Rattle.fx_plain.specs.Chosen.{IsReplay};
 ghost use Rattle.fx_plain.specs.Replay.{script_of};

@@ -7,7 +7,7 @@ ghost use Rattle.fx_plain.specs.NumberSet.{IsLeastOf};
 ghost use Rattle.fx_plain.specs.PlainQueue.{empty_queue, queue_at, have_room, have_element, front_of};
 ghost use Rattle.fx_term.specs.Code.{IsCode};
 ghost use Rattle.fx_term.specs.Script.{ScriptView, total};
-ghost use Rattle.fx_fiber.specs.Origin.{main_begin_of};
+ghost use Rattle.fx_model.specs.Origin.{main_begin_of};
 ghost use Rattle.fx_text.specs.View.{meaning};
 ghost use Rattle.fx_plain.specs.PlainCalls.{new_port};
 ghost use Rattle.fx_plain.specs.Replay.{script_of};

@@ -1,8 +1,8 @@
 use Rattle.std.specs.Prelude.{true}
 use Rattle.std.proofs.lemmas.Result.{IfOk-weaker}
-use Rattle.fx_fiber.specs.Report.{ReportView}
-use Rattle.fx_fiber.specs.LawfulReport.{IsLawfulReport}
-use Rattle.fx_fiber.specs.Causes.{IsLawfulInOneOrder}
+use Rattle.fx_model.specs.Report.{ReportView}
+use Rattle.fx_model.specs.LawfulReport.{IsLawfulReport}
+use Rattle.fx_model.specs.Causes.{IsLawfulInOneOrder}
 use Rattle.fx_text.specs.View.{meaning}
 use Rattle.fx_plain.specs.Chosen.{IsReplay}
 use Rattle.fx_plain.specs.Replay.{script_of}

@@ -3,8 +3,8 @@ use Rattle.std.proofs.lemmas.List.{drop_more, drop_all}
 use Rattle.std.proofs.lemmas.Result.{IfOk-weaker}
 use Rattle.fx_term.specs.QueuesNamed.{NamesQueuesBelow}
 use Rattle.fx_term.proofs.CoreTerms.{code_is_core}
-use Rattle.fx_fiber.specs.Report.{ReportView}
-use Rattle.fx_fiber.specs.Headline.{KeepsWhatIsPromised}
+use Rattle.fx_model.specs.Report.{ReportView}
+use Rattle.fx_model.specs.Headline.{KeepsWhatIsPromised}
 use Rattle.fx_text.specs.View.{meaning}
 use Rattle.fx_text.specs.declared.pick.Pick.TheVariants as pick
 use Rattle.fx_plain.specs.Chosen.{IsReplay}

@@ -1,5 +1,5 @@
 use Rattle.fx_fiber.specs.Fiber.{progress}
-use Rattle.fx_fiber.proofs.AllWork.{work_of}
+use Rattle.fx_model.proofs.AllWork.{work_of}
 use Rattle.fx_plain.proofs.tests.run_alone.Given as goal
 
 abbrev pub invariant-loop-fiber : goal.invariant-loop-fiber

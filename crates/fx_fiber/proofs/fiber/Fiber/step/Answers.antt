@@ -1,10 +1,10 @@
 use Rattle.std.proofs.Common.{refl, sym, ◌∙◌, append-nil}
 use Rattle.fx_term.specs.declared.event.Event.TheVariants as event
-use Rattle.fx_fiber.specs.Row.{Shows, Learns, Starts}
-use Rattle.fx_fiber.specs.Step.{leaf_at}
+use Rattle.fx_model.specs.Row.{Shows, Learns, Starts}
+use Rattle.fx_model.specs.Step.{leaf_at}
 use Rattle.fx_fiber.specs.Machine.{progress_of}
 use Rattle.fx_fiber.specs.declared.machine.made.Made.TheVariants as made
-use Rattle.fx_fiber.proofs.Ends.{goes_on}
+use Rattle.fx_model.proofs.Ends.{goes_on}
 use Rattle.fx_fiber.proofs.Keeping.{kept_going, kept_ended, one_more, answer_went}
 use Rattle.fx_fiber.proofs.Looks.{calls_of_asks, calls_of_end}
 use Rattle.fx_fiber.proofs.fiber.Fiber.step.Goals as goal

@@ -1,6 +1,6 @@
 use Rattle.std.proofs.Common.{◌≡◌, refl, ap}
 use Rattle.std.proofs.lemmas.Result.{IfOk-weaker}
-use Rattle.fx_fiber.specs.Row.{Counts}
+use Rattle.fx_model.specs.Row.{Counts}
 use Rattle.fx_fiber.specs.Methods.{MakesRule, MakesCall, Interrupts}
 use Rattle.fx_fiber.proofs.Calls.{local_call}
 use Rattle.fx_fiber.proofs.Advances.{inside_leaf, inside_result, inside_loop, same_here, is_interrupted, is_free}

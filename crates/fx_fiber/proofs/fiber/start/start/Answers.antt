@@ -6,8 +6,8 @@ use Rattle.fx_fiber.specs.Calls.{range_after}
 use Rattle.fx_fiber.specs.Deed.{Started}
 use Rattle.fx_fiber.specs.Fiber.{IsAtFirst}
 use Rattle.fx_fiber.specs.Methods.{IsSame}
-use Rattle.fx_fiber.specs.Origin.{Origin, child_origin, origin_of}
-use Rattle.fx_fiber.specs.Row.{Starts}
+use Rattle.fx_model.specs.Origin.{Origin, child_origin, origin_of}
+use Rattle.fx_model.specs.Row.{Starts}
 use Rattle.fx_fiber.proofs.Keeping.{kept_step}
 use Rattle.fx_fiber.proofs.Results.{on_any_error}
 use Rattle.fx_fiber.proofs.Starts.{part, started_node, start_reaches, sound_begin, start_stays, then_sound, start_within, part_scoped, part_works, start_makes}

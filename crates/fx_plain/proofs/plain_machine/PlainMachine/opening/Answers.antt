@@ -2,10 +2,10 @@ use Rattle.std.proofs.Common.{◌≡◌, ◌∙◌, ◌-◌, List, suc, length, 
 use Rattle.std.proofs.lemmas.List.{length-replicate}
 use Rattle.fx_term.specs.Need.{need}
 use Rattle.fx_text.specs.View.{meaning}
-use Rattle.fx_fiber.specs.Origin.{origin_of, main_begin_of}
+use Rattle.fx_model.specs.Origin.{origin_of, main_begin_of}
 use Rattle.fx_fiber.specs.Fiber.{progress}
 use Rattle.fx_term.specs.declared.node.Node.{Node}
-use Rattle.fx_fiber.proofs.Beginnings.{main_begins}
+use Rattle.fx_model.proofs.Beginnings.{main_begins}
 use Rattle.fx_plain.specs.Replay.{script_of}
 use Rattle.fx_plain.specs.PlainCalls.{PortView, new_port}
 use Rattle.fx_plain.specs.World.{WorldView}
