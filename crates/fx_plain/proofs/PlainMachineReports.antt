@@ -16,7 +16,8 @@ use Rattle.fx_text.specs.declared.pick.Pick.{Pick}
 use Rattle.fx_plain.specs.declared.plain_machine.Started.{Started}
 use Rattle.fx_plain.specs.declared.plain_machine.PlainMachine.{PlainMachine}
 use Rattle.fx_plain.specs.WholeMachine.{StartedFiber, WholeMachine}
-use Rattle.fx_plain.specs.Chosen.{report_of_fiber, IsReportOf, IsReplay}
+use Rattle.fx_plain.specs.SettledRun.{report_of_fiber, IsReportOf}
+use Rattle.fx_plain.specs.Chosen.{IsReplay}
 use Rattle.fx_plain.specs.Text.{ends, IsWritableFiber, IsWritable}
 use Rattle.fx_term.specs.QueuesNamed.{NamesQueuesBelow}
 use Rattle.fx_plain.specs.PlainQueue.{QueueView, queue_at}
@@ -26,8 +27,7 @@ use Rattle.fx_plain.specs.PlainMachine.{held, reported, all_reported, all_held, 
 use Rattle.fx_plain.proofs.ComputedRuns.{report}
 use Rattle.fx_plain.proofs.ComputedReports.{report_is_report}
 use Rattle.fx_plain.proofs.Endings.{run_ends}
-use Rattle.fx_plain.proofs.LawfulRuns.{IsKept}
-use Rattle.fx_plain.proofs.RunLaws.{run_keeps}
+use Rattle.fx_plain.proofs.LawfulRuns.{IsKept, run_keeps}
 use Rattle.fx_plain.proofs.OnTheWay.{way_ends}
 use Rattle.fx_plain.proofs.TraceNames.{run_names}
 use Rattle.fx_plain.proofs.WorldClasses.{unready_cannot}

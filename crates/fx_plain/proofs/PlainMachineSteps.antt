@@ -29,8 +29,8 @@ use Rattle.fx_plain.specs.World.{WorldView, HeldFiber, held_of, StandsFor}
 use Rattle.fx_plain.specs.PlainCalls.{PortView, plain_calls}
 use Rattle.fx_plain.specs.PlainMachine.{held, all_held, IsNumbered, StandsForRun, Tries, steps}
 use Rattle.fx_plain.proofs.Maps.{at_that, at_other}
-use Rattle.fx_plain.proofs.LawfulRuns.{IsKept}
-use Rattle.fx_plain.proofs.RunLaws.{run_keeps, start_finds}
+use Rattle.fx_plain.proofs.LawfulRuns.{IsKept, run_keeps}
+use Rattle.fx_plain.proofs.RunLaws.{start_finds}
 use Rattle.fx_plain.proofs.WorldClasses as classes
 use Rattle.fx_plain.proofs.WorldSteps.{world_is, counts_after, steps_so, chosen_so, stands_so}
 

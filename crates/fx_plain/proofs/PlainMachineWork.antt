@@ -13,7 +13,7 @@ use Rattle.fx_plain.specs.WholeMachine.{StartedFiber, WholeMachine}
 use Rattle.fx_plain.specs.ClassSets.{is_able}
 use Rattle.fx_plain.specs.World.{HeldFiber, held_of}
 use Rattle.fx_plain.specs.PlainMachine.{able_count, all_held, StandsForRun, StandsForSome, Tries, steps, waits}
-use Rattle.fx_plain.proofs.RunLaws.{run_keeps}
+use Rattle.fx_plain.proofs.LawfulRuns.{run_keeps}
 use Rattle.fx_plain.proofs.WholeMachineWork.{work_of_fiber, sum_from, same_sum, whole_machine_work, fiber_step_leaves_less}
 
 abbrev work_of_held : Option HeldFiber → ℕ

@@ -73,6 +73,10 @@ can_step_fiber o f (Some x) = can_step o f x.counts x.progress
 abbrev pub can_step_in : ScriptView → WholeMachine → ℕ → Bool
 can_step_in s m f = can_step_fiber (outside_of s m) f (m.fibers f)
 
+-- no fiber can step
+abbrev pub IsSettled : ScriptView → WholeMachine → Type 0
+IsSettled s m = (f : ℕ) → can_step_in s m f ≡ false
+
 abbrev pub front : List Item → Option ℕ
 front [] = None
 front (x ∷ xs) = Some x.value

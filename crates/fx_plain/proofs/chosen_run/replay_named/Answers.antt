@@ -11,7 +11,7 @@ use Rattle.fx_plain.specs.Chosen.{IsReplay}
 use Rattle.fx_plain.specs.Replay.{script_of}
 use Rattle.fx_plain.specs.Text.{queue_names, IsWritable}
 use Rattle.fx_plain.specs.PlainMachine.{IsUnderWay}
-use Rattle.fx_plain.proofs.LawfulRuns.{replay_keeps_promises}
+use Rattle.fx_plain.proofs.ChosenRuns.{replay_keeps_promises}
 use Rattle.fx_plain.proofs.QueueNames.{names_are_as_many, as_many_names, names_declared}
 use Rattle.fx_plain.proofs.chosen_run.replay_named.Goals as goal
 

@@ -1,5 +1,5 @@
--- The events of a replay have one order, in which causes come first.
-use Rattle.std.proofs.Common.{◌≡◌, ℕ, true, false, Contains, List, sym, ◌∙◌, ◌<◌}
+-- The events of a run of the whole machine have one order, in which causes come first.
+use Rattle.std.proofs.Common.{◌≡◌, ℕ, true, Contains, List, [], ◌∷◌, sym, ◌∙◌, ◌<◌}
 use mathlib.Core.Path.{fun_ext}
 use Rattle.fx_term.specs.declared.event.Event.{Event}
 use Rattle.fx_term.specs.Script.{ScriptView, total}
@@ -9,13 +9,12 @@ use Rattle.fx_model.specs.Report.{ReportView}
 use Rattle.fx_model.specs.LawfulReport.{IsLawfulReport}
 use Rattle.fx_model.specs.Causes.{LeavesQueue, CausesComeFirst, IsLawfulInOneOrder, IsOneOrder}
 use Rattle.fx_model.proofs.OneOrder.{order_told}
-use Rattle.fx_text.specs.declared.pick.Pick.{Pick}
-use Rattle.fx_plain.specs.WholeMachine.{WholeMachine, Move, opening, can_step_in, FiberSteps, requested_from_outside}
-use Rattle.fx_plain.specs.Chosen.{IsChosen, step, no_step, request, no_request, least, rests, IsReportOf, IsReplay}
+use Rattle.fx_plain.specs.WholeMachine.{WholeMachine, Move, Steps, Requests, opening, IsSettled, FiberSteps, requested_from_outside, WholeMachineLeads}
+use Rattle.fx_plain.specs.SettledRun.{IsReportOf, HasSettledRun}
 use Rattle.fx_plain.proofs.Keys.{passing_contained}
 use Rattle.fx_plain.proofs.FamilyKept.{labels_of}
 use Rattle.fx_plain.proofs.HistoriesKept.{histories_grow}
-use Rattle.fx_plain.proofs.LawfulRuns.{IsKept, opening_is_kept, moved_keeps, request_keeps, chosen_rests}
+use Rattle.fx_plain.proofs.LawfulRuns.{IsKept, opening_is_kept, moved_keeps, request_keeps}
 use Rattle.fx_plain.proofs.LawfulRuns.{trace_same, report_is_lawful, labels_told, queues_told}
 use Rattle.fx_plain.proofs.WholeMachineSteps.{with_true}
 use Rattle.fx_plain.proofs.CausesKept.{trace_of, AreLeft, AreFromOutside, IsInOrder, opening_is_in_order, order_kept}
@@ -50,15 +49,12 @@ request_in_order s m f lt k = record {
   };
 }
 
-chosen_in_order : (s : ScriptView) {ps : List Pick} {m last : WholeMachine} {vs : List Move} → IsChosen s ps m vs last → KeptInOrder s m → KeptInOrder s last
-chosen_in_order s (step {f = f} {l = l} {m = m} {m' = m'} c rest) k = chosen_in_order s rest (step_in_order s m f l m' c.steps k)
-chosen_in_order s (no_step e rest) k = chosen_in_order s rest k
-chosen_in_order s (request {f = f} {m = m} lt rest) k = chosen_in_order s rest (request_in_order s m f lt k)
-chosen_in_order s (no_request le rest) k = chosen_in_order s rest k
-chosen_in_order s (least {f = f} {l = l} {m = m} {m' = m'} none c rest) k = chosen_in_order s rest (step_in_order s m f l m' c.steps k)
-chosen_in_order s (rests none) k = k
+leads_in_order : (s : ScriptView) (m : WholeMachine) (vs : List Move) (last : WholeMachine) → WholeMachineLeads s m vs last → KeptInOrder s m → KeptInOrder s last
+leads_in_order s m [] last r k = rw r k
+leads_in_order s m (Steps f l ∷ vs) last r k = leads_in_order s r.0 vs last r.2 (step_in_order s m f l r.0 r.1 k)
+leads_in_order s m (Requests f ∷ vs) last r k = leads_in_order s r.0 vs last r.2 (rw r.1.1 (request_in_order s m f r.1.0 k))
 
-module _ (s : ScriptView) (m : WholeMachine) (r : ReportView) (rep : IsReportOf s m r) (k : KeptInOrder s m) (none : (f : ℕ) → can_step_in s m f ≡ false) where
+module _ (s : ScriptView) (m : WholeMachine) (r : ReportView) (rep : IsReportOf s m r) (k : KeptInOrder s m) (none : IsSettled s m) where
   lawful : IsLawfulReport s (λ f. true) r
   lawful = report_is_lawful s m r rep k.kept none
 
@@ -82,6 +78,7 @@ module _ (s : ScriptView) (m : WholeMachine) (r : ReportView) (rep : IsReportOf 
   report_is_in_order : IsLawfulInOneOrder s (λ f. true) r
   report_is_in_order = record { lawful = lawful; causes = report_in_order }
 
--- the report of the run that picks choose is lawful, and its events have one order, in which causes come first
-pub replay_is_in_order : (s : ScriptView) (ps : List Pick) (r : ReportView) → IsReplay s ps r → IsLawfulInOneOrder s (λ f. true) r
-replay_is_in_order s ps r h = report_is_in_order s h.last r h.report (chosen_in_order s h.chosen (opening_in_order s)) (chosen_rests s h.chosen)
+-- the report of a run at whose end no fiber can step is lawful, and its events have one order, in which causes come first
+pub settled_is_in_order : (s : ScriptView) (r : ReportView) → HasSettledRun s r → IsLawfulInOneOrder s (λ f. true) r
+settled_is_in_order s r h =
+    report_is_in_order s h.last r h.report (leads_in_order s (opening s) h.moves h.last h.run (opening_in_order s)) h.settled
