@@ -1,6 +1,6 @@
 //! Schedules, and what the language says of each.
-use super::{repeated, schedule};
-use crate::Pick;
+use crate::repeated::repeated;
+use fx_text::{Pick, schedule};
 use std::test::Fail;
 
 /// Schedules, and their picks.

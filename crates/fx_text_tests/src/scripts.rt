@@ -1,13 +1,13 @@
-//! Texts and what the language says of each.
-use super::*;
+//! Scripts, and what the language says of each.
+use crate::repeated::repeated;
 use fx_term::{Arg, Node, NodeId};
+use fx_text::{TextFault, TextKind, parse};
 use std::alloc::{AllocError, Global};
 use std::process::Abort;
 use std::test::Fail;
 
 mod fibers;
 mod queues;
-mod schedules;
 
 /// A text that is refused, the number of the fault's kind, and the byte that it is at.
 type Refusal<'a> = (&'a [u8], u8, u32);
@@ -154,23 +154,6 @@ fn refusal(alloc: Global, text: &[u8]) -> Option<(u8, u32)> {
         Ok(_) => None,
         Err(fault) => Some((fault.number(), fault.at)),
     }
-}
-
-/// So many times this piece, between two others.
-fn repeated(
-    alloc: Global,
-    before: &[u8],
-    piece: &[u8],
-    times: usize,
-    after: &[u8],
-) -> Result<Vec<u8>, AllocError> {
-    let mut text = Vec::new(alloc);
-    text.extend_from_slice(before)?;
-    for _ in 0..times {
-        text.extend_from_slice(piece)?;
-    }
-    text.extend_from_slice(after)?;
-    Ok(text)
 }
 
 /// Whether these are the nodes of the text's code.
