@@ -1,5 +1,5 @@
 //! The numbers of names that are bound one below the other.
-use super::*;
+use fx_term::{Arg, Registers};
 use std::test::Fail;
 
 #[test]

@@ -4,28 +4,10 @@ use super::*;
 
 const FIVE: Arg = Arg::Number(5);
 
-macro_rules! value_of {
-    ($slot:expr) => { Node::Pure(Arg::Slot($slot)) };
-}
-
 macro_rules! try_take {
     ($slot:expr, $part:expr, $other:expr) => {
         Node::TryTake(0, $slot, NodeId($part), NodeId($other))
     };
-}
-
-macro_rules! start {
-    ($slot:expr, $started:expr, $then:expr) => {
-        Node::Start($slot, NodeId($started), NodeId($then))
-    };
-}
-
-macro_rules! wrong_slot {
-    ($id:expr) => { Some(CodeFault::Slot(NodeId($id))) };
-}
-
-macro_rules! wrong_kind {
-    ($id:expr) => { Some(CodeFault::Kind(NodeId($id))) };
 }
 
 /// A code: what it is, how many queues there are, its nodes, and its first fault.
@@ -42,57 +24,57 @@ static CASES: [Case; 12] = [
         "an offer to a queue past the last one",
         1,
         &[Node::Offer(1, FIVE)],
-        wrong_slot!(0),
+        Some(slot!(0)),
     ),
     (
         "a tryoffer where there is no queue",
         0,
         &[Node::TryOffer(0, FIVE)],
-        wrong_slot!(0),
+        Some(slot!(0)),
     ),
     ("a take from the last queue", 16, &[Node::Take(15)], None),
-    ("a take past it", 16, &[Node::Take(16)], wrong_slot!(0)),
+    ("a take past it", 16, &[Node::Take(16)], Some(slot!(0))),
     (
         "a trytake where there is no queue",
         0,
         &[ONE, ONE, try_take!(0, 0, 1)],
-        wrong_slot!(2),
+        Some(slot!(2)),
     ),
     (
         "an offer of a name that is not bound",
         1,
         &[Node::Offer(0, Arg::Slot(0))],
-        wrong_slot!(0),
+        Some(slot!(0)),
     ),
     (
         "a tryoffer of a fiber",
         1,
         &[ONE, Node::TryOffer(0, Arg::Slot(0)), start!(0, 0, 1)],
-        wrong_kind!(1),
+        Some(kind!(1)),
     ),
     (
         "an offer of a fiber to no queue",
         0,
         &[ONE, Node::Offer(0, Arg::Slot(0)), start!(0, 0, 1)],
-        wrong_slot!(1),
+        Some(slot!(1)),
     ),
     (
         "a trytake that gives its element",
         1,
-        &[value_of!(0), ONE, try_take!(0, 0, 1)],
+        &[name!(0), ONE, try_take!(0, 0, 1)],
         None,
     ),
     (
         "a trytake whose other part gives it",
         1,
-        &[ONE, value_of!(0), try_take!(0, 0, 1)],
-        wrong_slot!(1),
+        &[ONE, name!(0), try_take!(0, 0, 1)],
+        Some(slot!(1)),
     ),
     (
         "a trytake that skips a slot",
         1,
         &[ONE, ONE, try_take!(1, 0, 1)],
-        wrong_slot!(2),
+        Some(slot!(2)),
     ),
 ];
 
