@@ -200,6 +200,3 @@ impl<P: Port> Fiber<P> {
         }
     }
 }
-
-#[cfg(test)]
-mod tests;

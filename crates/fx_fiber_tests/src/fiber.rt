@@ -3,9 +3,9 @@
 ghost use Rattle.std.specs.Prelude.{◌≡◌, Some, None, is_some, ◌||◌, List};
 ghost use Rattle.fx_term.specs.declared.node.Node.{Node};
 
-use super::*;
-use crate::begin::main_begin;
-use fx_term::{Arg, Begin, CodeBrand, Memory, Node, NodeId, Offered, Outcome};
+use fx_fiber::{Closed, Fiber, Port, Stepped, main_begin};
+use fx_term::{Arg, Begin, Code, CodeBrand, Event, Memory, Node, NodeId, Offered, Outcome};
+use std::alloc::Global;
 use std::cell::Cell;
 use std::marker::{Brand, PhantomData};
 use std::process::Abort;
@@ -57,11 +57,23 @@ mod queues;
 mod resources;
 mod unwinding;
 
-/// How many looks there were, and at which the fiber is requested, from 1 on.
+/// How many looks there were, at which the fiber is requested, from 1 on, and the end that was told.
 #[derive(Drop)]
 struct Looks {
     made: Cell<u32>,
     request: Option<u32>,
+    told: Cell<Option<Outcome>>,
+}
+
+impl Looks {
+    /// Before any look.
+    fn new(request: Option<u32>) -> Looks {
+        Looks {
+            made: Cell::new(0),
+            request,
+            told: Cell::new(None),
+        }
+    }
 }
 
 /// A port that answers one look at most with a request, and keeps the end that it was told. No other
@@ -171,6 +183,7 @@ impl<J: CodeBrand> Port for TestPort<J> {
 
     fn finish(&mut self, looks: &mut Looks, outcome: Outcome) {
         self.told = Some(outcome);
+        looks.told.set(Some(outcome));
     }
 }
 
@@ -233,10 +246,7 @@ fn drive<J: CodeBrand>(
 ) -> Result<Ran, Fail>
     requires { code.now.nodes ≡ J.nodes }
 {
-    let mut looks = Looks {
-        made: Cell::new(0),
-        request,
-    };
+    let mut looks = Looks::new(request);
     let port: TestPort<J> = TestPort::new(alloc, 0, main_begin(alloc, code));
     let mut fiber = Fiber::new(alloc, code, port)?;
     let had_ended_first = fiber.has_ended();
@@ -251,7 +261,7 @@ fn drive<J: CodeBrand>(
         id: fiber.id(),
         answers,
         trace: Vec::from_slice(alloc, fiber.trace())?,
-        told: fiber.port.told,
+        told: looks.told.get(),
         looks: looks.made.get(),
         had_ended_first,
         has_ended: fiber.has_ended(),

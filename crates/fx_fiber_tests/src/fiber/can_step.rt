@@ -22,10 +22,7 @@ fn fiber_after<J: CodeBrand>(
 ) -> Result<Fiber<TestPort<J>>, Fail>
     requires { code.now.nodes ≡ J.nodes }
 {
-    let mut looks = Looks {
-        made: Cell::new(0),
-        request: None,
-    };
+    let mut looks = Looks::new(None);
     let port: TestPort<J> = TestPort::new(alloc, 0, main_begin(alloc, code));
     let mut fiber = Fiber::new(alloc, code, port)?;
     for _ in 0..steps {
