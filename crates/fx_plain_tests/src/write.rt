@@ -6,9 +6,13 @@ ghost use Rattle.fx_plain.specs.Text.{queue_names, ends};
 ghost use Rattle.fx_plain.specs.Text.{IsWritableFiber, IsWritable};
 ghost use Rattle.fx_term.specs.QueuesNamed.{NamesQueueBelow};
 
-use super::*;
-use fx_text::parse;
+use fx_fiber::{FiberReport, Report, State};
+use fx_plain::{OutFault, write_report, write_trace};
+use fx_term::{Event, Item, Outcome};
+use fx_text::{QueueDecl, Script, parse};
+use std::alloc::Global;
 use std::io;
+use std::io::Write;
 use std::process::Abort;
 use std::test::Fail;
 

@@ -2,7 +2,7 @@ use Rattle.std.proofs.Common.{rules, subst}
 use Rattle.std.proofs.lemmas.List.{take_all}
 use Rattle.std.proofs.lemmas.List.Elements.{All-more}
 use Rattle.fx_plain.specs.Text.{IsWritableFiber}
-use Rattle.fx_plain.proofs.write.tests.are_writable.Goals as goal
+use Rattle.fx_plain_tests.proofs.write.are_writable.Goals as goal
 
 pub loop-fiber-preserved : goal.loop-fiber-preserved
 loop-fiber-preserved c =

@@ -6,7 +6,7 @@ use Rattle.fx_fiber.specs.MakesStep.{MakesStep, DoesStep}
 use Rattle.fx_fiber.specs.declared.stepped.Stepped.{Stepped}
 use Rattle.fx_fiber.specs.declared.stepped.Stepped.TheVariants.{Went, Gave, Ended}
 use Rattle.fx_fiber.proofs.AllWork.{work_of, step_leaves_less}
-use Rattle.fx_plain.proofs.tests.run_alone.Goals as goal
+use Rattle.fx_plain_tests.proofs.library.run_alone.Goals as goal
 
 module _ {P S : Type 0} (calls : PortCalls P S) (nodes : List Node) (old : FiberView P) (s : S) (new : FiberView P) (s' : S) where
   made_leaves_less : (answer : Stepped P S) → MakesStep calls nodes old s answer new s'

@@ -1,6 +1,7 @@
 //! Readers and writers that fail.
-use super::*;
+use fx_plain::{ENDED, PlainFault, replay_text};
 use std::io;
+use std::io::{Read, Write};
 use std::test::Fail;
 
 /// Gives a text byte by byte, and then an error.

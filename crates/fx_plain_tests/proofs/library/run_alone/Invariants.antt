@@ -1,6 +1,6 @@
 use Rattle.fx_fiber.specs.Fiber.{progress}
 use Rattle.fx_fiber.proofs.AllWork.{work_of}
-use Rattle.fx_plain.proofs.tests.run_alone.Given as goal
+use Rattle.fx_plain_tests.proofs.library.run_alone.Given as goal
 
 abbrev pub invariant-loop-fiber : goal.invariant-loop-fiber
 invariant-loop-fiber g l = Unit {0}

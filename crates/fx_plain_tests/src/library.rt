@@ -1,8 +1,8 @@
 //! The README's example of a library: a world with one fiber.
 ghost use Rattle.std.specs.Prelude.{◌≡◌};
 
-use crate::plain_world::PlainWorld;
 use fx_fiber::{Fiber, Stepped};
+use fx_plain::PlainWorld;
 use fx_term::{CodeBrand, Memory, Outcome};
 use fx_text::{Script, parse};
 use std::alloc::Global;
