@@ -199,6 +199,3 @@ impl<P: Port> Fiber<P> {
         }
     }
 }
-
-#[cfg(test)]
-mod tests;

@@ -70,8 +70,6 @@ mod plain_queue;
 mod plain_world;
 mod put_counts;
 mod refusal;
-#[cfg(test)]
-mod tests;
 mod text_replay;
 mod write;
 

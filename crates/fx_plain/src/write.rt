@@ -150,6 +150,3 @@ pub fn write_trace<W: Write>(
     let text = format_traces(alloc, script, report)?;
     write_text(writer, text.as_bytes())
 }
-
-#[cfg(test)]
-mod tests;
