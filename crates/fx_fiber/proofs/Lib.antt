@@ -22,6 +22,7 @@ pub mod Advances
 pub mod Ranges
 pub mod Beginnings
 pub mod Keeping
+pub mod Telling
 pub mod PairedMasks
 pub mod CancelledSteps
 pub mod RunningTerms

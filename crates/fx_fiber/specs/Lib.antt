@@ -13,6 +13,7 @@ pub mod Methods
 pub mod Fiber
 pub mod MakesStep
 pub mod MakesStart
+pub mod Telling
 pub mod Balanced
 pub mod PairedMasks
 pub mod MaskLaws
