@@ -13,6 +13,7 @@ use std::marker::Model;
 
 mod advance;
 mod bare;
+mod child;
 mod start;
 mod step;
 mod tell;
