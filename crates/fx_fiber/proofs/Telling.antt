@@ -73,15 +73,16 @@ module _ {P S : Type 0} (calls : PortCalls P S) (agrees : P → List Deed → Ty
     keeps_on : (m : Made) → shows_end (label_of m) ≡ false → Advances calls agrees puts nodes s p sh m s' p' sh' → Steps nodes s (label_of m) s'
         → p'' ≡ p' → trace' ≡ trace ++ events (label_of m ∷ []) → IsKept nodes begin' (agrees p'') (finished p'') rest' (puts p'') trace' s'
     keeps_on m on a step same t =
-        rw same (kept_going nodes begin begin' calls agrees puts p p' sh sh' (finished p) (finished p') rest rest' trace trace' s s' m b kept going a step f r on t)
+        rw same (kept_going nodes begin begin' calls agrees puts p p' sh sh' (finished p) (finished p') rest rest' trace trace' s s' m b
+        kept going a step f r on t)
 
     -- so it keeps what the fiber's type says
     pub told_keeps : (m : Made) → IsMade m → Advances calls agrees puts nodes s p sh m s' p' sh'
         → TellsMade calls agrees finished m p' sh' p'' sh'' → puts p'' ≡ puts p' → trace' ≡ trace ++ events (label_of m ∷ [])
         → IsKept nodes begin' (agrees p'') (finished p'') rest' (puts p'') trace' s'
     told_keeps made.Waits is a told c t =
-        rw (told.0, a.asks.1.1) (kept_same nodes begin begin' (agrees p) (agrees p) (finished p) (finished p) rest rest' (puts p) (puts p) trace trace' s s' b kept
-        a.rule.same a.sound (t ∙ append-nil trace) (λ ds h. h) refl r refl)
+        rw (told.0, a.asks.1.1) (kept_same nodes begin begin' (agrees p) (agrees p) (finished p) (finished p) rest rest'
+        (puts p) (puts p) trace trace' s s' b kept a.rule.same a.sound (t ∙ append-nil trace) (λ ds h. h) refl r refl)
     told_keeps made.Silent is a told c t = keeps_on made.Silent refl a a.rule.1 told.0 t
     told_keeps made.Yielded is a told c t = keeps_on made.Yielded refl a a.rule.1 told.0 t
     told_keeps (made.Learns g o e) is a told c t = keeps_on (made.Learns g o e) refl a a.rule told.0 t
@@ -141,7 +142,8 @@ module _ {P S : Type 0} (calls : PortCalls P S) (agrees : P → List Deed → Ty
 -- a start that was due and made its rule is a step
 pub start_does : {P S : Type 0} (calls : PortCalls P S) (agrees : P → List Deed → Type 0) (puts : P → ℕ) (nodes : List Node) (p p' p'' : P) (sh sh' sh'' : S)
     (trace trace' trace'' : List Event) (s s' s'' : Machine) (h : ℕ) (a b : NodeId) (child : FiberView P)
-    → Advances calls agrees puts nodes s p sh (made.Starts h a b) s' p' sh' → MakesStart calls nodes s' p' sh' trace' child s'' p'' sh'' trace'' → trace' ≡ trace
+    → Advances calls agrees puts nodes s p sh (made.Starts h a b) s' p' sh' → MakesStart calls nodes s' p' sh' trace' child s'' p'' sh'' trace''
+    → trace' ≡ trace
     → DoesStep calls nodes (fiber_at p trace s) sh (Child child) (fiber_at p'' trace'' s'') sh''
 start_does calls agrees puts nodes p p' p'' sh sh' sh'' trace trace' trace'' s s' s'' h a b child done started items = record {
   label = Starts s'.next started.origin;
