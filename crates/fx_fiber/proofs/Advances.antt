@@ -130,7 +130,8 @@ module _ {P S : Type 0} (calls : PortCalls P S) (agrees : P → List Deed → Ty
         sound = made.sound;
         rule = makes_before nodes old s m s' same made.rule;
         own = rule_is_own m made.own;
-        asks = asks_by_rule calls _ (leaf_at (progress_of nodes old)) m p p'' sh sh'' made.own (rw due first.1) (rw (same.progress, first.2, first.3) at made.told);
+        asks = asks_by_rule calls _ (leaf_at (progress_of nodes old)) m p p'' sh sh'' made.own (rw due first.1)
+            (rw (same.progress, first.2, first.3) at made.told);
         agreed = rw first.2 at made.agreed;
         counted = rw first.2 at made.counted;
       }

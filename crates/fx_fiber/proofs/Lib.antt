@@ -13,6 +13,7 @@ pub mod Fibers
 pub mod QueueLeaves
 pub mod Advances
 pub mod Keeping
+pub mod Telling
 pub mod Starts
 pub mod LeavesBelow
 pub mod WaitsBelow

@@ -30,6 +30,19 @@ pub record FiberView (P : Type 0) : Type 0 where
   pub cleanups : Option Unwound
   pub focus : Focus
 
+-- the fiber with this port, trace and machine
+abbrev pub fiber_at : {P : Type 0} → P → List Event → Machine → FiberView P
+fiber_at p trace s = record {
+  port = p;
+  trace = trace;
+  counts = counts_of s;
+  registers = s.registers;
+  frames = s.frames;
+  closed = s.masks.regions;
+  cleanups = s.cleanups;
+  focus = s.focus;
+}
+
 -- how far it is
 abbrev pub progress : {P : Type 0} → List Node → FiberView P → Progress
 progress nodes f = progress_at nodes f.registers f.frames f.closed f.cleanups f.focus

@@ -7,4 +7,5 @@ pub mod Methods
 pub mod Fiber
 pub mod MakesStep
 pub mod MakesStart
+pub mod Telling
 pub mod LeafBelow

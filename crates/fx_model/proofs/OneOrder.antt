@@ -117,7 +117,8 @@ pub data SeenAfter (trace : ℕ → List Event) (IsFromOutside : ℕ → Type 0)
   sees : a ≡ f → i ≡ length (trace f) → IsRequestedIn trace a → SeenAfter trace IsFromOutside f a i
 
 module _ (trace trace' : ℕ → List Event) (labels labels' : ℕ → List Label) (IsLeft IsLeft' : ℕ → QueueState → Type 0)
-    (IsFromOutside IsFromOutside' : ℕ → Type 0) (f : ℕ) (more : List Event) (grows : GrowsAt trace trace' f more) (o : HasOrder trace labels IsLeft IsFromOutside) (moment' : ℕ → ℕ → ℕ)
+    (IsFromOutside IsFromOutside' : ℕ → Type 0) (f : ℕ) (more : List Event) (grows : GrowsAt trace trace' f more)
+    (o : HasOrder trace labels IsLeft IsFromOutside) (moment' : ℕ → ℕ → ℕ)
     (kept : (g i : ℕ) → i < length (trace g) → moment' g i ≡ o.moment g i) (is_now : moment' f (length (trace f)) ≡ o.now) where
   -- the moment of an event is the one that it had, or now
   abbrev Old : ℕ → ℕ → Type 0

@@ -110,7 +110,8 @@ row_counts : {k : Bool} {c d : Counts} {l : Label} {t t' : Term} → Row k c t l
 row_counts (row.inside f e g r) = row_counts r
 row_counts _ = omega arith
 
-pub step_work : {c d : Counts} {p q : Progress} {l : Label} → Step c p l d q → d.masks + d.acquired + puts_of l + work_left q ≤ c.masks + c.acquired + work_left p
+pub step_work : {c d : Counts} {p q : Progress} {l : Label} → Step c p l d q
+    → d.masks + d.acquired + puts_of l + work_left q ≤ c.masks + c.acquired + work_left p
 step_work (step.cancelled {t = t} m) = let e = clean_ups_lower t in omega arith
 step_work {c} {d} {l = l} (step.row {t = t} {t' = t'} m r) = let e = row_lowers _ c d l t t' r in let f = row_counts r in omega arith
 step_work {c} {d} {l = l} (step.cleans {t = t} {t' = t'} r) = let e = row_lowers _ c d l t t' r in let f = row_counts r in omega arith

@@ -44,7 +44,8 @@ little_node (Some (node.Bracket x a b c)) term turns fits few h =
 little_node (Some (node.Start x a b)) term turns fits few h = little_two turns 3 _ _ _ _ (omega arith) fits (h a.0 turns fits few.0) (h b.0 turns fits few.1)
 little_node (Some (node.Join f x a e b c)) term turns fits few h =
     little_three turns 1 _ _ _ _ _ _ (omega arith) fits (h a.0 turns fits few.0) (h b.0 turns fits few.1) (h c.0 turns fits few.2)
-little_node (Some (node.TryTake q x a b)) term turns fits few h = little_two turns 1 _ _ _ _ (omega arith) fits (h a.0 turns fits few.0) (h b.0 turns fits few.1)
+little_node (Some (node.TryTake q x a b)) term turns fits few h = little_two turns 1 _ _ _ _ (omega arith) fits (h a.0 turns fits few.0)
+    (h b.0 turns fits few.1)
 little_node _ term turns fits few h = omega arith
 
 little_read : (depth : ℕ) (nodes : List Node) (id turns : ℕ) → turns ≤ most_turns → HasFewTurns turns (read depth nodes id)
