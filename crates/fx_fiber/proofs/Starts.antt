@@ -13,7 +13,7 @@ use Rattle.fx_term.specs.Meaning.{term_of}
 use Rattle.fx_term.specs.Need.{need}
 use Rattle.fx_fiber.specs.declared.machine.focus.Focus.TheVariants.{Eval}
 use Rattle.fx_fiber.specs.declared.machine.Machine.{Machine}
-use Rattle.fx_model.specs.Row.{Counts, Starts, numbers_taken, start}
+use Rattle.fx_model.specs.Row.{Counts, Starts, numbers_taken, start, range_of}
 use Rattle.fx_model.specs.Origin.{child_origin, origin_of}
 use Rattle.fx_model.specs.Step.{Step}
 use Rattle.fx_model.specs.Work.{work, work_left}
@@ -22,7 +22,7 @@ use Rattle.fx_fiber.specs.Fiber.{is_fiber_number}
 use Rattle.fx_model.specs.Scopes.{IsScopedOver, IsProgressScopedOver}
 use Rattle.fx_fiber.specs.Machine.{filled, progress_at, progress_of, counts_of}
 use Rattle.fx_fiber.specs.Sound.{IsNode, IsBound, IsSoundMachine, IsSoundBegin}
-use Rattle.fx_fiber.specs.Calls.{range_of, range_after}
+use Rattle.fx_fiber.specs.Calls.{range_after}
 use Rattle.fx_fiber.specs.MakesStart.{child_begin}
 use Rattle.fx_fiber.specs.Methods.{Steps, IsSame, IsEvaluating, must_cancel_machine}
 use Rattle.fx_model.proofs.AllWork.{step_leaves_less, unknown_small}

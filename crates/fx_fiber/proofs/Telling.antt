@@ -5,11 +5,11 @@ use Rattle.fx_term.specs.declared.node.Node.{Node}
 use Rattle.fx_term.specs.declared.begin.Begin.{Begin}
 use Rattle.fx_term.specs.declared.event.Event.{Event}
 use Rattle.fx_term.specs.declared.event.Event.TheVariants as event
-use Rattle.fx_model.specs.Row.{Shows, Starts}
-use Rattle.fx_model.specs.Step.{leaf_at}
+use Rattle.fx_model.specs.Row.{Shows, Starts, Range}
+use Rattle.fx_model.specs.Step.{leaf_at, has_ended}
 use Rattle.fx_model.specs.Run.{events}
 use Rattle.fx_fiber.specs.Deed.{Deed}
-use Rattle.fx_fiber.specs.Calls.{PortCalls, Range}
+use Rattle.fx_fiber.specs.Calls.{PortCalls}
 use Rattle.fx_fiber.specs.declared.machine.Machine.{Machine}
 use Rattle.fx_fiber.specs.declared.machine.made.Made.{Made}
 use Rattle.fx_fiber.specs.declared.machine.made.Made.TheVariants as made
@@ -23,7 +23,7 @@ use Rattle.fx_fiber.specs.declared.machine.unwound.Unwound.{Unwound}
 use Rattle.fx_fiber.specs.Machine.{progress_of, progress_at}
 use Rattle.fx_fiber.specs.Methods.{Steps, IsSame, IsGoing, label_of, Advances}
 use Rattle.fx_fiber.specs.MakesStep.{Answers, AnswersSilently, MakesStep, DoesStep}
-use Rattle.fx_fiber.specs.Fiber.{FiberView, IsKept, IsUnchanged, fiber_at, has_ended}
+use Rattle.fx_fiber.specs.Fiber.{FiberView, IsKept, IsUnchanged, fiber_at}
 use Rattle.fx_fiber.specs.MakesStart.{MakesStart}
 use Rattle.fx_fiber.specs.Telling.{IsMade, answer_to, TellsMade}
 use Rattle.fx_model.proofs.Ends.{shows_end}

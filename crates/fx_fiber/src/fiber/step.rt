@@ -1,6 +1,7 @@
 //! One step of what a fiber has.
 ghost use Rattle.std.specs.Prelude.{◌≡◌, false, IfOk, OnErr};
-ghost use Rattle.fx_fiber.specs.Fiber.{IsKept, IsUnchanged, fiber_at, has_ended};
+ghost use Rattle.fx_model.specs.Step.{has_ended};
+ghost use Rattle.fx_fiber.specs.Fiber.{IsKept, IsUnchanged, fiber_at};
 ghost use Rattle.fx_fiber.specs.Machine.{progress_of};
 ghost use Rattle.fx_fiber.specs.MakesStep.{DoesStep};
 
