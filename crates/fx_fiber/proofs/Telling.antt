@@ -1,5 +1,5 @@
 -- What was made and told is a step of the fiber, and keeps what its type says.
-use Rattle.std.proofs.Common.{◌≡◌, ℕ, Bool, true, false, Option, List, [], ◌∷◌, ◌++◌, refl, sym, ◌∙◌, append-nil}
+use Rattle.std.proofs.Common.{◌≡◌, ℕ, Bool, true, false, Option, List, [], ◌∷◌, ◌++◌, refl, ◌∙◌, append-nil}
 use Rattle.fx_term.specs.declared.node.NodeId.{NodeId}
 use Rattle.fx_term.specs.declared.node.Node.{Node}
 use Rattle.fx_term.specs.declared.begin.Begin.{Begin}
@@ -22,12 +22,12 @@ use Rattle.fx_fiber.specs.declared.machine.focus.Focus.TheVariants as focus
 use Rattle.fx_fiber.specs.declared.machine.unwound.Unwound.{Unwound}
 use Rattle.fx_fiber.specs.Machine.{progress_of, progress_at}
 use Rattle.fx_fiber.specs.Methods.{Steps, IsSame, IsGoing, label_of, Advances}
-use Rattle.fx_fiber.specs.MakesStep.{Answers, AnswersSilently, MakesStep, DoesStep}
+use Rattle.fx_fiber.specs.MakesStep.{Answers, MakesStep, DoesStep}
 use Rattle.fx_fiber.specs.Fiber.{FiberView, IsKept, IsUnchanged, fiber_at}
 use Rattle.fx_fiber.specs.MakesStart.{MakesStart}
 use Rattle.fx_fiber.specs.Telling.{IsMade, answer_to, TellsMade}
 use Rattle.fx_model.proofs.Ends.{shows_end}
-use Rattle.fx_fiber.proofs.Keeping.{kept_going, kept_ended, kept_same, answer_went}
+use Rattle.fx_fiber.proofs.Keeping.{kept_going, kept_ended, kept_same}
 use Rattle.fx_fiber.proofs.Looks.{calls_of_asks, calls_of_end}
 
 -- what is no start was made

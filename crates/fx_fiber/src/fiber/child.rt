@@ -32,8 +32,8 @@ pub(crate) fn child_of(
     ensures bare { IfOk result
         (λ child. IsFirstBare nodes machine.old.next child.0 child.1.value) }
     ensures named { OnOk result (machine.new ≡ record machine.old {
-        registers = with_number (Some slot) machine.old.next machine.old.registers;
-      }) }
+      registers = with_number (Some slot) machine.old.next machine.old.registers;
+    }) }
     ensures err { OnErr result (machine.new ≡ machine.old) }
 {
     let alloc = machine.alloc;

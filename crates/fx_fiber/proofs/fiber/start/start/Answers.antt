@@ -1,4 +1,4 @@
-use Rattle.std.proofs.Common.{◌+◌, refl, ◌∙◌, ap, subst, [], ◌∷◌, arith}
+use Rattle.std.proofs.Common.{refl, ◌∙◌, ap, subst, [], ◌∷◌, arith}
 use Rattle.fx_fiber.specs.Calls.{range_after}
 use Rattle.fx_fiber.specs.Deed.{Started}
 use Rattle.fx_fiber.specs.Fiber.{IsAtFirst}
