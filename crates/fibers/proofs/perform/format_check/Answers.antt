@@ -1,7 +1,0 @@
-use Rattle.std.proofs.lemmas.List.{length-map}
-use Rattle.fibers.proofs.perform.format_check.Goals as goal
-
-pub returns : goal.returns
-returns c =
-    let made = rw (c.total.ensures, c.len.ensures, c.args.script.now.queues.ok.0) at c.format_counts.ensures in
-    rw (length-map _ _) made

@@ -1,0 +1,37 @@
+-- What is had of a text by its name.
+use Rattle.std.specs.Prelude.{◌≡◌, ◌≢◌, ℕ, Option, List, codes, take, IfSome}
+use Rattle.fx_text.specs.declared.pick.Pick.{Pick}
+use Rattle.fx_text.specs.Meaning.{Meaning}
+use Rattle.fx_text.specs.Grammar.{IsScript}
+use Rattle.fx_text.specs.Schedule.{IsSchedule}
+use Rattle.fx_command.specs.declared.command_fault.CommandFault.{CommandFault}
+use Rattle.fx_command.specs.CommandFault.{IsUnreadOrRefusal}
+use Rattle.fx_command.specs.Refused.{IsNoScript, IsNoSchedule}
+
+-- the first bytes of the text of which so much is known, as many as are wanted, or all
+pub record IsPrefixOf (most : ℕ) (known : Option (List ℕ)) (read : List ℕ) : Type 0 where
+  pub first : IfSome known (λ all. read ≡ take most all)
+
+-- this holds of the text of which so much is known
+pub record OfText (known : Option (List ℕ)) (Holds : List ℕ → Type 0) : Type 0 where
+  pub text : List ℕ
+  pub is : IfSome known (λ all. text ≡ all)
+  pub holds : Holds text
+
+-- that text says this script, or these picks
+abbrev pub FetchesScript : Option (List ℕ) → Meaning → Type 0
+FetchesScript known m = OfText known (λ text. IsScript text m)
+
+abbrev pub FetchesSchedule : Option (List ℕ) → List Pick → Type 0
+FetchesSchedule known ps = OfText known (λ text. IsSchedule text ps)
+
+-- there is none, and the fault says why
+abbrev pub FetchesNoScript : Option (List ℕ) → CommandFault → Type 0
+FetchesNoScript known fault = IsUnreadOrRefusal (λ line. OfText known (IsNoScript line)) fault
+
+abbrev pub FetchesNoSchedule : Option (List ℕ) → CommandFault → Type 0
+FetchesNoSchedule known fault = IsUnreadOrRefusal (λ line. OfText known (IsNoSchedule line)) fault
+
+-- a fetch keeps each text but standard input
+abbrev pub KeepsFiles : (List ℕ → Option (List ℕ)) → (List ℕ → Option (List ℕ)) → Type 0
+KeepsFiles held holds = (name : List ℕ) → name ≢ codes "-" → holds name ≡ held name

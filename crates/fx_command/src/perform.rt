@@ -1,0 +1,89 @@
+//! Does with a script what is asked, and prints it.
+ghost use Rattle.std.specs.Prelude.{◌≡◌, ◌≤◌, IfOk, length, string_bytes};
+ghost use Rattle.fx_text.specs.View.{meaning};
+ghost use Rattle.fx_command.specs.declared.call.Command.TheVariants as command;
+ghost use Rattle.fx_command.specs.Performed.{counts_text, check_text, Performs};
+
+use crate::call::Command;
+use fx_plain::{ENDED, OutFault, replay, status_after, write_report, write_text, write_trace};
+use fx_text::{Pick, Script};
+use std::alloc::{AllocError, Global};
+use std::io::Write;
+
+/// The line of a check: how many fibers the script can have, and how many queues it has.
+fn format_counts(alloc: Global, fibers: u32, queues: usize) -> Result<String, AllocError>
+    ensures { IfOk result (λ text. string_bytes text ≡ counts_text fibers queues) }
+{
+    format!(in alloc; "fibers {fibers} queues {queues}\n")
+}
+
+fn format_check(alloc: Global, script: &Script) -> Result<String, AllocError>
+    ensures { IfOk result (λ text. string_bytes text ≡ check_text (meaning script.now)) }
+{
+    format_counts(alloc, script.total(), script.queues.len())
+}
+
+fn check<W: Write>(
+    alloc: Global,
+    script: &Script,
+    picks: &[Pick],
+    out: &mut W,
+) -> Result<u8, OutFault>
+    ensures { Performs command.Check (meaning script.now) picks.now result
+        (W.contents out.old) (W.contents out.new) }
+{
+    let line = format_check(alloc, script)?;
+    write_text(out, line.as_bytes())?;
+    Ok(ENDED)
+}
+
+fn report<W: Write>(
+    alloc: Global,
+    script: &Script,
+    picks: &[Pick],
+    out: &mut W,
+) -> Result<u8, OutFault>
+    requires { script.now.code.queues ≤ length script.now.queues.items }
+    ensures { Performs command.Replay (meaning script.now) picks.now result
+        (W.contents out.old) (W.contents out.new) }
+{
+    let report = replay(alloc, script, picks)?;
+    write_report(alloc, script, &report, out)?;
+    Ok(status_after(&report))
+}
+
+fn trace<W: Write>(
+    alloc: Global,
+    script: &Script,
+    picks: &[Pick],
+    out: &mut W,
+) -> Result<u8, OutFault>
+    requires { script.now.code.queues ≤ length script.now.queues.items }
+    ensures { Performs command.Trace (meaning script.now) picks.now result
+        (W.contents out.old) (W.contents out.new) }
+{
+    let report = replay(alloc, script, picks)?;
+    write_trace(alloc, script, &report, out)?;
+    Ok(status_after(&report))
+}
+
+/// Does with the script and the picks what is asked, and prints it; the script's code names no queue that
+/// is not declared. The status is 0 where all fibers
+/// ended or are only counted, and 1 where one waits for good.
+pub(crate) fn perform<W: Write>(
+    alloc: Global,
+    command: Command,
+    script: &Script,
+    picks: &[Pick],
+    out: &mut W,
+) -> Result<u8, OutFault>
+    requires { script.now.code.queues ≤ length script.now.queues.items }
+    ensures { Performs command (meaning script.now) picks.now result
+        (W.contents out.old) (W.contents out.new) }
+{
+    match command {
+        Command::Check => check(alloc, script, picks, out),
+        Command::Replay => report(alloc, script, picks, out),
+        Command::Trace => trace(alloc, script, picks, out),
+    }
+}
