@@ -49,7 +49,8 @@ request_in_order s m f lt k = record {
   };
 }
 
-leads_in_order : (s : ScriptView) (m : WholeMachine) (vs : List Move) (last : WholeMachine) → WholeMachineLeads s m vs last → KeptInOrder s m → KeptInOrder s last
+leads_in_order : (s : ScriptView) (m : WholeMachine) (vs : List Move) (last : WholeMachine) → WholeMachineLeads s m vs last → KeptInOrder s m
+    → KeptInOrder s last
 leads_in_order s m [] last r k = rw r k
 leads_in_order s m (Steps f l ∷ vs) last r k = leads_in_order s r.0 vs last r.2 (step_in_order s m f l r.0 r.1 k)
 leads_in_order s m (Requests f ∷ vs) last r k = leads_in_order s r.0 vs last r.2 (rw r.1.1 (request_in_order s m f r.1.0 k))
