@@ -4,7 +4,7 @@ import re
 from dataclasses import dataclass
 
 FN = re.compile(r"( *)(?:pub(?:\(.*?\))? )?(?:const )?fn (\w+)")
-IMPL = re.compile(r"(?:unsafe )?impl(?:<.*?>)? (?:(\w+)(?:<(\w+).*?)? for )?(\w+)")
+IMPL = re.compile(r"(?:unsafe )?impl(?:<.*?>)? (?:(?:\w+::)*(\w+)(?:<(\w+).*?)? for )?(\w+)")
 TYPE = re.compile(r"(?m)^(?:pub(?:\(.*?\))? )?(?:struct|enum|union) (\w+)")
 
 

@@ -87,7 +87,7 @@ class Trial:
         said, seconds = check(self.crate, with_harmless(texts, control), kept, {*changed, control.path})
         self.say(f"{label}: {len(chosen)} edits, {seconds:.0f} s of a processor")
         if not is_answer(said, self.name):
-            why = next((it for it in said.split("\n") if "error" in it), said.strip().split("\n")[-1])
+            why = next((it for it in said.split("\n") if "error: " in it), said.strip().split("\n")[-1])
             for edit in chosen:
                 self.fails(edit.name, f"its round did not come to the proofs: {why[:200]}")
             return

@@ -1,6 +1,6 @@
 //! The files of the machine.
 
-use crate::files::{FetchFault, Files, STANDARD_INPUT};
+use fx_command::files::{FetchFault, Files, STANDARD_INPUT};
 use std::fs::{self, File};
 use std::io::{self, ErrorKind, Read, StdinLock};
 

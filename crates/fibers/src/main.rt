@@ -1,37 +1,12 @@
 //! `fibers`: replays a script of cancellable fibers and prints how each one halted.
 //!
-//! The modules are the program's library part, and `main` joins them to the machine:
-//!
-//! 1. `call` finds in the words what is asked of which texts. Other words are answered with those that
-//!    there are.
-//! 2. `files` fetches texts by name; `host_files` has those of the machine.
-//! 3. `texts` reads the script and the schedule. A text that is refused has its line, which never
-//!    changes, and words for people: `explain` says where and shows the place, `script_words` and
-//!    `schedule_words` say what is wrong.
-//! 4. `perform` checks the script, or replays it and writes its report or its traces.
-//! 5. `command` goes through these in that order, and gives the status.
-//!
-//! What is written on standard output is always a prefix of one text, which was whole before the
-//! first write. What never happens: a schedule that is read before its script is; a byte on standard
-//! output where a text cannot be read or memory runs out; a status that is not in the table of
-//! `command`.
+//! What its words ask for is done by `fx_command`; `main` joins that to the machine: its standard streams,
+//! and its files, which `host_files` has.
 #![tactic(auto)]
 
-mod call;
-pub mod command;
-mod command_fault;
-mod excerpt;
-mod explain;
-pub mod files;
 mod host_files;
-mod open_groups;
-mod perform;
-mod place;
-mod schedule_words;
-mod script_words;
-mod texts;
 
-use command::{FAULT, command};
+use fx_command::command::{FAULT, command};
 use host_files::HostFiles;
 use std::process::ExitCode;
 use std::{env, io};

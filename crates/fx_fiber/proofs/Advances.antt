@@ -6,9 +6,9 @@ use Rattle.fx_term.specs.declared.node.Node.{Node}
 use Rattle.fx_term.specs.declared.node.Node.TheVariants as node
 use Rattle.fx_term.specs.declared.done.Done.{Done}
 use Rattle.fx_term.specs.declared.event.Event.TheVariants as event
-use Rattle.fx_fiber.specs.Path.{is_canceled_form}
-use Rattle.fx_fiber.specs.Row.{Counts}
-use Rattle.fx_fiber.specs.Step.{leaf_at}
+use Rattle.fx_model.specs.Path.{is_canceled_form}
+use Rattle.fx_model.specs.Row.{Counts}
+use Rattle.fx_model.specs.Step.{leaf_at, looks_first}
 use Rattle.fx_fiber.specs.Deed.{Deed, Saw}
 use Rattle.fx_fiber.specs.declared.machine.focus.Focus.TheVariants.{Return, Turn, Await, Unwinding}
 use Rattle.fx_fiber.specs.declared.machine.unwound.Unwound.{Unwound}
@@ -22,7 +22,6 @@ use Rattle.fx_fiber.specs.Sound.{IsSoundMachine}
 use Rattle.fx_fiber.specs.Methods.{IsSame, Makes, MakesRule, Interrupts, IsEvaluating, IsLeafNode, IsEntered, IsGoing, is_canceled_node}
 use Rattle.fx_fiber.specs.Methods.{is_open_machine, must_cancel_machine, IsInterrupted, ComesFirst, MakesCall, Advances}
 use Rattle.fx_fiber.specs.Calls.{PortCalls}
-use Rattle.fx_fiber.specs.MakesStep.{looks_first}
 use Rattle.fx_fiber.proofs.Leaves.{canceled_at}
 use Rattle.fx_fiber.proofs.Looks.{looks_first_before, none_due, not_due_after, due_where_open, asks_by_rule, rule_is_own}
 use Rattle.fx_fiber.proofs.Fibers.{await_unlooked}
@@ -131,7 +130,8 @@ module _ {P S : Type 0} (calls : PortCalls P S) (agrees : P → List Deed → Ty
         sound = made.sound;
         rule = makes_before nodes old s m s' same made.rule;
         own = rule_is_own m made.own;
-        asks = asks_by_rule calls _ (leaf_at (progress_of nodes old)) m p p'' sh sh'' made.own (rw due first.1) (rw (same.progress, first.2, first.3) at made.told);
+        asks = asks_by_rule calls _ (leaf_at (progress_of nodes old)) m p p'' sh sh'' made.own (rw due first.1)
+            (rw (same.progress, first.2, first.3) at made.told);
         agreed = rw first.2 at made.agreed;
         counted = rw first.2 at made.counted;
       }

@@ -7,12 +7,12 @@ use Rattle.fx_term.specs.declared.node.Node.{Node}
 use Rattle.fx_term.specs.declared.event.Event.TheVariants as event
 use Rattle.fx_term.specs.Term.{Term}
 use Rattle.fx_fiber.specs.Deed.{Deed, FoundEnded}
-use Rattle.fx_fiber.specs.Row.{Learns}
-use Rattle.fx_fiber.specs.Step.{leaf_at}
-use Rattle.fx_fiber.specs.declared.source.Source.{Source}
-use Rattle.fx_fiber.specs.Waiting.{wait_at, value_offered, IsRefused}
-use Rattle.fx_fiber.specs.PutsLeft.{puts_with}
-use Rattle.fx_fiber.specs.MakesStep.{PeeksLeft}
+use Rattle.fx_model.specs.Row.{Learns}
+use Rattle.fx_model.specs.Step.{leaf_at}
+use Rattle.fx_model.specs.declared.source.Source.{Source}
+use Rattle.fx_model.specs.Waiting.{wait_at}
+use Rattle.fx_model.specs.PutsLeft.{puts_with}
+use Rattle.fx_fiber.specs.MakesStep.{value_offered, PeeksLeft, IsRefused}
 use Rattle.fx_fiber.specs.Machine.{progress_of}
 use Rattle.fx_fiber.specs.Sound.{IsSoundMachine}
 use Rattle.fx_fiber.specs.Calls.{PortCalls}

@@ -1,25 +1,21 @@
 -- What the contexts round a term do to its path.
-use Rattle.std.proofs.Common.{◌≡◌, ℕ, Bool, true, false, Option, Some, List, [], ◌∷◌, ◌++◌, refl, sym, ◌∙◌, ap, arith, append_assoc, append-nil}
+use Rattle.std.proofs.Common.{◌≡◌, ℕ, Bool, true, false, Option, Some, List, [], ◌∷◌, ◌++◌, refl, sym, ◌∙◌, ap, append_assoc, append-nil}
 use Rattle.std.specs.Prelude.{◌&&◌, ◌||◌, slice_get}
-use Rattle.std.proofs.lemmas.Bool.Decides.{nat_tests}
 use Rattle.fx_term.specs.declared.node.Node.{Node}
 use Rattle.fx_term.specs.declared.node.Node.TheVariants as node
 use Rattle.fx_term.specs.Term.{Term}
-use Rattle.fx_mask.specs.Closing.{Closing, Region, Seal, without_region, is_none_closed}
+use Rattle.fx_mask.specs.Closing.{Closing, Region, Seal, is_none_closed}
+use Rattle.fx_mask.proofs.Closing.{without_innermost}
 use Rattle.fx_frames.specs.declared.frame.Frame.{Frame}
 use Rattle.fx_frames.specs.declared.frame.Frame.TheVariants as frame
 use Rattle.fx_frames.specs.Frames.{cleanups_of}
 use Rattle.fx_fiber.specs.declared.machine.unwound.Unwound.{Unwound}
-use Rattle.fx_fiber.specs.Path.{CleanupTerm, Finalizer, Release, closed_under, closed_regions}
-use Rattle.fx_fiber.specs.Path.{cleanups_with, cleanup_terms, leaf, is_canceled_form, is_open, must_cancel}
-use Rattle.fx_fiber.specs.Row.{Counts, Label, Row}
+use Rattle.fx_model.specs.Path.{CleanupTerm, Finalizer, Release, closed_under, closed_regions}
+use Rattle.fx_model.specs.Path.{cleanups_with, cleanup_terms, leaf, is_canceled_form, is_open, must_cancel}
+use Rattle.fx_model.specs.Row.{Counts, Label, Row}
 use Rattle.fx_fiber.specs.Machine.{filled, acquire_in, all_but_innermost, outside_frame, context_of, in_frame, within, cleanup_terms_of}
 use Rattle.fx_fiber.specs.Sound.{closed_outside, IsClosedBy, AreClosedBy}
-use Rattle.fx_fiber.proofs.Paths.{leaf_plug, closed_plug, cleanups_plug, row_plug}
-
--- a region that is the innermost is taken off
-pub without_innermost : (r : ℕ) (outer : List Closing) → without_region r (Region r ∷ outer) ≡ outer
-without_innermost r outer = grind (arith, nat_tests)
+use Rattle.fx_model.proofs.Paths.{leaf_plug, closed_plug, cleanups_plug, row_plug}
 
 module _ (nodes : List Node) (ns : List ℕ) where
   -- a row of the term inside is a row of the whole

@@ -22,15 +22,14 @@ use Rattle.fx_fiber.specs.declared.machine.focus.Focus.TheVariants.{Eval, Return
 use Rattle.fx_fiber.specs.declared.machine.focus.Focus.TheVariants as focus
 use Rattle.fx_fiber.specs.declared.machine.unwound.Unwound.{Unwound}
 use Rattle.fx_fiber.specs.declared.machine.Machine.{Machine}
-use Rattle.fx_fiber.specs.Path.{is_open, must_cancel}
-use Rattle.fx_fiber.specs.Row.{Shows, Learns, part_after, joined, request, awaited, first_left, first_right}
-use Rattle.fx_fiber.specs.Step.{Progress, leaf_at, must_cancel_at, Step, row, cleans}
+use Rattle.fx_model.specs.Path.{is_open, must_cancel}
+use Rattle.fx_model.specs.Row.{Shows, Learns, part_after, joined, request, awaited, first_left, first_right}
+use Rattle.fx_model.specs.Step.{Progress, leaf_at, must_cancel_at, looks_first, Step, row, cleans}
 use Rattle.fx_fiber.specs.Fiber.{is_fiber_number}
-use Rattle.fx_fiber.specs.Scopes.{IsArgGiven, IsProgressScopedOver}
-use Rattle.fx_fiber.specs.MakesStep.{looks_first}
-use Rattle.fx_fiber.specs.declared.source.Source.TheVariants.{Either}
-use Rattle.fx_fiber.specs.Waiting.{wait_at}
-use Rattle.fx_fiber.specs.declared.source.Source.TheVariants as waiting_for
+use Rattle.fx_model.specs.Scopes.{IsArgGiven, IsProgressScopedOver}
+use Rattle.fx_model.specs.declared.source.Source.TheVariants.{Either}
+use Rattle.fx_model.specs.Waiting.{wait_at}
+use Rattle.fx_model.specs.declared.source.Source.TheVariants as waiting_for
 use Rattle.fx_fiber.specs.Machine.{filled, waiting, within, running, progress_at, progress_of, counts_of}
 use Rattle.fx_fiber.specs.Sound.{closed_outside, IsNode, IsBound, AreClosedBy, IsSound, IsSoundMachine}
 use Rattle.fx_fiber.specs.Methods.{WaitsFor, IsSame, IsEvaluating, must_cancel_machine, joined_machine}
@@ -38,7 +37,7 @@ use Rattle.fx_term.proofs.RegisterLaws.{with_again, length_with}
 use Rattle.fx_fiber.proofs.Contexts.{row_within, leaf_within, closed_within}
 use Rattle.fx_fiber.proofs.Nodes.{child_before, leaf_is_free}
 use Rattle.fx_fiber.proofs.Leaves.{levels, child, row_at, leaf_here, register_stays, beside_sound, beside_is, named_sound, named_is}
-use Rattle.fx_fiber.proofs.ScopedRuns.{leaf_at_over}
+use Rattle.fx_model.proofs.ScopedRuns.{leaf_at_over}
 
 -- the register of a name that stands for a fiber has the number of one
 given_fits : (ns : List ℕ) (x : ℕ) → x < length ns → IsArgGiven is_fiber_number (fill_arg (length ns) ns (Slot x)) → slice_index ns x < 2 ^ 32

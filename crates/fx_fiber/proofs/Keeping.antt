@@ -6,10 +6,10 @@ use Rattle.fx_term.specs.declared.event.Event.{Event}
 use Rattle.fx_term.specs.declared.event.Event.TheVariants as event
 use Rattle.fx_term.specs.declared.outcome.Outcome.{Outcome}
 use Rattle.fx_term.specs.Term.{Term}
-use Rattle.fx_fiber.specs.Row.{Counts, Label, Silent, Shows, Learns, Starts}
-use Rattle.fx_fiber.specs.Step.{Progress, Runs, Step}
-use Rattle.fx_fiber.specs.Run.{Leads, events}
-use Rattle.fx_fiber.specs.Origin.{origin_of}
+use Rattle.fx_model.specs.Row.{Counts, Range, range_of, Label, Shows}
+use Rattle.fx_model.specs.Step.{Progress, Runs, has_ended, Step}
+use Rattle.fx_model.specs.Run.{events}
+use Rattle.fx_model.specs.Origin.{origin_of}
 use Rattle.fx_fiber.specs.declared.machine.Machine.{Machine}
 use Rattle.fx_fiber.specs.declared.machine.made.Made.{Made}
 use Rattle.fx_fiber.specs.declared.machine.made.Made.TheVariants as made
@@ -18,34 +18,22 @@ use Rattle.fx_fiber.specs.Deed.{Deed, Ended, AreDeedsOf, AreDeeds}
 use Rattle.fx_fiber.specs.Machine.{progress_of, counts_of}
 use Rattle.fx_fiber.specs.Sound.{IsSoundMachine}
 use Rattle.fx_fiber.specs.Bare.{IsFirstMachine}
-use Rattle.fx_fiber.specs.Work.{work_left}
-use Rattle.fx_fiber.specs.PutsLeft.{puts_of, puts_with}
+use Rattle.fx_model.specs.Work.{work_left}
+use Rattle.fx_model.specs.PutsLeft.{puts_of, puts_with}
 use Rattle.fx_fiber.specs.Methods.{Steps, IsSame, label_of, deeds_made, Advances}
-use Rattle.fx_fiber.specs.Calls.{PortCalls, Range, range_of, first_range}
+use Rattle.fx_fiber.specs.Calls.{PortCalls, first_range}
 use Rattle.fx_fiber.specs.MakesStep.{Answers}
-use Rattle.fx_fiber.specs.Fiber.{is_fiber_number, IsKept, has_ended}
-use Rattle.fx_fiber.proofs.Work.{step_work}
-use Rattle.fx_fiber.proofs.Ends.{shows_end, ended_after}
-use Rattle.fx_fiber.proofs.Ranges.{step_keeps_range}
+use Rattle.fx_fiber.specs.Fiber.{is_fiber_number, IsKept}
+use Rattle.fx_model.proofs.Runs.{leads_on, events_append}
+use Rattle.fx_model.proofs.Work.{step_work}
+use Rattle.fx_model.proofs.Ends.{shows_end, ended_after}
+use Rattle.fx_model.proofs.Ranges.{step_keeps_range}
 use Rattle.std.proofs.lemmas.Bool.{lt-ltb}
-use Rattle.fx_fiber.specs.NeedLeft.{need_left, HasRoom}
-use Rattle.fx_fiber.specs.Scopes.{IsScopedOver}
-use Rattle.fx_fiber.proofs.RangeLaws.{step_need}
-use Rattle.fx_fiber.proofs.ScopedRuns.{GivesTaken, step_over}
-use Rattle.fx_fiber.proofs.StepLabels.{step_tells}
-
--- a run goes on by one step
-pub leads_on : (c : Counts) (p : Progress) (ls : List Label) (d : Counts) (q : Progress) (l : Label) (e : Counts) (r : Progress) → Leads c p ls d q
-    → Step d q l e r → Leads c p (ls ++ l ∷ []) e r
-leads_on c p [] d q l e r h s = (e, r, rw (← h.0, ← h.1) s, (refl, refl))
-leads_on c p (k ∷ ls) d q l e r h s = (h.0, h.1, h.2, leads_on h.0 h.1 ls d q l e r h.3 s)
-
-pub events_append : (ls ms : List Label) → events (ls ++ ms) ≡ events ls ++ events ms
-events_append [] ms = refl
-events_append (Silent ∷ ls) ms = events_append ls ms
-events_append (Shows e ∷ ls) ms = ap (λ (es : List Event). e ∷ es) (events_append ls ms)
-events_append (Learns f o e ∷ ls) ms = ap (λ (es : List Event). e ∷ es) (events_append ls ms)
-events_append (Starts f b ∷ ls) ms = ap (λ (es : List Event). event.Start f ∷ es) (events_append ls ms)
+use Rattle.fx_model.specs.NeedLeft.{need_left, HasRoom}
+use Rattle.fx_model.specs.Scopes.{IsScopedOver}
+use Rattle.fx_model.proofs.RangeLaws.{step_need}
+use Rattle.fx_model.proofs.ScopedRuns.{GivesTaken, step_over}
+use Rattle.fx_model.proofs.StepLabels.{step_tells}
 
 -- one more step, with its deeds
 deeds_more : (nodes : List Node) (ls : List Label) (ds : List Deed) (l : Label) (es : List Deed) → AreDeeds nodes ls ds → AreDeedsOf nodes l es

@@ -17,17 +17,17 @@ use Rattle.fx_mask.specs.Masks.{MasksView, entered, IsOpened}
 use Rattle.fx_mask.specs.declared.masks.Region as mask_region
 use Rattle.fx_frames.specs.declared.frame.Frame.{Frame}
 use Rattle.fx_frames.specs.declared.frame.Frame.TheVariants as frame
-use Rattle.fx_fiber.specs.Path.{is_canceled_form}
-use Rattle.fx_fiber.specs.Row.{Counts, Label, Silent, Row, one_more_mask, if_not_zero, if_zero, mask, poll}
-use Rattle.fx_fiber.specs.Step.{Progress, leaf_at, Step}
+use Rattle.fx_model.specs.Path.{is_canceled_form}
+use Rattle.fx_model.specs.Row.{Counts, Label, Silent, Row, one_more_mask, if_not_zero, if_zero, mask, poll}
+use Rattle.fx_model.specs.Step.{Progress, leaf_at, Step}
 use Rattle.fx_fiber.specs.declared.machine.focus.Focus.TheVariants.{Eval}
 use Rattle.fx_fiber.specs.declared.machine.Machine.{Machine}
 use Rattle.fx_fiber.specs.Machine.{filled, waiting, inner, closed_again, within, running, progress_at, progress_of, counts_of}
 use Rattle.fx_fiber.specs.Sound.{taken_off, left_of, IsNode, IsBound, IsClosedBy, IsSound}
 use Rattle.fx_fiber.specs.Methods.{WaitsFor, IsSame, IsEvaluating, IsLeafNode, is_canceled_node, must_cancel_machine, is_open_machine}
 use Rattle.fx_fiber.specs.MakesStep.{is_yielding}
-use Rattle.fx_fiber.specs.declared.source.Source.TheVariants.{Nothing}
-use Rattle.fx_fiber.specs.Waiting.{wait_at}
+use Rattle.fx_model.specs.declared.source.Source.TheVariants.{Nothing}
+use Rattle.fx_model.specs.Waiting.{wait_at}
 use Rattle.fx_fiber.proofs.Contexts.{row_within}
 use Rattle.fx_fiber.proofs.Numbers.{filled_same, frames_up, running_same, running_named}
 use Rattle.fx_fiber.proofs.Nodes.{arg_in_registers, levels_at, child_before, child_node, inner_is, leaf_is, leaf_is_free, leaf_step}

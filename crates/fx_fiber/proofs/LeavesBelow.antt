@@ -12,10 +12,10 @@ use Rattle.fx_mask.specs.Closing.{Closing, is_none_closed}
 use Rattle.fx_mask.specs.Masks.{MasksView}
 use Rattle.fx_frames.specs.declared.frame.Frame.{Frame}
 use Rattle.fx_frames.specs.declared.frame.Frame.TheVariants as frame
-use Rattle.fx_fiber.specs.Path.{is_canceled_form, is_open}
-use Rattle.fx_fiber.specs.Row.{Counts}
-use Rattle.fx_fiber.specs.Step.{Progress}
-use Rattle.fx_fiber.specs.Outside.{Outside, leaf_can_step, can_step}
+use Rattle.fx_model.specs.Path.{is_canceled_form, is_open}
+use Rattle.fx_model.specs.Row.{Counts}
+use Rattle.fx_model.specs.Step.{Progress}
+use Rattle.fx_model.specs.Outside.{Outside, leaf_can_step, can_step}
 use Rattle.fx_fiber.specs.declared.machine.focus.Focus.TheVariants.{Eval, Return, Turn, Await, Unwinding}
 use Rattle.fx_fiber.specs.declared.machine.unwound.Unwound.{Unwound}
 use Rattle.fx_fiber.specs.declared.machine.Machine.{Machine}
@@ -23,14 +23,14 @@ use Rattle.fx_fiber.specs.Machine.{masks_inside, loop_of, within, running, unwin
 use Rattle.fx_fiber.specs.Sound.{closed_outside, AreClosedBy, IsLoopIn, IsSoundMachine}
 use Rattle.fx_fiber.specs.Methods.{IsEntryOf, IsEvaluating}
 use Rattle.fx_fiber.specs.Fiber.{is_fiber_number}
-use Rattle.fx_fiber.specs.Scopes.{IsClosedTerm, IsProgressScopedOver}
+use Rattle.fx_model.specs.Scopes.{IsClosedTerm, IsProgressScopedOver}
 use Rattle.fx_fiber.specs.LeafBelow.{IsDownTo, is_open_inside, IsLeafBelow, term_at}
 use Rattle.fx_fiber.specs.declared.machine.leaf_below.LeafBelow.{LeafBelow}
 use Rattle.fx_fiber.proofs.Contexts.{leaf_within, closed_within, open_within, must_within, clean_up_is_closed}
 use Rattle.fx_fiber.proofs.Rules.{IsLeafTerm, result_term}
 use Rattle.fx_fiber.proofs.Fibers.{join_within, join_fits, left_within, right_within, left_fits, right_fits}
 use Rattle.fx_fiber.proofs.Leaves.{leaf_here}
-use Rattle.fx_fiber.proofs.ScopedRuns.{leaf_at_over}
+use Rattle.fx_model.proofs.ScopedRuns.{leaf_at_over}
 use Rattle.fx_fiber.proofs.Nodes.{leaf_of_node, loop_term, progress_is, entered_sound, entered_same, inside_entries}
 
 -- what is open inside a context is read off what its masks close

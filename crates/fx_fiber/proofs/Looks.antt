@@ -8,8 +8,8 @@ use Rattle.fx_term.specs.Term.{Term, Finished}
 use Rattle.fx_mask.specs.Closing.{is_none_closed}
 use Rattle.fx_mask.specs.Masks.{MasksView}
 use Rattle.fx_frames.specs.declared.frame.Frame.{Frame}
-use Rattle.fx_fiber.specs.Path.{is_canceled_form}
-use Rattle.fx_fiber.specs.Row.{Counts, Shows}
+use Rattle.fx_model.specs.Path.{is_canceled_form}
+use Rattle.fx_model.specs.Row.{Counts, Shows}
 use Rattle.fx_fiber.specs.declared.machine.focus.Focus.{Focus}
 use Rattle.fx_fiber.specs.declared.machine.focus.Focus.TheVariants.{Eval, Return, Turn, Await, Unwinding, Ended}
 use Rattle.fx_fiber.specs.declared.machine.unwound.Unwound.{Unwound}
@@ -21,11 +21,12 @@ use Rattle.fx_fiber.specs.Sound.{closed_outside, AreClosedBy, IsSound, IsSoundMa
 use Rattle.fx_fiber.specs.Methods.{IsEntered, IsGoing, IsSame, must_cancel_machine, is_open_machine, label_of, IsRuleMade, IsOwnMade, Told, Asks}
 use Rattle.fx_fiber.specs.Calls.{PortCalls}
 use Rattle.fx_fiber.specs.declared.stepped.Stepped.{Stepped}
-use Rattle.fx_fiber.specs.MakesStep.{looks_first, LooksInVain, Calls}
+use Rattle.fx_fiber.specs.MakesStep.{LooksInVain, Calls}
+use Rattle.fx_model.specs.Step.{looks_first}
 use Rattle.fx_fiber.proofs.Contexts.{open_within, must_within, clean_up_is_closed}
 use Rattle.fx_fiber.proofs.Rules.{IsLeafTerm}
 use Rattle.fx_fiber.proofs.Nodes.{leaf_of_focus}
-use Rattle.fx_fiber.proofs.Ends.{shows_end}
+use Rattle.fx_model.proofs.Ends.{shows_end}
 
 shut_false : (a b : Bool) → a ≡ false → false ≡ (a && b)
 shut_false a b e = rw e refl

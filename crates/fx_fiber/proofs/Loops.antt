@@ -13,9 +13,9 @@ use Rattle.fx_term.specs.Meaning.{term_of}
 use Rattle.fx_term.proofs.RegisterLaws.{agree_below, length_with}
 use Rattle.fx_mask.specs.Closing.{is_none_closed}
 use Rattle.fx_frames.specs.declared.frame.Frame.TheVariants as frame
-use Rattle.fx_fiber.specs.Path.{is_canceled_form}
-use Rattle.fx_fiber.specs.Row.{Silent, Row, for_begins, loop_turns, loop_ends}
-use Rattle.fx_fiber.specs.Step.{Progress, leaf_at, Step}
+use Rattle.fx_model.specs.Path.{is_canceled_form}
+use Rattle.fx_model.specs.Row.{Silent, Row, for_begins, loop_turns, loop_ends}
+use Rattle.fx_model.specs.Step.{Progress, leaf_at, Step}
 use Rattle.fx_fiber.specs.MakesStep.{is_yielding}
 use Rattle.fx_fiber.specs.declared.machine.focus.Focus.TheVariants.{Eval, Return, Turn}
 use Rattle.fx_fiber.specs.declared.machine.Machine.{Machine}

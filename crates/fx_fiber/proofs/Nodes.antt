@@ -17,9 +17,9 @@ use Rattle.fx_mask.specs.Masks.{MasksView, closed_by}
 use Rattle.fx_frames.specs.declared.frame.Frame.{Frame}
 use Rattle.fx_frames.specs.declared.frame.Frame.TheVariants as frame
 use Rattle.fx_fiber.specs.declared.machine.unwound.Unwound.{Unwound}
-use Rattle.fx_fiber.specs.Path.{is_canceled_form}
-use Rattle.fx_fiber.specs.Row.{Counts, Label, Row}
-use Rattle.fx_fiber.specs.Step.{leaf_at, must_cancel_at, Step}
+use Rattle.fx_model.specs.Path.{is_canceled_form}
+use Rattle.fx_model.specs.Row.{Counts, Label, Row}
+use Rattle.fx_model.specs.Step.{leaf_at, must_cancel_at, Step}
 use Rattle.fx_fiber.specs.declared.machine.focus.Focus.{Focus}
 use Rattle.fx_fiber.specs.declared.machine.focus.Focus.TheVariants.{Eval, Return, Turn, Await, Unwinding, Ended}
 use Rattle.fx_fiber.specs.Machine.{filled, loop_of, inner, outside_frame, masks_inside, within, running, progress_at}

@@ -18,8 +18,8 @@ use Rattle.fx_frames.specs.declared.cleanup.Cleanup.{Cleanup}
 use Rattle.fx_frames.specs.declared.cleanup.Cleanup.TheVariants as cleanup
 use Rattle.fx_frames.specs.Frames.{cleanups_of}
 use Rattle.fx_fiber.specs.declared.machine.unwound.Unwound.{Unwound}
-use Rattle.fx_fiber.specs.Path.{CleanupTerm, Finalizer, Release}
-use Rattle.fx_fiber.specs.Step.{CleansUp}
+use Rattle.fx_model.specs.Path.{CleanupTerm, Finalizer, Release}
+use Rattle.fx_model.specs.Step.{CleansUp}
 use Rattle.fx_fiber.specs.Machine.{filled, waiting, loop_of, bracket_of, outside_frame, in_frame, within, cleanup_term, cleanup_terms_of, running}
 use Rattle.fx_fiber.specs.Sound.{left_of, IsNode, IsBound, IsLoopIn, IsBracketIn, IsFrameIn, IsCleanupIn, AreCleanupsIn, AreFramesIn}
 

@@ -15,13 +15,14 @@ use Rattle.fx_term.specs.Registers.{with_number}
 use Rattle.fx_term.specs.Scope.{IsArgBelow, HasLevels}
 use Rattle.fx_term.specs.Meaning.{term_of}
 use Rattle.fx_term.proofs.RegisterLaws.{with_again, length_with}
-use Rattle.fx_fiber.specs.Row.{Shows, offered, tried_offer, refused, taken, tried_take, found_empty}
-use Rattle.fx_fiber.specs.Step.{leaf_at, Step}
+use Rattle.fx_model.specs.Row.{Shows, offered, tried_offer, refused, taken, tried_take, found_empty}
+use Rattle.fx_model.specs.Step.{leaf_at, Step}
 use Rattle.fx_fiber.specs.declared.machine.focus.Focus.TheVariants.{Eval, Return}
 use Rattle.fx_fiber.specs.declared.machine.Machine.{Machine}
-use Rattle.fx_fiber.specs.declared.source.Source.{Source}
-use Rattle.fx_fiber.specs.declared.source.Source.TheVariants.{Room, Element}
-use Rattle.fx_fiber.specs.Waiting.{wait_at, value_offered}
+use Rattle.fx_model.specs.declared.source.Source.{Source}
+use Rattle.fx_model.specs.declared.source.Source.TheVariants.{Room, Element}
+use Rattle.fx_model.specs.Waiting.{wait_at}
+use Rattle.fx_fiber.specs.MakesStep.{value_offered}
 use Rattle.fx_fiber.specs.Machine.{filled, waiting, progress_at, progress_of, counts_of}
 use Rattle.fx_fiber.specs.Sound.{IsNode, IsBound, IsSound, IsSoundMachine}
 use Rattle.fx_fiber.specs.Methods.{WaitsFor, IsSame, IsEvaluating, IsLeafNode, must_cancel_machine}

@@ -10,8 +10,8 @@ use Rattle.fx_term.specs.Registers.{with_number}
 use Rattle.fx_term.specs.Scope.{bound_under}
 use Rattle.fx_mask.specs.Closing.{Closing, Seal}
 use Rattle.fx_frames.specs.declared.frame.Frame.TheVariants as frame
-use Rattle.fx_fiber.specs.Row.{Counts, Silent, Shows, Row, one_more_acquired, acquired, acquire_fails}
-use Rattle.fx_fiber.specs.Step.{Step}
+use Rattle.fx_model.specs.Row.{Counts, Silent, Shows, Row, one_more_acquired, acquired, acquire_fails}
+use Rattle.fx_model.specs.Step.{Step}
 use Rattle.fx_fiber.specs.declared.machine.focus.Focus.TheVariants.{Eval}
 use Rattle.fx_fiber.specs.declared.machine.Machine.{Machine}
 use Rattle.fx_fiber.specs.Machine.{filled, waiting, bracket_of, all_but_innermost, within, running, progress_at, progress_of, counts_of}

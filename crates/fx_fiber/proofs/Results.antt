@@ -9,13 +9,13 @@ use Rattle.fx_term.specs.Registers.{with_number}
 use Rattle.fx_term.specs.Scope.{bound_under}
 use Rattle.fx_mask.specs.Closing.{Closing, is_none_closed}
 use Rattle.fx_frames.specs.declared.frame.Frame.{Frame}
-use Rattle.fx_fiber.specs.Row.{Counts, Label, Silent, Row}
-use Rattle.fx_fiber.specs.Step.{Progress, leaf_at, Step}
+use Rattle.fx_model.specs.Row.{Counts, Label, Silent, Row}
+use Rattle.fx_model.specs.Step.{Progress, leaf_at, Step}
 use Rattle.fx_fiber.specs.declared.machine.focus.Focus.TheVariants.{Eval}
 use Rattle.fx_fiber.specs.declared.machine.Machine.{Machine}
 use Rattle.fx_fiber.specs.Machine.{filled, waiting, outside_frame, in_frame, within, running, progress_of, counts_of}
 use Rattle.fx_fiber.specs.Sound.{closed_outside, left_of, taken_off, AreClosedBy, AreFramesIn, IsFrameIn, IsBound, IsClosedBy, IsSound}
-use Rattle.fx_fiber.specs.Path.{must_cancel}
+use Rattle.fx_model.specs.Path.{must_cancel}
 use Rattle.fx_fiber.specs.Methods.{ReturnsInto, IsReturning}
 use Rattle.fx_fiber.specs.MakesStep.{is_yielding}
 use Rattle.fx_fiber.proofs.Contexts.{row_within}

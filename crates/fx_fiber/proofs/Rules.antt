@@ -9,9 +9,9 @@ use Rattle.fx_mask.specs.Closing.{Closing, is_none_closed}
 use Rattle.fx_frames.specs.declared.frame.Frame.{Frame}
 use Rattle.fx_fiber.specs.declared.machine.unwound.Unwound.{Unwound}
 use Rattle.fx_frames.specs.Frames.{cleanups_of}
-use Rattle.fx_fiber.specs.Path.{closed_regions, cleanup_terms, leaf, is_canceled_form, is_open}
-use Rattle.fx_fiber.specs.Row.{Counts, Label, Shows, Row, known_canceled}
-use Rattle.fx_fiber.specs.Step.{Runs, Unwinds, leaf_at, must_cancel_at, Step, cancelled, seen, row, cleans}
+use Rattle.fx_model.specs.Path.{closed_regions, cleanup_terms, leaf, is_canceled_form, is_open}
+use Rattle.fx_model.specs.Row.{Counts, Label, Shows, Row, known_canceled}
+use Rattle.fx_model.specs.Step.{Runs, Unwinds, leaf_at, must_cancel_at, Step, cancelled, seen, row, cleans}
 use Rattle.fx_fiber.specs.Machine.{within, cleanup_terms_of, running}
 use Rattle.fx_fiber.specs.Sound.{closed_outside, AreClosedBy}
 use Rattle.fx_fiber.proofs.Contexts.{leaf_within, clean_within, open_within, must_within, clean_up_is_closed}

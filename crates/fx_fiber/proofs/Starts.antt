@@ -1,9 +1,10 @@
 -- The rule of `start`.
-use Rattle.std.proofs.Common.{◌≡◌, ℕ, suc, ◌+◌, ◌<◌, ◌≤◌, ◌^◌, false, Some, List, [], ◌∷◌, length, refl, sym, ◌∙◌, ap, subst, arith}
+use Rattle.std.proofs.Common.{◌≡◌, ℕ, suc, ◌+◌, ◌<◌, ◌≤◌, ◌^◌, false, Some, List, [], ◌∷◌, length, refl, sym, ap, subst, arith}
 use Rattle.std.specs.Prelude.{All}
 use Rattle.fx_term.specs.declared.node.NodeId.{NodeId}
 use Rattle.fx_term.specs.declared.node.Node.{Node}
 use Rattle.fx_term.specs.declared.node.Node.TheVariants as node
+use Rattle.fx_term.specs.declared.begin.Begin.{Begin}
 use Rattle.fx_term.specs.Term.{Term, Let, Handle, If, For, Mask, Poll, OnCancel, Bracket, Start, Join, TryTake, Masked, Opened, InUse, InRelease, Loop}
 use Rattle.fx_term.specs.Fill.{lower, lower_named, fill}
 use Rattle.fx_term.specs.Registers.{with_number}
@@ -12,22 +13,24 @@ use Rattle.fx_term.specs.Meaning.{term_of}
 use Rattle.fx_term.specs.Need.{need}
 use Rattle.fx_fiber.specs.declared.machine.focus.Focus.TheVariants.{Eval}
 use Rattle.fx_fiber.specs.declared.machine.Machine.{Machine}
-use Rattle.fx_fiber.specs.Row.{Counts, Starts, numbers_taken, start}
-use Rattle.fx_fiber.specs.Origin.{child_origin, origin_of}
-use Rattle.fx_fiber.specs.Step.{Step}
-use Rattle.fx_fiber.specs.Work.{work, work_left}
-use Rattle.fx_fiber.specs.NeedLeft.{need_left}
+use Rattle.fx_model.specs.Row.{Counts, Starts, numbers_taken, start, range_of}
+use Rattle.fx_model.specs.Origin.{child_origin, origin_of}
+use Rattle.fx_model.specs.Step.{Step}
+use Rattle.fx_model.specs.Work.{work, work_left}
+use Rattle.fx_model.specs.NeedLeft.{need_left}
 use Rattle.fx_fiber.specs.Fiber.{is_fiber_number}
-use Rattle.fx_fiber.specs.Scopes.{IsScopedOver, IsProgressScopedOver}
+use Rattle.fx_model.specs.Scopes.{IsScopedOver, IsProgressScopedOver}
 use Rattle.fx_fiber.specs.Machine.{filled, progress_at, progress_of, counts_of}
-use Rattle.fx_fiber.specs.Sound.{IsNode, IsBound, IsSound, IsSoundBegin}
+use Rattle.fx_fiber.specs.Sound.{IsNode, IsBound, IsSoundMachine, IsSoundBegin}
+use Rattle.fx_fiber.specs.Calls.{range_after}
+use Rattle.fx_fiber.specs.MakesStart.{child_begin}
 use Rattle.fx_fiber.specs.Methods.{Steps, IsSame, IsEvaluating, must_cancel_machine}
-use Rattle.fx_fiber.proofs.AllWork.{step_leaves_less, unknown_small}
+use Rattle.fx_model.proofs.AllWork.{step_leaves_less, unknown_small}
 use Rattle.fx_fiber.proofs.Keeping.{taken_fit}
 use Rattle.fx_fiber.proofs.Leaves.{levels, child, row_at, name_reaches, register_stays, named_sound, named_is}
 use Rattle.fx_fiber.proofs.Nodes.{child_before}
-use Rattle.fx_fiber.proofs.RangeLaws.{step_need}
-use Rattle.fx_fiber.proofs.ScopedRuns.{step_over}
+use Rattle.fx_model.proofs.RangeLaws.{step_need}
+use Rattle.fx_model.proofs.ScopedRuns.{step_over}
 
 -- numbers for names leave the need as it is
 pub fill_need : (b : ℕ) (ns : List ℕ) (t : Term) → need (fill b ns t) ≡ need t
@@ -74,12 +77,12 @@ module _ (nodes : List Node) (s : Machine) (id : NodeId) (h : ℕ) (a b : NodeId
   pub start_stays : (n : ℕ) (t : Machine) → t ≡ record s { registers = with_number (Some h) n s.registers } → IsSame nodes s t
   start_stays n = register_stays nodes s id _ at h start_levels.1 n
 
-  pub then_sound : (n : ℕ) → IsSound nodes (with_number (Some h) n s.registers) s.frames s.masks s.cleanups (Eval b)
-  then_sound n = named_sound nodes s id _ at h start_levels.1 n b then_bound
-
   -- the term of the child
   abbrev pub part : Term
   part = filled nodes s.registers a
+
+  pub need_is : need (term_of nodes a.0) ≡ need part
+  need_is = sym (fill_need (length s.registers) s.registers (term_of nodes a.0))
 
   module _ (free : must_cancel_machine nodes s ≡ false) where
     -- the fiber goes on with the number of its child by the name
@@ -93,6 +96,9 @@ module _ (nodes : List Node) (s : Machine) (id : NodeId) (h : ℕ) (a b : NodeId
       pub start_within : s.next + 1 + need part ≤ s.end
       start_within = let n = step_need start_step in omega arith
 
+      pub child_within : s.next + 1 + need (term_of nodes a.0) ≤ s.end
+      child_within = rw need_is start_within
+
       pub part_scoped : s.end < 2 ^ 32 → IsProgressScopedOver is_fiber_number (progress_of nodes s) → IsScopedOver is_fiber_number part
       part_scoped word over = (step_over is_fiber_number start_step (taken_fit start_step room word) over).1
 
@@ -100,19 +106,22 @@ module _ (nodes : List Node) (s : Machine) (id : NodeId) (h : ℕ) (a b : NodeId
     part_works puts few = let p = step_leaves_less start_step in let q = unknown_small s.known in omega arith
 
     -- so it makes the rule
-    pub start_makes : (n : ℕ) (t : Machine) → n ≡ need part
-        → t ≡ record s { registers = with_number (Some h) s.next s.registers; focus = Eval b; next = s.next + 1 + n }
-        → Steps nodes s (Starts s.next (child_origin s.next part)) t
-    start_makes n t e is =
-        let counts : numbers_taken (1 + need part) (counts_of s) ≡ record (counts_of s) { next = s.next + 1 + n } =
-        ap (λ (k : ℕ). record (counts_of s) { next = k }) (omega arith) in
-        rw is (subst (λ (d : Counts). Step (counts_of s) (progress_of nodes s) (Starts s.next (child_origin s.next part)) d
+    pub start_makes : (m : Machine) (begin : Begin) → m ≡ record s { registers = with_number (Some h) s.next s.registers } → begin ≡ child_begin nodes s a
+        → Steps nodes s (Starts s.next (child_origin s.next part)) (record m { focus = Eval b; next = begin.end })
+    start_makes m begin named is =
+        let counts : numbers_taken (1 + need part) (counts_of s) ≡ record (counts_of s) { next = (child_begin nodes s a).end } =
+        ap (λ (k : ℕ). record (counts_of s) { next = k }) (let e = need_is in omega arith) in
+        rw (named, is) (subst (λ (d : Counts). Step (counts_of s) (progress_of nodes s) (Starts s.next (child_origin s.next part)) d
         (progress_at nodes (with_number (Some h) s.next s.registers) s.frames s.masks.regions s.cleanups (Eval b))) counts start_step)
 
-  -- the child begins with the term of its part
-  pub begins_so : (ns : List ℕ) (n : ℕ) → ns ≡ s.registers → n ≡ need part
-      → origin_of nodes (record { node = a; slots = ns; next = s.next + 1; end = s.next + 1 + n }) ≡ child_origin s.next part
-  begins_so ns n e f = rw (e, f) refl
+  pub start_sound : (m : Machine) (begin : Begin) → m ≡ record s { registers = with_number (Some h) s.next s.registers }
+      → IsSoundMachine nodes (record m { focus = Eval b; next = begin.end })
+  start_sound m begin named = rw named (named_sound nodes s id _ at h start_levels.1 s.next b then_bound)
 
-  pub need_is : (n : ℕ) → n ≡ need (term_of nodes a.0) → n ≡ need part
-  need_is n e = e ∙ sym (fill_need (length s.registers) s.registers (term_of nodes a.0))
+  pub start_range : (m : Machine) (begin : Begin) → m ≡ record s { registers = with_number (Some h) s.next s.registers }
+      → range_after begin (range_of (counts_of s)) ≡ range_of (counts_of (record m { focus = Eval b; next = begin.end }))
+  start_range m begin named = rw named refl
+
+  -- the child begins with the term of its part
+  pub begins_so : origin_of nodes (child_begin nodes s a) ≡ child_origin s.next part
+  begins_so = rw need_is refl

@@ -13,9 +13,9 @@ use Rattle.fx_fiber.specs.declared.machine.unwound.Unwound.{Unwound}
 use Rattle.fx_frames.specs.declared.cleanup.Cleanup.{Cleanup}
 use Rattle.fx_frames.specs.declared.cleanup.Cleanup.TheVariants as cleanup
 use Rattle.fx_frames.specs.Frames.{cleanups_of}
-use Rattle.fx_fiber.specs.Path.{is_canceled_form}
-use Rattle.fx_fiber.specs.Row.{Counts, Silent, Shows, known_canceled}
-use Rattle.fx_fiber.specs.Step.{Unwinds, Step, finalizer, release}
+use Rattle.fx_model.specs.Path.{is_canceled_form}
+use Rattle.fx_model.specs.Row.{Counts, Silent, Shows, known_canceled}
+use Rattle.fx_model.specs.Step.{Unwinds, Step, finalizer, release}
 use Rattle.fx_fiber.specs.declared.machine.focus.Focus.{Focus}
 use Rattle.fx_fiber.specs.declared.machine.focus.Focus.TheVariants.{Eval, Return, Turn, Await, Unwinding, Ended}
 use Rattle.fx_fiber.specs.declared.machine.Machine.{Machine}

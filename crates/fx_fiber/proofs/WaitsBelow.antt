@@ -9,11 +9,11 @@ use Rattle.fx_term.specs.declared.outcome.Outcome.{Outcome}
 use Rattle.fx_term.specs.Term.{Term, Finished}
 use Rattle.fx_term.specs.Term as term
 use Rattle.fx_term.specs.Meaning.{term_of}
-use Rattle.fx_fiber.specs.Path.{leaf}
-use Rattle.fx_fiber.specs.Step.{Progress, leaf_at}
-use Rattle.fx_fiber.specs.declared.source.Source.{Source}
-use Rattle.fx_fiber.specs.declared.source.Source.TheVariants as source
-use Rattle.fx_fiber.specs.Waiting.{wait_at}
+use Rattle.fx_model.specs.Path.{leaf}
+use Rattle.fx_model.specs.Step.{Progress, leaf_at}
+use Rattle.fx_model.specs.declared.source.Source.{Source}
+use Rattle.fx_model.specs.declared.source.Source.TheVariants as source
+use Rattle.fx_model.specs.Waiting.{wait_at}
 use Rattle.fx_fiber.specs.declared.machine.focus.Focus.TheVariants.{Return, Turn, Await, Unwinding, Ended}
 use Rattle.fx_fiber.specs.declared.machine.unwound.Unwound.{Unwound}
 use Rattle.fx_fiber.specs.declared.machine.Machine.{Machine}

@@ -2,9 +2,9 @@
 use Rattle.std.specs.Prelude.{◌≡◌, ℕ, List, []}
 use Rattle.fx_term.specs.declared.node.Node.{Node}
 use Rattle.fx_term.specs.declared.begin.Begin.{Begin}
-use Rattle.fx_fiber.specs.Step.{Runs}
-use Rattle.fx_fiber.specs.Run.{first_counts}
-use Rattle.fx_fiber.specs.Origin.{origin_of}
+use Rattle.fx_model.specs.Step.{Runs}
+use Rattle.fx_model.specs.Run.{first_counts}
+use Rattle.fx_model.specs.Origin.{origin_of}
 use Rattle.fx_fiber.specs.Machine.{counts_of, progress_of}
 use Rattle.fx_fiber.specs.Sound.{IsSoundMachine}
 use Rattle.fx_fiber.specs.declared.machine.Machine.{Machine}

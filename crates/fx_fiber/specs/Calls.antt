@@ -4,7 +4,7 @@ use Rattle.fx_term.specs.declared.begin.Begin.{Begin}
 use Rattle.fx_term.specs.declared.outcome.Outcome.{Outcome}
 use Rattle.fx_term.specs.declared.offered.Offered.{Offered}
 use Rattle.fx_term.specs.declared.offered.Offered.TheVariants.{Done, Full}
-use Rattle.fx_fiber.specs.Row.{Counts}
+use Rattle.fx_model.specs.Row.{Range}
 
 -- for each call the port and the outside before it, what it is given, its answer, and both after it; the answer of a start is the port of the child
 pub record PortCalls (P S : Type 0) : Type 1 where
@@ -16,16 +16,7 @@ pub record PortCalls (P S : Type 0) : Type 1 where
   pub starts : P → S → ℕ → Begin → P → P → S → Type 0
   pub finishes : P → S → Outcome → P → S → Type 0
 
--- the numbers from `next` to below `end`
-pub record Range : Type 0 where
-  pub next : ℕ
-  pub end : ℕ
-
--- those that a fiber has left for the fibers that it starts
-abbrev pub range_of : Counts → Range
-range_of c = record { next = c.next; end = c.end }
-
--- those that a fiber begins with
+-- the fiber numbers that a fiber begins with
 abbrev pub first_range : Begin → Range
 first_range b = record { next = b.next; end = b.end }
 

@@ -7,8 +7,8 @@ use Rattle.fx_term.specs.declared.offered.Offered.{Offered}
 use Rattle.fx_term.specs.declared.offered.Offered.TheVariants.{Done, Full}
 use Rattle.fx_term.specs.declared.event.Event.{Event}
 use Rattle.fx_term.specs.declared.event.Event.TheVariants as event
-use Rattle.fx_fiber.specs.Row.{Label, Silent, Shows, Learns, Starts}
-use Rattle.fx_fiber.specs.Origin.{origin_of}
+use Rattle.fx_model.specs.Row.{Label, Silent, Shows, Learns, Starts}
+use Rattle.fx_model.specs.Origin.{origin_of}
 
 -- a fiber was started and began so; a cancellation was requested; the own request was seen; an element was put into a queue or taken out of it; a queue was
 -- found full or empty; a fiber was found to have ended so; the fiber ended so

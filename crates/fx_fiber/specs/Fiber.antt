@@ -1,19 +1,18 @@
 -- What a fiber names, and what it keeps.
-use Rattle.std.specs.Prelude.{◌≡◌, ℕ, ◌+◌, ◌^◌, ◌<◌, ◌≤◌, nat_lt, Bool, true, false, Option, List, []}
+use Rattle.std.specs.Prelude.{◌≡◌, ℕ, ◌+◌, ◌^◌, ◌<◌, ◌≤◌, nat_lt, Bool, Option, List, []}
 use Rattle.fx_term.specs.declared.node.Node.{Node}
 use Rattle.fx_term.specs.declared.begin.Begin.{Begin}
 use Rattle.fx_term.specs.declared.event.Event.{Event}
 use Rattle.fx_mask.specs.Closing.{Closing}
 use Rattle.fx_frames.specs.declared.frame.Frame.{Frame}
-use Rattle.fx_fiber.specs.Row.{Counts, Label}
-use Rattle.fx_fiber.specs.Step.{Progress, Runs, HasEnded}
-use Rattle.fx_fiber.specs.Run.{first_counts, IsRun, events}
-use Rattle.fx_fiber.specs.Origin.{Origin, origin_of}
+use Rattle.fx_model.specs.Row.{Counts, Range, range_of, Label}
+use Rattle.fx_model.specs.Step.{Progress, Runs, has_ended}
+use Rattle.fx_model.specs.Run.{first_counts, IsRun, events}
+use Rattle.fx_model.specs.Origin.{Origin, origin_of}
 use Rattle.fx_fiber.specs.Deed.{Deed, AreDeeds}
-use Rattle.fx_fiber.specs.Calls.{Range, range_of}
-use Rattle.fx_fiber.specs.Work.{work_left}
-use Rattle.fx_fiber.specs.Scopes.{IsProgressScopedOver}
-use Rattle.fx_fiber.specs.NeedLeft.{need_left}
+use Rattle.fx_model.specs.Work.{work_left}
+use Rattle.fx_model.specs.Scopes.{IsProgressScopedOver}
+use Rattle.fx_model.specs.NeedLeft.{need_left}
 use Rattle.fx_fiber.specs.declared.machine.focus.Focus.{Focus}
 use Rattle.fx_fiber.specs.declared.machine.unwound.Unwound.{Unwound}
 use Rattle.fx_fiber.specs.declared.machine.Machine.{Machine}
@@ -31,13 +30,22 @@ pub record FiberView (P : Type 0) : Type 0 where
   pub cleanups : Option Unwound
   pub focus : Focus
 
+-- the fiber with this port, trace and machine
+abbrev pub fiber_at : {P : Type 0} → P → List Event → Machine → FiberView P
+fiber_at p trace s = record {
+  port = p;
+  trace = trace;
+  counts = counts_of s;
+  registers = s.registers;
+  frames = s.frames;
+  closed = s.masks.regions;
+  cleanups = s.cleanups;
+  focus = s.focus;
+}
+
 -- how far it is
 abbrev pub progress : {P : Type 0} → List Node → FiberView P → Progress
 progress nodes f = progress_at nodes f.registers f.frames f.closed f.cleanups f.focus
-
-abbrev pub has_ended : Progress → Bool
-has_ended (HasEnded o) = true
-has_ended _ = false
 
 -- the fiber is as it was, but may have entered contexts
 pub record IsUnchanged {P : Type 0} (nodes : List Node) (old new : FiberView P) : Type 0 where

@@ -1,18 +1,18 @@
 -- What a step of a fiber does: one rule, its event in the trace, and the calls that it makes of the port; or nothing, where the fiber waits.
-use Rattle.std.specs.Prelude.{◌≡◌, ℕ, suc, Bool, true, false, ◌&&◌, not, Option, Some, None, option_and_then, List, [], ◌∷◌, ◌++◌}
+use Rattle.std.specs.Prelude.{◌≡◌, ℕ, suc, Bool, true, false, Option, Some, None, option_and_then, List, [], ◌∷◌, ◌++◌}
 use Rattle.fx_term.specs.declared.begin.Begin.{Begin}
 use Rattle.fx_term.specs.declared.node.Node.{Node}
 use Rattle.fx_term.specs.declared.node.Arg.TheVariants.{Number}
 use Rattle.fx_term.specs.declared.event.Event.TheVariants as event
-use Rattle.fx_term.specs.Term.{Term, Cede, First}
-use Rattle.fx_fiber.specs.Path.{is_open, must_cancel}
-use Rattle.fx_fiber.specs.Row.{Label, Silent, Shows, Learns, Starts}
-use Rattle.fx_fiber.specs.Step.{Progress, Runs, leaf_at, must_cancel_at, Step}
-use Rattle.fx_fiber.specs.Run.{events}
-use Rattle.fx_fiber.specs.Origin.{Origin, origin_of}
+use Rattle.fx_term.specs.Term.{Term, Cede, First, Offer, TryOffer}
+use Rattle.fx_model.specs.Row.{Label, Silent, Shows, Learns, Starts}
+use Rattle.fx_model.specs.Step.{leaf_at, must_cancel_at, looks_first, Step}
+use Rattle.fx_model.specs.Run.{events}
+use Rattle.fx_model.specs.Origin.{Origin, origin_of}
 use Rattle.fx_fiber.specs.Calls.{PortCalls}
-use Rattle.fx_fiber.specs.declared.source.Source.{Source}
-use Rattle.fx_fiber.specs.Waiting.{wait_at, value_offered, IsRefused}
+use Rattle.fx_model.specs.declared.source.Source.{Source}
+use Rattle.fx_model.specs.declared.source.Source.TheVariants.{Nothing, Outcome, Either, Room, Element}
+use Rattle.fx_model.specs.Waiting.{wait_at}
 use Rattle.fx_term.specs.declared.offered.Offered.TheVariants.{Done, Full}
 use Rattle.fx_fiber.specs.declared.stepped.Stepped.{Stepped}
 use Rattle.fx_fiber.specs.declared.stepped.Stepped.TheVariants.{Went, Child, Waits, Gave, Ended}
@@ -23,10 +23,11 @@ abbrev pub is_yielding : Option Term → Bool
 is_yielding (Some Cede) = true
 is_yielding _ = false
 
--- a look comes before the table and the ends: at an open position where cancellation is not the one rule
-abbrev pub looks_first : Bool → Progress → Bool
-looks_first known (Runs t) = is_open t && not (must_cancel known t)
-looks_first known _ = false
+-- what a leaf offers to a queue; nothing is offered at other leaves
+abbrev pub value_offered : Option Term → ℕ
+value_offered (Some (Offer q (Number n))) = n
+value_offered (Some (TryOffer q (Number n))) = n
+value_offered _ = 0
 
 -- the answer of a step that shows nothing, by whether its leaf is `cede`
 abbrev pub AnswersSilently : {P S : Type 0} → Bool → Stepped P S → Type 0
@@ -93,13 +94,21 @@ module _ {P S : Type 0} (calls : PortCalls P S) where
     pub answers : Answers nodes (leaf_at (progress nodes old)) label answer
     pub calls_are : Calls nodes (looks_first old.counts.known (progress nodes old)) (leaf_at (progress nodes old)) label answer old.port shared new.port shared'
 
+  -- the refusals that a fiber had which waits so and offers this: none of what never comes, no outcome of a fiber that it asked for, no room, no element
+  abbrev pub IsRefused : ℕ → Source → P → S → Type 0
+  IsRefused n Nothing p s = Unit {0}
+  IsRefused n (Outcome f) p s = calls.peeks p s f None p s
+  IsRefused n (Either f g) p s = calls.peeks p s f None p s × calls.peeks p s g None p s
+  IsRefused n (Room q) p s = calls.offers p s q n Full p s
+  IsRefused n (Element q) p s = calls.takes p s q None p s
+
   -- no rule, since the fiber waits: a look in vain, where one is due, the refusals that it waits for, and nothing has changed
   pub record OnlyWaits (nodes : List Node) (old : FiberView P) (shared : S) (new : FiberView P) (shared' : S) : Type 0 where
     pub wait : Source
     pub waits : option_and_then wait_at (leaf_at (progress nodes old)) ≡ Some wait
     pub free : must_cancel_at old.counts.known (progress nodes old) ≡ false
     pub looked : LooksInVain (looks_first old.counts.known (progress nodes old)) old.port shared
-    pub refused : IsRefused calls (value_offered (leaf_at (progress nodes old))) wait old.port shared
+    pub refused : IsRefused (value_offered (leaf_at (progress nodes old))) wait old.port shared
     pub unchanged : IsUnchanged nodes old new
     pub shared_is : shared' ≡ shared
 

@@ -17,15 +17,15 @@ use Rattle.fx_mask.specs.Closing.{is_none_closed}
 use Rattle.fx_frames.specs.declared.frame.Frame.{Frame}
 use Rattle.fx_frames.specs.declared.frame.Frame.TheVariants as frame
 use Rattle.fx_term.specs.Term.{Term, Cede}
-use Rattle.fx_fiber.specs.Path.{is_canceled_form}
-use Rattle.fx_fiber.specs.Row.{Label, Silent, Shows, Learns}
-use Rattle.fx_fiber.specs.Step.{leaf_at, must_cancel_at, Step}
+use Rattle.fx_model.specs.Path.{is_canceled_form}
+use Rattle.fx_model.specs.Row.{Label, Silent, Shows, Learns}
+use Rattle.fx_model.specs.Step.{leaf_at, must_cancel_at, looks_first, Step}
 use Rattle.fx_fiber.specs.Deed.{Deed, FoundEnded, deeds_of_event}
-use Rattle.fx_fiber.specs.declared.source.Source.{Source}
-use Rattle.fx_fiber.specs.Waiting.{wait_at, value_offered, IsRefused}
+use Rattle.fx_model.specs.declared.source.Source.{Source}
+use Rattle.fx_model.specs.Waiting.{wait_at}
 use Rattle.fx_fiber.specs.Calls.{PortCalls}
-use Rattle.fx_fiber.specs.PutsLeft.{puts_with}
-use Rattle.fx_fiber.specs.MakesStep.{is_yielding, looks_first, LooksInVain, PeeksLeft}
+use Rattle.fx_model.specs.PutsLeft.{puts_with}
+use Rattle.fx_fiber.specs.MakesStep.{is_yielding, value_offered, LooksInVain, PeeksLeft, IsRefused}
 use Rattle.fx_fiber.specs.declared.machine.focus.Focus.{Focus}
 use Rattle.fx_fiber.specs.declared.machine.focus.Focus.TheVariants.{Eval, Return, Turn, Await, Ended}
 use Rattle.fx_fiber.specs.declared.machine.interruption.Interruption.{Interruption}

@@ -2,7 +2,7 @@
 ghost use Rattle.std.specs.Prelude.{◌≡◌, ◌+◌, ◌<◌, ◌≤◌, ◌^◌};
 ghost use Rattle.fx_term.specs.Code.{IsCode};
 ghost use Rattle.fx_term.specs.Need.{most_need};
-ghost use Rattle.fx_fiber.specs.Origin.{main_begin_of};
+ghost use Rattle.fx_model.specs.Origin.{main_begin_of};
 
 use fx_term::{Begin, Code, Registers};
 use std::alloc::Global;

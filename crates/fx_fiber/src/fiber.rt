@@ -2,23 +2,23 @@
 ghost use Rattle.std.specs.Prelude.{◌≡◌, ◌<◌, ◌^◌, [], false, IfOk, OnErr};
 
 use crate::begin::main_begin;
-use crate::closed::Closed;
 use crate::machine::focus::Focus;
-use crate::machine::made::Made;
 use crate::port::Port;
-use crate::source::Source;
 use crate::stepped::Stepped;
+use fx_model::{Closed, Source};
 use fx_term::{Code, Event, Memory};
 use std::alloc::Global;
 use std::marker::Model;
 
 mod advance;
 mod bare;
+mod child;
 mod start;
+mod step;
+mod tell;
 
-use advance::advance;
 use bare::Bare;
-use start::start;
+use step::step;
 
 /// A fiber: a running term, what it keeps beside it, its trace, and its port. By its type the trace
 /// is that of a run from what the port says that the fiber began with, and the port agrees with what
@@ -31,21 +31,11 @@ pub struct Fiber<P: Port> {
 
 impl<P: Port> Model for Fiber<P> {
     ghost use Rattle.std.specs.Prelude.{◌≡◌};
-    ghost use Rattle.fx_fiber.specs.Machine.{counts_of};
-    ghost use Rattle.fx_fiber.specs.Fiber.{FiberView, IsKept};
+    ghost use Rattle.fx_fiber.specs.Fiber.{FiberView, fiber_at, IsKept};
 
     ghost Value = { FiberView P };
 
-    ghost view = { λ f. record {
-      port = f.port;
-      trace = f.bare.value.trace.items;
-      counts = counts_of f.bare.value.machine;
-      registers = f.bare.value.machine.registers;
-      frames = f.bare.value.machine.frames;
-      closed = f.bare.value.machine.masks.regions;
-      cleanups = f.bare.value.machine.cleanups;
-      focus = f.bare.value.machine.focus;
-    } };
+    ghost view = { λ f. fiber_at f.port f.bare.value.trace.items f.bare.value.machine };
 
     ghost invariant = { λ f. (P.number f.port ≡ f.bare.value.id)
         × IsKept P.code (P.beginning f.port) (P.agrees f.port) (P.has_finished f.port)
@@ -54,20 +44,20 @@ impl<P: Port> Model for Fiber<P> {
 
 impl<P: Port> Fiber<P> {
     ghost use Rattle.fx_term.specs.Meaning.{root_term};
-    ghost use Rattle.fx_fiber.specs.Origin.{origin_of, main_origin, main_begin_of};
-    ghost use Rattle.fx_fiber.specs.Run.{first_counts};
+    ghost use Rattle.fx_model.specs.Origin.{origin_of, main_origin, main_begin_of};
+    ghost use Rattle.fx_model.specs.Run.{first_counts};
     ghost use Rattle.fx_fiber.specs.Calls.{first_range};
-    ghost use Rattle.fx_fiber.specs.Work.{work_left};
+    ghost use Rattle.fx_model.specs.Work.{work_left};
     ghost use Rattle.fx_fiber.specs.Bare.{IsFirstBare};
-    ghost use Rattle.fx_fiber.specs.Scopes.{IsScopedOver};
-    ghost use Rattle.fx_fiber.specs.NeedLeft.{HasRoom};
-    ghost use Rattle.fx_fiber.specs.Fiber.{is_fiber_number, IsAtFirst, IsLawful, IsUnchanged, progress, has_ended};
+    ghost use Rattle.fx_model.specs.Scopes.{IsScopedOver};
+    ghost use Rattle.fx_model.specs.NeedLeft.{HasRoom};
+    ghost use Rattle.fx_fiber.specs.Fiber.{is_fiber_number, IsAtFirst, IsLawful, IsUnchanged, progress};
     ghost use Rattle.fx_fiber.specs.MakesStep.{DoesStep};
     ghost use Rattle.std.specs.Prelude.{option_and_then};
-    ghost use Rattle.fx_fiber.specs.Step.{Runs, leaf_at};
-    ghost use Rattle.fx_fiber.specs.Waiting.{wait_at};
-    ghost use Rattle.fx_fiber.specs.Outside.{can_step};
-    ghost use Rattle.fx_fiber.specs.Closed.{outside_of};
+    ghost use Rattle.fx_model.specs.Step.{Runs, leaf_at, has_ended};
+    ghost use Rattle.fx_model.specs.Waiting.{wait_at};
+    ghost use Rattle.fx_model.specs.Outside.{can_step};
+    ghost use Rattle.fx_model.specs.Closed.{outside_of};
 
     /// The main fiber before its first step.
     pub fn new(alloc: Global, code: &Code, port: P) -> Result<Fiber<P>, Memory>
@@ -174,32 +164,6 @@ impl<P: Port> Fiber<P> {
         ensures number { P.number self.new.port ≡ P.number self.old.port }
         ensures beginning { P.beginning self.new.port ≡ P.beginning self.old.port }
     {
-        let bare = &mut *self.bare;
-        bare.trace.reserve(1)?;
-        let event = match advance(&mut self.port, &mut bare.machine, code, shared)? {
-            Made::Shows(event) => event,
-            Made::Silent => return Ok(Stepped::Went),
-            Made::Yielded => return Ok(Stepped::Gave),
-            Made::Waits => return Ok(Stepped::Waits),
-            Made::Starts(slot, started, then) => {
-                let child = start(&mut self.port, bare, code, shared, slot, started, then)?;
-                return Ok(Stepped::Child(child));
-            }
-            Made::Learns(_, _, learnt) => {
-                bare.trace.push_reserved(learnt);
-                return Ok(Stepped::Went);
-            }
-        };
-        bare.trace.push_reserved(event);
-        match event {
-            Event::Ended(outcome) => {
-                self.port.finish(shared, outcome);
-                Ok(Stepped::Ended)
-            }
-            _ => Ok(Stepped::Went),
-        }
+        step(&mut self.port, &mut self.bare, code, shared)
     }
 }
-
-#[cfg(test)]
-mod tests;

@@ -50,7 +50,8 @@
 //!
 //! Whether a fiber could step is told without a step too, by the lists that a run left ([`Closed`]).
 //!
-//! What follows from the rules alone, for every run, are the [`laws`].
+//! The rules and the runs are those of `fx_model`, and so are the [`laws`] of what follows from them
+//! alone, and what is reported of fibers ([`Report`]); who uses fibers finds these here too.
 //!
 //! What never happens: a row of the table at an open place before a look in that step; an event that
 //! is made and not in the trace; a change where memory runs out or the fiber waits; a call to the
@@ -58,21 +59,13 @@
 #![tactic(auto)]
 
 mod begin;
-mod closed;
 mod fiber;
-mod fiber_report;
-pub mod laws;
 mod machine;
 mod port;
-mod report;
-mod source;
 mod stepped;
 
 pub use begin::main_begin;
-pub use closed::Closed;
 pub use fiber::Fiber;
-pub use fiber_report::{FiberReport, State};
+pub use fx_model::{Closed, FiberReport, Report, Source, State, laws};
 pub use port::Port;
-pub use report::Report;
-pub use source::Source;
 pub use stepped::Stepped;

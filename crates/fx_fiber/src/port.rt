@@ -6,7 +6,8 @@ ghost use Rattle.fx_term.specs.declared.node.Node.{Node};
 ghost use Rattle.fx_term.specs.declared.begin.Begin.{Begin};
 ghost use Rattle.fx_fiber.specs.Deed.{Deed, Started, Requested, Saw, Got, FoundEmpty, FoundEnded, Ended};
 ghost use Rattle.fx_fiber.specs.Deed.{deed_of_offer};
-ghost use Rattle.fx_fiber.specs.Calls.{PortCalls, Range, HasRange, first_range, range_after};
+ghost use Rattle.fx_fiber.specs.Calls.{PortCalls, HasRange, first_range, range_after};
+ghost use Rattle.fx_model.specs.Row.{Range};
 ghost use Rattle.fx_fiber.specs.Calls.{puts_after, OnFull};
 
 use fx_term::{Begin, Memory, Offered, Outcome};

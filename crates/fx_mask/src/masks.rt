@@ -137,29 +137,3 @@ impl Masks {
         self.opened -= 1;
     }
 }
-
-#[cfg(test)]
-mod tests {
-    use super::{Masks, Region};
-    use std::test::Fail;
-
-    #[test]
-    fn regions_open_from_the_inside(rt: HostRuntime) -> Result<(), Fail> {
-        let mut masks = Masks::new(rt.alloc());
-        assert_eq!(rt; masks.enter()?, Region(0));
-        assert_eq!(rt; masks.enter()?, Region(1));
-        assert_eq!(rt; masks.open(Region(0)), false);
-        assert_eq!(rt; masks.open(Region(1)), true);
-        assert_eq!(rt; masks.is_open(), false);
-        assert_eq!(rt; masks.open(Region(0)), true);
-        assert_eq!(rt; masks.is_open(), true);
-        masks.reclose(Region(0));
-        masks.reclose(Region(1));
-        masks.leave();
-        masks.leave();
-        assert_eq!(rt; masks.is_open(), true);
-        masks.seal()?;
-        assert_eq!(rt; masks.is_open(), false);
-        Ok(())
-    }
-}

@@ -19,7 +19,7 @@ use Rattle.fx_model.specs.Run.{events}
 use Rattle.fx_model.specs.Outside.{outcome_at}
 use Rattle.fx_model.specs.Report.{is_request_for}
 use Rattle.fx_model.specs.Causes.{values_got, taking_of, shown, TakesWhatWasPut, LearnsOfEnd, Needs, taken_element, end_of_other, start}
-use Rattle.fx_fiber.proofs.Keeping.{events_append}
+use Rattle.fx_model.proofs.Runs.{events_append}
 use Rattle.fx_model.proofs.OutcomeLaws.{no_step_after_end}
 use Rattle.fx_model.proofs.ShownLabels.{shown_length, shown_append, one_shown, shown_holds}
 use Rattle.fx_model.proofs.EventLabels.{start_label, seen_label, learnt_label}

@@ -6,8 +6,7 @@ use Rattle.fx_term.specs.declared.event.Event.TheVariants as event
 use Rattle.fx_term.specs.Script.{ScriptView}
 use Rattle.fx_model.specs.Row.{Counts, Label, Shows, Starts}
 use Rattle.fx_model.specs.Origin.{main_origin}
-use Rattle.fx_model.specs.Step.{Progress, Step}
-use Rattle.fx_fiber.specs.Fiber.{has_ended}
+use Rattle.fx_model.specs.Step.{Progress, has_ended, Step}
 use Rattle.fx_model.proofs.Ends.{ended_after}
 use Rattle.fx_plain.specs.declared.class.Class.{Class}
 use Rattle.fx_plain.specs.declared.class.Class.TheVariants.{Unstarted, Able, Waits, Over}

@@ -16,8 +16,10 @@ use Rattle.fx_term.proofs.QueueLaws.{stays_none}
 use Rattle.fx_term.specs.Script.{ScriptView, total}
 use Rattle.fx_model.specs.Report.{FiberReportView}
 use Rattle.fx_plain.specs.WholeMachine.{StartedFiber, WholeMachine, opening}
-use Rattle.fx_plain.specs.Chosen.{report_of_fiber, IsReportOf, IsReplay}
-use Rattle.fx_plain.proofs.LawfulRuns.{IsKept, opening_is_kept, chosen_keeps}
+use Rattle.fx_plain.specs.SettledRun.{report_of_fiber, IsReportOf}
+use Rattle.fx_plain.specs.Chosen.{IsReplay}
+use Rattle.fx_plain.proofs.LawfulRuns.{IsKept, opening_is_kept, run_keeps}
+use Rattle.fx_plain.proofs.ChosenRuns.{chosen_leads}
 use Rattle.fx_plain.proofs.ComputedRuns.{RunTo, replayed, report}
 use Rattle.fx_plain.proofs.ComputedRunLaws.{replayed_is_chosen}
 
@@ -174,4 +176,4 @@ report_is_report s m k = record {
 pub computed_is_replay : (s : ScriptView) (n : ℕ) (ps : List Pick) (d : RunTo) → replayed s n ps (opening s) ≡ Some d → IsReplay s ps (report s d.last)
 computed_is_replay s n ps d e =
     let chosen = replayed_is_chosen s n ps (opening s) d (opening_is_kept s) e in
-    record { moves = d.moves; last = d.last; chosen = chosen; report = report_is_report s d.last (chosen_keeps s chosen (opening_is_kept s)) }
+    record { moves = d.moves; last = d.last; chosen = chosen; report = report_is_report s d.last (run_keeps s d.moves d.last (chosen_leads s chosen)) }

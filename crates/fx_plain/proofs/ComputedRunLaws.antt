@@ -15,9 +15,8 @@ use Rattle.fx_model.specs.Path.{Context, LetIn, HandleIn, OnCancelIn, AcquireIn,
 use Rattle.fx_model.specs.Path.{Release, leaf, is_open, must_cancel}
 use Rattle.fx_model.specs.Row.{Counts, Label, Shows, Row}
 use Rattle.fx_model.specs.Row as row
-use Rattle.fx_model.specs.Step.{Progress, Runs, Unwinds, CleansUp, HasEnded, leaf_at, Step}
+use Rattle.fx_model.specs.Step.{Progress, Runs, Unwinds, CleansUp, HasEnded, leaf_at, looks_first, Step}
 use Rattle.fx_model.specs.Step as step
-use Rattle.fx_fiber.specs.MakesStep.{looks_first}
 use Rattle.fx_text.specs.declared.pick.Pick.{Pick}
 use Rattle.fx_text.specs.declared.pick.Pick.TheVariants as pick
 use Rattle.fx_term.specs.declared.item.Item.{Item}

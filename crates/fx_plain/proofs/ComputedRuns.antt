@@ -7,7 +7,7 @@ use Rattle.fx_term.specs.Script.{ScriptView, total}
 use Rattle.fx_model.specs.Report.{ReportView}
 use Rattle.fx_plain.specs.WholeMachine.{StartedFiber, WholeMachine, Move, Steps, Requests, outcome_of, has_room, front, can_step_in, moved}
 use Rattle.fx_plain.specs.WholeMachine.{requested_from_outside}
-use Rattle.fx_plain.specs.Chosen.{report_of_fiber}
+use Rattle.fx_plain.specs.SettledRun.{report_of_fiber}
 use Rattle.fx_plain.proofs.ComputedSteps.{Answers, Next, next}
 
 abbrev pub answers_of : ScriptView → WholeMachine → ℕ → Answers

@@ -13,7 +13,7 @@ use Rattle.fx_model.specs.Origin.{Origin}
 use Rattle.fx_model.specs.Step.{Progress, Step}
 use Rattle.fx_model.specs.Run.{IsRun, events}
 use Rattle.fx_model.specs.Origin.{main_origin}
-use Rattle.fx_fiber.proofs.Keeping.{leads_on, events_append}
+use Rattle.fx_model.proofs.Runs.{leads_on, events_append}
 use Rattle.fx_term.specs.Script.{ScriptView}
 use Rattle.fx_model.specs.LawfulReport.{is_start_of, starts_of, is_parent}
 use Rattle.fx_plain.specs.WholeMachine.{StartedFiber, WholeMachine, begun, opening, stepped, moved}

@@ -1,6 +1,6 @@
--- The report of a chosen run is lawful.
+-- The report of a run of the whole machine at whose end no fiber can step is lawful.
 use Rattle.std.specs.Prelude.{if◌then◌else◌}
-use Rattle.std.proofs.Common.{◌≡◌, ℕ, All, ◌<◌, Bool, true, false, Option, Some, None, List, length, refl, sym, ◌∙◌, ap, inl, inr}
+use Rattle.std.proofs.Common.{◌≡◌, ℕ, All, ◌<◌, Bool, true, false, Option, Some, None, List, [], ◌∷◌, length, refl, sym, ◌∙◌, ap, inl, inr}
 use Rattle.std.specs.Prelude.{nat_lt, slice_get, slice_index}
 use Rattle.std.specs.List.{list_any}
 use Rattle.std.proofs.lemmas.Bool.{or_cases, or_left, or_right}
@@ -11,11 +11,9 @@ use Rattle.fx_term.specs.declared.outcome.Outcome.{Outcome}
 use Rattle.fx_term.specs.declared.event.Event.TheVariants as event
 use Rattle.fx_model.specs.Row.{Counts, Label, Silent, Shows, Learns, Starts}
 use Rattle.fx_model.specs.Origin.{Origin}
-use Rattle.fx_model.specs.Step.{Progress, HasEnded}
+use Rattle.fx_model.specs.Step.{Progress, HasEnded, has_ended}
 use Rattle.fx_model.specs.Run.{events, first_counts}
 use Rattle.fx_model.specs.Origin.{main_origin}
-use Rattle.fx_fiber.specs.Fiber.{has_ended}
-use Rattle.fx_text.specs.declared.pick.Pick.{Pick}
 use Rattle.fx_term.specs.declared.item.Item.{Item}
 use Rattle.fx_term.specs.Queue.{queue_events}
 use Rattle.fx_model.specs.Outside.{outcome_at, Outside, can_step}
@@ -28,8 +26,8 @@ use Rattle.fx_model.specs.LawfulReport.{IsLawfulReport}
 use Rattle.fx_model.specs.Headline.{KeepsWhatIsPromised}
 use Rattle.fx_model.proofs.HeadlineLaws.{ended_report_holds}
 use Rattle.fx_plain.specs.WholeMachine.{StartedFiber, WholeMachine, Move, opening, outcome_of_fiber, outcome_of, outside_of, can_step_fiber, can_step_in}
-use Rattle.fx_plain.specs.WholeMachine.{moved, FiberSteps, requested_from_outside}
-use Rattle.fx_plain.specs.Chosen.{IsChosen, step, no_step, request, no_request, least, rests, report_of_fiber, IsReportOf, IsReplay}
+use Rattle.fx_plain.specs.WholeMachine.{moved, FiberSteps, requested_from_outside, Steps, Requests, IsSettled, WholeMachineLeads, IsWholeMachineRun}
+use Rattle.fx_plain.specs.SettledRun.{report_of_fiber, IsReportOf, HasSettledRun}
 use Rattle.fx_plain.proofs.Maps.{same_tests}
 use Rattle.fx_plain.proofs.RangesKept.{HasRanges, opening_has_ranges, ranges_kept}
 use Rattle.fx_plain.proofs.FamilyKept.{parent_of_fiber, parent_of, labels_of_fiber, labels_of, IsFamily, opening_is_family, family_kept}
@@ -93,22 +91,13 @@ request_keeps s m f lt k = record {
       record { history = k.histories.history; state = k.histories.state; legal = k.histories.legal; items = k.histories.items; cuts = k.histories.cuts };
 }
 
-pub chosen_keeps : (s : ScriptView) {ps : List Pick} {m last : WholeMachine} {vs : List Move} → IsChosen s ps m vs last → IsKept s m → IsKept s last
-chosen_keeps s (step {f = f} {l = l} {m = m} {m' = m'} c rest) k = chosen_keeps s rest (step_keeps s m f l m' c.steps k)
-chosen_keeps s (no_step e rest) k = chosen_keeps s rest k
-chosen_keeps s (request {f = f} {m = m} lt rest) k = chosen_keeps s rest (request_keeps s m f lt k)
-chosen_keeps s (no_request le rest) k = chosen_keeps s rest k
-chosen_keeps s (least {f = f} {l = l} {m = m} {m' = m'} none c rest) k = chosen_keeps s rest (step_keeps s m f l m' c.steps k)
-chosen_keeps s (rests none) k = k
+leads_keep : (s : ScriptView) (m : WholeMachine) (vs : List Move) (last : WholeMachine) → WholeMachineLeads s m vs last → IsKept s m → IsKept s last
+leads_keep s m [] last r k = rw r k
+leads_keep s m (Steps f l ∷ vs) last r k = leads_keep s r.0 vs last r.2 (step_keeps s m f l r.0 r.1 k)
+leads_keep s m (Requests f ∷ vs) last r k = leads_keep s r.0 vs last r.2 (rw r.1.1 (request_keeps s m f r.1.0 k))
 
--- at the end of a chosen run no fiber can step
-pub chosen_rests : (s : ScriptView) {ps : List Pick} {m last : WholeMachine} {vs : List Move} → IsChosen s ps m vs last → (f : ℕ) → can_step_in s last f ≡ false
-chosen_rests s (step c rest) f = chosen_rests s rest f
-chosen_rests s (no_step e rest) f = chosen_rests s rest f
-chosen_rests s (request lt rest) f = chosen_rests s rest f
-chosen_rests s (no_request le rest) f = chosen_rests s rest f
-chosen_rests s (least none c rest) f = chosen_rests s rest f
-chosen_rests s (rests none) f = none f
+pub run_keeps : (s : ScriptView) (vs : List Move) (last : WholeMachine) → IsWholeMachineRun s vs last → IsKept s last
+run_keeps s vs last r = leads_keep s (opening s) vs last r (opening_is_kept s)
 
 abbrev id : FiberReportView → ℕ
 id x = x.id
@@ -240,7 +229,7 @@ module _ (s : ScriptView) (m : WholeMachine) (r : ReportView) (rep : IsReportOf 
   is_seen (Shows event.Seen) f h = requested_told f ∙ h
   is_seen _ f h = tt
 
-  module _ (none : (f : ℕ) → can_step_in s m f ≡ false) where
+  module _ (none : IsSettled s m) where
     run_told : (f : ℕ) (x : FiberReportView) → fiber_in r f ≡ Some x
         → HasRun s r f x (origin_in (m.fibers f)) (labels_of m f) (counts_in (m.fibers f)) (progress_in (m.fibers f))
     run_told f x e =
@@ -307,11 +296,11 @@ module _ (s : ScriptView) (m : WholeMachine) (r : ReportView) (rep : IsReportOf 
     unfolding report_is_lawful runs_told history_told
     queues_told q capacity at = refl
 
--- the report of the run that picks choose is lawful, where every number may be requested from outside
-pub replay_is_lawful : (s : ScriptView) (ps : List Pick) (r : ReportView) → IsReplay s ps r → IsLawfulReport s (λ f. true) r
-replay_is_lawful s ps r h = report_is_lawful s h.last r h.report (chosen_keeps s h.chosen (opening_is_kept s)) (chosen_rests s h.chosen)
+-- the report of a run at whose end no fiber can step is lawful, where every number may be requested from outside
+pub settled_is_lawful : (s : ScriptView) (r : ReportView) → HasSettledRun s r → IsLawfulReport s (λ f. true) r
+settled_is_lawful s r h = report_is_lawful s h.last r h.report (run_keeps s h.moves h.last h.run) h.settled
 
 -- where its fibers have all ended it holds what is promised
-pub replay_keeps_promises : (s : ScriptView) (ps : List Pick) (r : ReportView) → IsCore s.term → IsReplay s ps r → KeepsWhatIsPromised s (λ f. true) r
-replay_keeps_promises s ps r core h =
-    let lawful = replay_is_lawful s ps r h in record { lawful = lawful; promised = ended_report_holds s (λ f. true) r core lawful }
+pub settled_keeps_promises : (s : ScriptView) (r : ReportView) → IsCore s.term → HasSettledRun s r → KeepsWhatIsPromised s (λ f. true) r
+settled_keeps_promises s r core h =
+    let lawful = settled_is_lawful s r h in record { lawful = lawful; promised = ended_report_holds s (λ f. true) r core lawful }

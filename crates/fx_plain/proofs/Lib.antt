@@ -8,7 +8,8 @@ pub mod LawfulRuns
 pub mod RunLaws
 pub mod Moments
 pub mod CausesKept
-pub mod ReplayOrder
+pub mod RunOrder
+pub mod ChosenRuns
 pub mod StepsCan
 pub mod ComputedSteps
 pub mod ComputedRuns

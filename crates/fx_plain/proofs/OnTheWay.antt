@@ -6,7 +6,8 @@ use Rattle.fx_model.specs.Report.{ReportView}
 use Rattle.fx_text.specs.declared.pick.Pick.{Pick}
 use Rattle.fx_text.specs.declared.pick.Pick.TheVariants as pick
 use Rattle.fx_plain.specs.WholeMachine.{WholeMachine, Steps, Requests, opening, can_step_in, requested_from_outside}
-use Rattle.fx_plain.specs.Chosen.{ChosenStep, IsLeast, IsChosen, IsReportOf, IsReplay}
+use Rattle.fx_plain.specs.SettledRun.{IsReportOf}
+use Rattle.fx_plain.specs.Chosen.{ChosenStep, IsLeast, IsChosen, IsReplay}
 use Rattle.fx_plain.specs.Chosen as chosen
 use Rattle.fx_plain.specs.OnTheWay.{IsOnTheWay}
 

@@ -10,7 +10,8 @@ use Rattle.fx_term.specs.Script.{ScriptView}
 use Rattle.fx_model.specs.Report.{FiberReportView, ReportView}
 use Rattle.fx_text.specs.declared.pick.Pick.{Pick}
 use Rattle.fx_plain.specs.WholeMachine.{WholeMachine}
-use Rattle.fx_plain.specs.Chosen.{IsReportOf, IsReplay}
+use Rattle.fx_plain.specs.SettledRun.{IsReportOf}
+use Rattle.fx_plain.specs.Chosen.{IsReplay}
 use Rattle.fx_report.proofs.Keys.{same_lists}
 use Rattle.fx_plain.proofs.LawfulRuns.{opening_is_kept}
 use Rattle.fx_plain.proofs.OneRun.{one_run}

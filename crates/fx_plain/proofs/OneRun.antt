@@ -13,9 +13,8 @@ use Rattle.fx_term.specs.Term.{Term, Finished}
 use Rattle.fx_model.specs.Path.{Context, LetIn, plug, CleanupTerm, leaf, is_open, must_cancel}
 use Rattle.fx_model.specs.Row.{Counts, Label, Shows, Row}
 use Rattle.fx_model.specs.Row as row
-use Rattle.fx_model.specs.Step.{Progress, Runs, HasEnded, leaf_at, Step}
+use Rattle.fx_model.specs.Step.{Progress, Runs, HasEnded, leaf_at, looks_first, Step}
 use Rattle.fx_model.specs.Step as step
-use Rattle.fx_fiber.specs.MakesStep.{looks_first}
 use Rattle.fx_term.specs.Script.{ScriptView, total}
 use Rattle.fx_text.specs.declared.pick.Pick.{Pick}
 use Rattle.fx_plain.specs.WholeMachine.{StartedFiber, WholeMachine, Move, Steps, Requests, outcome_of, outside_of, front, can_step_fiber, can_step_in}

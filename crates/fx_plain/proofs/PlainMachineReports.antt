@@ -7,21 +7,21 @@ use Rattle.std.proofs.lemmas.List.{length-map}
 use Rattle.fx_term.specs.declared.node.Node.{Node}
 use Rattle.fx_term.specs.declared.item.Item.{Item}
 use Rattle.fx_term.specs.Script.{ScriptView, total}
-use Rattle.fx_fiber.specs.Fiber.{has_ended}
+use Rattle.fx_model.specs.Step.{has_ended}
 use Rattle.fx_model.specs.Report.{FiberReportView, ReportView}
 use Rattle.fx_text.specs.declared.pick.Pick.{Pick}
 use Rattle.fx_plain.specs.declared.plain_machine.Started.{Started}
 use Rattle.fx_plain.specs.declared.plain_machine.PlainMachine.{PlainMachine}
 use Rattle.fx_plain.specs.WholeMachine.{StartedFiber, WholeMachine}
-use Rattle.fx_plain.specs.Chosen.{report_of_fiber, IsReportOf, IsReplay}
+use Rattle.fx_plain.specs.SettledRun.{report_of_fiber, IsReportOf}
+use Rattle.fx_plain.specs.Chosen.{IsReplay}
 use Rattle.fx_plain.specs.PlainQueue.{QueueView, queue_at}
 use Rattle.fx_plain.specs.World.{HeldFiber, held_of}
 use Rattle.fx_plain.specs.OnTheWay.{IsOnTheWay}
 use Rattle.fx_plain.specs.PlainMachine.{held, reported, all_reported, all_held, StandsForRun, Rests}
 use Rattle.fx_plain.proofs.ComputedRuns.{report}
 use Rattle.fx_plain.proofs.ComputedReports.{report_is_report}
-use Rattle.fx_plain.proofs.LawfulRuns.{IsKept}
-use Rattle.fx_plain.proofs.RunLaws.{run_keeps}
+use Rattle.fx_plain.proofs.LawfulRuns.{IsKept, run_keeps}
 use Rattle.fx_plain.proofs.OnTheWay.{way_ends}
 use Rattle.fx_plain.proofs.WorldClasses.{unready_cannot}
 use Rattle.fx_plain.proofs.PlainMachineSteps.{at_number, held_at, is_fiber}

@@ -11,12 +11,12 @@ use Rattle.fx_term.specs.Queue.{values_put}
 use Rattle.fx_term.specs.Script.{ScriptView, total}
 use Rattle.fx_model.specs.Row.{Counts, Label, Starts}
 use Rattle.fx_model.specs.Origin.{Origin, origin_of}
-use Rattle.fx_model.specs.Step.{Progress, leaf_at, Step}
+use Rattle.fx_model.specs.Step.{Progress, leaf_at, looks_first, Step}
 use Rattle.fx_model.specs.Run.{events}
 use Rattle.fx_fiber.specs.Fiber.{FiberView, progress}
 use Rattle.fx_fiber.specs.declared.stepped.Stepped.{Stepped}
-use Rattle.fx_fiber.specs.MakesStep.{looks_first, Calls, MakesStep}
-use Rattle.fx_fiber.proofs.Keeping.{events_append}
+use Rattle.fx_fiber.specs.MakesStep.{Calls, MakesStep}
+use Rattle.fx_model.proofs.Runs.{events_append}
 use Rattle.fx_model.proofs.StepLabels.{step_tells}
 use Rattle.fx_plain.specs.declared.plain_machine.Started.{Started}
 use Rattle.fx_plain.specs.declared.plain_machine.PlainMachine.{PlainMachine}
@@ -29,8 +29,8 @@ use Rattle.fx_plain.specs.World.{WorldView, HeldFiber, held_of, StandsFor}
 use Rattle.fx_plain.specs.PlainCalls.{PortView, plain_calls}
 use Rattle.fx_plain.specs.PlainMachine.{held, all_held, IsNumbered, StandsForRun, Tries, steps}
 use Rattle.fx_plain.proofs.Maps.{at_that, at_other}
-use Rattle.fx_plain.proofs.LawfulRuns.{IsKept}
-use Rattle.fx_plain.proofs.RunLaws.{run_keeps, start_finds}
+use Rattle.fx_plain.proofs.LawfulRuns.{IsKept, run_keeps}
+use Rattle.fx_plain.proofs.RunLaws.{start_finds}
 use Rattle.fx_plain.proofs.WorldClasses as classes
 use Rattle.fx_plain.proofs.WorldSteps.{world_is, counts_after, steps_so, chosen_so, stands_so}
 

@@ -1,5 +1,6 @@
 -- What a machine comes to that lets a fiber make a step: the fiber is taken out of its place, makes a step or waits, and is laid down there.
-use Rattle.std.proofs.Common.{◌≡◌, ◌⊎◌, ℕ, ◌+◌, ◌<◌, Bool, true, false, Option, Some, None, option_map, List, [], length, refl, sym, ◌∙◌, ap, subst, inl, inr, arith}
+use Rattle.std.proofs.Common.{◌≡◌, ◌⊎◌, ℕ, ◌+◌, ◌<◌, Bool, true, false, Option, Some, None, option_map, List, [], length, refl, sym, ◌∙◌, ap, subst}
+use Rattle.std.proofs.Common.{inl, inr, arith}
 use Rattle.std.proofs.Common.{get_or-set_same, get_or-set_other, length-set}
 use Rattle.std.specs.Prelude.{if◌then◌else◌, option_and_then, slice_index, slice_index_or, slice_set}
 use Rattle.std.proofs.lemmas.Bool.{cases_eq}
@@ -19,8 +20,8 @@ use Rattle.fx_fiber.specs.Fiber.{FiberView, progress, IsAtFirst}
 use Rattle.fx_model.specs.declared.source.Source.{Source}
 use Rattle.fx_fiber.specs.declared.stepped.Stepped.{Stepped}
 use Rattle.fx_fiber.specs.declared.stepped.Stepped.TheVariants.{Went, Child, Waits, Gave, Ended}
-use Rattle.fx_model.specs.Waiting.{wait_at, value_offered}
-use Rattle.fx_fiber.specs.MakesStep.{is_yielding, AnswersSilently, Answers, StartsChild, Tells, MakesStep, OnlyWaits, DoesStep}
+use Rattle.fx_model.specs.Waiting.{wait_at}
+use Rattle.fx_fiber.specs.MakesStep.{is_yielding, value_offered, AnswersSilently, Answers, StartsChild, Tells, MakesStep, OnlyWaits, DoesStep}
 use Rattle.fx_plain.specs.declared.class.Class.TheVariants as class
 use Rattle.fx_plain.specs.declared.plain_machine.Started.{Started}
 use Rattle.fx_plain.specs.declared.plain_machine.PlainMachine.{PlainMachine}
@@ -36,7 +37,8 @@ use Rattle.fx_plain.proofs.Maps.{at_itself, at_that, at_other}
 use Rattle.fx_plain.proofs.WorldClasses.{unready_cannot}
 use Rattle.fx_plain.proofs.ClassSets.{class_at_set}
 use Rattle.fx_plain.proofs.WaitSteps.{refused_unready, noted_wait_tells}
-use Rattle.fx_plain.proofs.PlainMachineSteps.{at_number, held_option, held_at, same_made, IsFiber, is_fiber, below_total, own_number, child_is_free, step_is_tried}
+use Rattle.fx_plain.proofs.PlainMachineSteps.{at_number, held_option, held_at, same_made, IsFiber, is_fiber, below_total, own_number, child_is_free}
+use Rattle.fx_plain.proofs.PlainMachineSteps.{step_is_tried}
 
 -- what a step does, by another name of the world before it and of its answer
 pub does_as : (nodes : List Node) (old new : FiberView PortView) (w world w' : WorldView) (answer named : Stepped PortView WorldView) → w ≡ world

@@ -14,7 +14,7 @@ use Rattle.fx_plain.specs.PlainMachine.{able_count, all_held, StandsForRun, Stan
 use Rattle.fx_plain.proofs.Maps.{at_itself}
 use Rattle.fx_plain.proofs.ClassSets.{class_at_set}
 use Rattle.fx_plain.proofs.ReadyFibers.{IsGoing}
-use Rattle.fx_plain.proofs.RunLaws.{run_keeps}
+use Rattle.fx_plain.proofs.LawfulRuns.{run_keeps}
 use Rattle.fx_plain.proofs.WorldClasses.{ready_goes, ready_can, wake_tells}
 
 able_class : (k : Class) → is_able k ≡ true → k ≡ Able

@@ -1,5 +1,6 @@
 -- What is left to a machine: each try of a fiber leaves less, since a step leaves less work, and a wait that is noted leaves one fiber less able.
-use Rattle.std.proofs.Common.{◌≡◌, ℕ, zero, suc, ◌+◌, ◌*◌, ◌<◌, ◌≤◌, Bool, true, false, Option, Some, None, option_map, List, [], ◌∷◌, length, refl, sym, ◌∙◌, ap, arith}
+use Rattle.std.proofs.Common.{◌≡◌, ℕ, zero, suc, ◌+◌, ◌*◌, ◌<◌, ◌≤◌, Bool, true, false, Option, Some, None, option_map, List, [], ◌∷◌, length, refl}
+use Rattle.std.proofs.Common.{sym, ◌∙◌, ap, arith}
 use Rattle.std.specs.Prelude.{slice_index_or, if◌then◌else◌}
 use Rattle.std.proofs.lemmas.List.{length-map}
 use Rattle.std.proofs.lemmas.List.Sums.{sum_by-cons}
@@ -13,7 +14,7 @@ use Rattle.fx_plain.specs.WholeMachine.{StartedFiber, WholeMachine}
 use Rattle.fx_plain.specs.ClassSets.{is_able}
 use Rattle.fx_plain.specs.World.{HeldFiber, held_of}
 use Rattle.fx_plain.specs.PlainMachine.{able_count, all_held, StandsForRun, StandsForSome, Tries, steps, waits}
-use Rattle.fx_plain.proofs.RunLaws.{run_keeps}
+use Rattle.fx_plain.proofs.LawfulRuns.{run_keeps}
 use Rattle.fx_plain.proofs.WholeMachineWork.{work_of_fiber, sum_from, same_sum, whole_machine_work, fiber_step_leaves_less}
 
 abbrev work_of_held : Option HeldFiber → ℕ

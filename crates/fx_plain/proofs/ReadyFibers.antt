@@ -3,8 +3,7 @@ use Rattle.std.proofs.Common.{◌≡◌, ℕ, Bool, true, false, Option, Some, N
 use Rattle.std.proofs.lemmas.Option.{none-some}
 use Rattle.fx_term.specs.Script.{ScriptView}
 use Rattle.fx_model.specs.Row.{Counts}
-use Rattle.fx_model.specs.Step.{Progress, Runs, Unwinds, CleansUp, HasEnded}
-use Rattle.fx_fiber.specs.Fiber.{has_ended}
+use Rattle.fx_model.specs.Step.{Progress, Runs, Unwinds, CleansUp, HasEnded, has_ended}
 use Rattle.fx_model.specs.declared.source.Source.{Source}
 use Rattle.fx_model.specs.declared.source.Source.TheVariants.{Nothing, Outcome, Either, Room, Element}
 use Rattle.fx_model.specs.WaitsFor.{IsWaiting}

@@ -12,7 +12,7 @@ use Rattle.fx_model.specs.Row.{Counts, Label, Silent, Shows, Learns, Starts}
 use Rattle.fx_model.specs.Step.{Progress, Runs, Unwinds, CleansUp, HasEnded, Step}
 use Rattle.fx_model.specs.Run.{events}
 use Rattle.fx_model.specs.Outside.{outcome_at}
-use Rattle.fx_fiber.proofs.Keeping.{events_append}
+use Rattle.fx_model.proofs.Runs.{events_append}
 use Rattle.fx_term.specs.Script.{ScriptView, total}
 use Rattle.fx_model.specs.Report.{is_request_for}
 use Rattle.fx_plain.specs.WholeMachine.{StartedFiber, WholeMachine, begun, opening, outcome_of_fiber, outcome_of, IsAnswered, requested_after}

@@ -7,10 +7,9 @@ use Rattle.fx_term.specs.Script.{ScriptView, total}
 use Rattle.fx_model.specs.declared.source.Source.{Source}
 use Rattle.fx_model.specs.declared.source.Source.TheVariants.{Nothing, Outcome, Either, Room, Element}
 use Rattle.fx_fiber.specs.Fiber.{FiberView, progress}
-use Rattle.fx_model.specs.Step.{leaf_at}
-use Rattle.fx_model.specs.Waiting.{value_offered, IsRefused}
+use Rattle.fx_model.specs.Step.{leaf_at, looks_first}
 use Rattle.fx_model.specs.WaitsFor.{IsWaiting}
-use Rattle.fx_fiber.specs.MakesStep.{looks_first, LooksInVain, OnlyWaits}
+use Rattle.fx_fiber.specs.MakesStep.{value_offered, LooksInVain, IsRefused, OnlyWaits}
 use Rattle.fx_plain.specs.declared.class.Class.TheVariants.{Waits}
 use Rattle.fx_plain.specs.WholeMachine.{StartedFiber, WholeMachine}
 use Rattle.fx_plain.specs.PlainQueue.{have_room, have_element}

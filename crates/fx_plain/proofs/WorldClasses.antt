@@ -15,7 +15,8 @@ use Rattle.fx_model.specs.declared.source.Source.{Source}
 use Rattle.fx_model.specs.WaitsFor.{IsWaiting}
 use Rattle.fx_plain.specs.declared.class.Class.{Class}
 use Rattle.fx_plain.specs.declared.class.Class.TheVariants.{Unstarted, Able, Waits, Over}
-use Rattle.fx_plain.specs.WholeMachine.{StartedFiber, WholeMachine, with_at, opening, has_room, outside_of, outcome_of, can_step_in, moved, requested_from_outside}
+use Rattle.fx_plain.specs.WholeMachine.{StartedFiber, WholeMachine, with_at, opening, has_room, outside_of, outcome_of, can_step_in, moved}
+use Rattle.fx_plain.specs.WholeMachine.{requested_from_outside}
 use Rattle.fx_plain.specs.Classes.{AreOfClasses, opening_classes, class_requested, class_at_end, requested_classes, ended_classes}
 use Rattle.fx_plain.specs.Classes.{outcome_has_come, AwaitWhatIsToCome, is_ready}
 use Rattle.fx_plain.specs.PlainQueue.{have_room, have_element}

@@ -15,7 +15,7 @@ use Rattle.fx_term.specs.Queue.{value_put, values_put}
 use Rattle.fx_term.specs.Script.{ScriptView}
 use Rattle.fx_model.specs.Row.{Label, Shows, Starts}
 use Rattle.fx_model.specs.Run.{events}
-use Rattle.fx_fiber.proofs.Keeping.{events_append}
+use Rattle.fx_model.proofs.Runs.{events_append}
 use Rattle.fx_plain.specs.PlainQueue.{QueueView, empty_queue, no_queue, queue_at, have_room, have_element, with_item, without_front}
 use Rattle.fx_plain.specs.WholeMachine.{WholeMachine, with_at, has_room, front, IsAnswered, next_item, queues_after}
 use Rattle.fx_plain.specs.World.{WorldView, world_after}

@@ -10,12 +10,12 @@ use Rattle.fx_term.specs.declared.item.Item.{Item}
 use Rattle.fx_term.specs.Queue.{values_put}
 use Rattle.fx_term.specs.Script.{ScriptView, total}
 use Rattle.fx_model.specs.Row.{Counts, Label, Shows, Learns, Starts}
-use Rattle.fx_model.specs.Step.{Progress, leaf_at, Step}
+use Rattle.fx_model.specs.Step.{Progress, leaf_at, looks_first, Step}
 use Rattle.fx_model.specs.Run.{events}
 use Rattle.fx_model.proofs.StepLabels.{IsProper}
 use Rattle.fx_fiber.specs.declared.stepped.Stepped.{Stepped}
 use Rattle.fx_fiber.specs.declared.stepped.Stepped.TheVariants.{Went, Child, Waits, Gave, Ended}
-use Rattle.fx_fiber.specs.MakesStep.{looks_first, LooksBefore, PeeksLeft, Tells, Calls}
+use Rattle.fx_fiber.specs.MakesStep.{LooksBefore, PeeksLeft, Tells, Calls}
 use Rattle.fx_plain.specs.WholeMachine.{StartedFiber, WholeMachine, front, IsAnswered, moved, FiberSteps}
 use Rattle.fx_plain.specs.Chosen.{LooksLeftFirst, ChosenStep}
 use Rattle.fx_plain.specs.PutCounts.{one_more_put}

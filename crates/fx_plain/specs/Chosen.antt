@@ -1,20 +1,17 @@
 -- The run of the whole machine that a list of picks chooses, and its report.
-use Rattle.std.specs.Prelude.{◌≡◌, ℕ, suc, ◌<◌, ◌≤◌, ◌==◌, true, false, Option, Some, None, List, [], ◌∷◌, length, map}
-use Rattle.std.specs.List.{list_any}
-use Rattle.std.specs.List.Sorted.{IsStrictlyIncreasing}
+use Rattle.std.specs.Prelude.{◌≡◌, ℕ, suc, ◌<◌, ◌≤◌, true, false, Option, Some, None, List, [], ◌∷◌}
 use Rattle.fx_term.specs.declared.node.Arg.TheVariants.{Number}
 use Rattle.fx_term.specs.declared.event.Event.TheVariants as event
 use Rattle.fx_term.specs.Term.{Term, First}
 use Rattle.fx_term.specs.Script.{ScriptView, total}
 use Rattle.fx_model.specs.Row.{Label, Learns}
 use Rattle.fx_model.specs.Step.{leaf_at}
-use Rattle.fx_model.specs.Run.{events}
-use Rattle.fx_fiber.specs.Fiber.{has_ended}
-use Rattle.fx_model.specs.Report.{FiberReportView, ReportView, fiber_in, left_in}
+use Rattle.fx_model.specs.Report.{ReportView}
 use Rattle.fx_text.specs.declared.pick.Pick.{Pick}
 use Rattle.fx_text.specs.declared.pick.Pick.TheVariants as pick
-use Rattle.fx_plain.specs.WholeMachine.{StartedFiber, WholeMachine, Move, Steps, Requests, opening, outcome_of, can_step_in, FiberSteps}
+use Rattle.fx_plain.specs.WholeMachine.{WholeMachine, Move, Steps, Requests, opening, outcome_of, can_step_in, IsSettled, FiberSteps}
 use Rattle.fx_plain.specs.WholeMachine.{requested_from_outside}
+use Rattle.fx_plain.specs.SettledRun.{IsReportOf}
 
 -- where both fibers of `first` have ended, the left one is the one that it learns of
 abbrev pub LooksLeftFirst : WholeMachine → Label → Option Term → Type 0
@@ -44,22 +41,7 @@ pub data IsChosen (s : ScriptView) : List Pick → WholeMachine → List Move �
       → total s ≤ f → IsChosen s ps m vs last → IsChosen s (pick.Cancel f ∷ ps) m vs last
   least : {f : ℕ} {l : Label} {m m' last : WholeMachine} {vs : List Move}
       → IsLeast s m f → ChosenStep s m f l m' → IsChosen s [] m' vs last → IsChosen s [] m (Steps f l ∷ vs) last
-  rests : {m : WholeMachine} → ((f : ℕ) → can_step_in s m f ≡ false) → IsChosen s [] m [] m
-
--- what is reported of fiber f
-abbrev pub report_of_fiber : ℕ → Option StartedFiber → Option FiberReportView
-report_of_fiber f None = None
-report_of_fiber f (Some x) = Some (record { id = f; parent = x.parent; has_ended = has_ended x.progress; trace = events x.labels })
-
--- the report of a whole machine: each fiber that has started, and no other, with its trace; what is left; the requests from outside; and nobody late
-pub record IsReportOf (s : ScriptView) (m : WholeMachine) (r : ReportView) : Type 0 where
-  pub ascending : IsStrictlyIncreasing (map (λ (x : FiberReportView). x.id) r.fibers)
-  pub fibers : (f : ℕ) → fiber_in r f ≡ report_of_fiber f (m.fibers f)
-  pub left_by_queue : length r.left ≡ length s.capacities
-  pub left : (q : ℕ) → left_in r q ≡ m.queues q
-  pub outside_ascending : IsStrictlyIncreasing r.outside
-  pub outside : (f : ℕ) → list_any (λ g. g == f) r.outside ≡ m.from_outside f
-  pub in_time : r.late ≡ 0
+  rests : {m : WholeMachine} → IsSettled s m → IsChosen s [] m [] m
 
 -- the run that the picks choose has this report
 pub record IsReplay (s : ScriptView) (ps : List Pick) (r : ReportView) : Type 0 where

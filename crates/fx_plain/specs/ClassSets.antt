@@ -1,5 +1,6 @@
 -- A list of classes by fiber number, and the sets of numbers that stand for it.
-use Rattle.std.specs.Prelude.{◌≡◌, ℕ, ◌<◌, ◌==◌, ◌||◌, ◌&&◌, Bool, true, false, if◌then◌else◌, List, length, map, slice_index_or, slice_set, ◌≤◌, Option, MatchOption}
+use Rattle.std.specs.Prelude.{◌≡◌, ℕ, ◌<◌, ◌==◌, ◌||◌, ◌&&◌, Bool, true, false, if◌then◌else◌, List, length, map, slice_index_or, slice_set, ◌≤◌}
+use Rattle.std.specs.Prelude.{Option, MatchOption}
 use Rattle.fx_model.specs.declared.source.Source.TheVariants.{Outcome, Either, Room, Element}
 use Rattle.fx_plain.specs.declared.class.Class.{Class}
 use Rattle.fx_plain.specs.declared.class.Class.TheVariants.{Unstarted, Able, Waits, Over}

@@ -3,7 +3,7 @@ use Rattle.std.specs.Prelude.{◌≡◌, ℕ, ◌==◌, ◌||◌, Bool, true, fa
 use Rattle.fx_term.specs.declared.outcome.Outcome as outcome
 use Rattle.fx_term.specs.declared.event.Event.TheVariants as event
 use Rattle.fx_model.specs.Row.{Label, Shows, Starts}
-use Rattle.fx_fiber.specs.Fiber.{has_ended}
+use Rattle.fx_model.specs.Step.{has_ended}
 use Rattle.fx_model.specs.declared.source.Source.TheVariants.{Outcome, Either, Room, Element}
 use Rattle.fx_model.specs.WaitsFor.{has_come, IsWaiting}
 use Rattle.fx_model.specs.Outside.{Outside}

@@ -1,4 +1,5 @@
 pub mod WholeMachine
+pub mod SettledRun
 pub mod Chosen
 pub mod NumberSet
 pub mod PlainQueue

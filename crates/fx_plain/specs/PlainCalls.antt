@@ -5,7 +5,8 @@ use Rattle.fx_term.specs.declared.item.Item.{Item}
 use Rattle.fx_term.specs.declared.offered.Offered.{Offered}
 use Rattle.fx_term.specs.declared.offered.Offered.TheVariants.{Done, Full}
 use Rattle.fx_term.specs.declared.outcome.Outcome.{Outcome}
-use Rattle.fx_fiber.specs.Calls.{PortCalls, Range, first_range, range_after}
+use Rattle.fx_fiber.specs.Calls.{PortCalls, first_range, range_after}
+use Rattle.fx_model.specs.Row.{Range}
 use Rattle.fx_plain.specs.WholeMachine.{front}
 use Rattle.fx_plain.specs.PlainQueue.{queue_at, have_room}
 use Rattle.fx_plain.specs.PutCounts.{one_more_put}

@@ -6,7 +6,8 @@ use Rattle.fx_term.specs.Queue.{values_put}
 use Rattle.fx_term.specs.Script.{ScriptView}
 use Rattle.fx_model.specs.Row.{Label}
 use Rattle.fx_model.specs.Origin.{origin_of}
-use Rattle.fx_fiber.specs.Fiber.{progress, has_ended}
+use Rattle.fx_fiber.specs.Fiber.{progress}
+use Rattle.fx_model.specs.Step.{has_ended}
 use Rattle.fx_model.specs.Report.{FiberReportView}
 use Rattle.fx_text.specs.declared.pick.Pick.{Pick}
 use Rattle.fx_plain.specs.declared.plain_machine.Started.{Started}

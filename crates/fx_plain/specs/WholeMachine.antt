@@ -8,10 +8,9 @@ use Rattle.fx_term.specs.Script.{ScriptView, total}
 use Rattle.fx_term.specs.Queue.{values_put}
 use Rattle.fx_model.specs.Row.{Counts, Label, Shows, Learns, Starts}
 use Rattle.fx_model.specs.Origin.{Origin}
-use Rattle.fx_model.specs.Step.{Progress, Runs, Step}
+use Rattle.fx_model.specs.Step.{Progress, Runs, looks_first, Step}
 use Rattle.fx_model.specs.Run.{first_counts, events}
 use Rattle.fx_model.specs.Origin.{main_origin}
-use Rattle.fx_fiber.specs.MakesStep.{looks_first}
 use Rattle.fx_model.specs.Outside.{Outside, outcome_at, can_step}
 use Rattle.fx_model.specs.NeedLeft.{TakesItsRange}
 
@@ -73,6 +72,10 @@ can_step_fiber o f (Some x) = can_step o f x.counts x.progress
 -- the fiber has started and can step
 abbrev pub can_step_in : ScriptView → WholeMachine → ℕ → Bool
 can_step_in s m f = can_step_fiber (outside_of s m) f (m.fibers f)
+
+-- no fiber can step
+abbrev pub IsSettled : ScriptView → WholeMachine → Type 0
+IsSettled s m = (f : ℕ) → can_step_in s m f ≡ false
 
 abbrev pub front : List Item → Option ℕ
 front [] = None

@@ -49,7 +49,7 @@
 //! What never happens: two fibers of one number; a start that finds its number taken, or no room for
 //! the child; an event after its fiber's end; an element that is taken twice, or by nobody and is gone;
 //! a second report of the same picks; steps of fibers without end. The laws are in [`laws`], and in the
-//! laws of reports, ranges, puts and waits of the crate of fibers.
+//! laws of reports, ranges, puts and waits of `fx_model`.
 #![tactic(auto)]
 
 mod chosen_run;
@@ -64,11 +64,7 @@ mod plain_port;
 mod plain_queue;
 mod plain_world;
 mod put_counts;
-#[cfg(test)]
-mod tests;
 mod text_replay;
-#[cfg(test)]
-mod write;
 
 pub use chosen_run::replay;
 pub use fx_report::{

@@ -123,6 +123,3 @@ impl<J: CodeBrand> Port for PlainPort<J> {
         world.finish(self.id, outcome);
     }
 }
-
-#[cfg(test)]
-mod tests;

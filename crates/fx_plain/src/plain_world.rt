@@ -124,7 +124,7 @@ impl PlainWorld {
     }
 
     /// How many numbers the script has for its fibers.
-    pub(crate) fn total(&self) -> u32
+    pub fn total(&self) -> u32
         ensures { result ≡ length self.now.classes }
     {
         self.classes.total()
@@ -311,6 +311,3 @@ impl PlainWorld {
         self.found
     }
 }
-
-#[cfg(test)]
-mod tests;

@@ -44,6 +44,3 @@ pub fn replay_text<R: Read, W: Write>(
     write_text(writer, answer.text.as_bytes())?;
     Ok(answer.status)
 }
-
-#[cfg(test)]
-mod tests;

@@ -9,9 +9,8 @@ use Rattle.fx_term.specs.declared.event.Event.{Event}
 use Rattle.fx_term.specs.declared.event.Event.TheVariants as event
 use Rattle.fx_model.specs.Row.{Counts, Label}
 use Rattle.fx_model.specs.Origin.{Origin}
-use Rattle.fx_model.specs.Step.{Progress, Runs, Unwinds, CleansUp, HasEnded}
+use Rattle.fx_model.specs.Step.{Progress, Runs, Unwinds, CleansUp, HasEnded, has_ended}
 use Rattle.fx_model.specs.Run.{IsRun, events}
-use Rattle.fx_fiber.specs.Fiber.{has_ended}
 use Rattle.fx_model.specs.Outside.{outcome_at}
 use Rattle.fx_model.specs.Report.{outcome_shown}
 use Rattle.fx_model.specs.LawfulReport.{EndsWith}

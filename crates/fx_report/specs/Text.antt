@@ -1,5 +1,6 @@
 -- The printed report and the printed traces, as bytes. Every line ends with LF, and numbers are decimal.
-use Rattle.std.specs.Prelude.{◌≡◌, ℕ, ◌-◌, Bool, true, false, Option, Some, None, List, [], ◌∷◌, ◌++◌, codes, decimal, drop, length, map, string_bytes, slice_index_or, All}
+use Rattle.std.specs.Prelude.{◌≡◌, ℕ, ◌-◌, Bool, true, false, Option, Some, None, List, [], ◌∷◌, ◌++◌, codes, decimal, drop, length, map}
+use Rattle.std.specs.Prelude.{string_bytes, slice_index_or, All}
 use Rattle.std.specs.List.{flat_map, list_any}
 use Rattle.fx_term.specs.declared.outcome.Outcome.{Outcome}
 use Rattle.fx_term.specs.declared.outcome.Outcome.TheVariants.{Succeeded, Errored, Canceled}

@@ -8,7 +8,7 @@ ghost use Rattle.fx_report.specs.Refusal.{refusal_text};
 use crate::refusal::format_refusal;
 use crate::status::{REFUSED, status_after};
 use crate::write::format_report;
-use fx_fiber::Report;
+use fx_model::Report;
 use fx_text::{Script, TextFault};
 use std::alloc::{AllocError, Global};
 

@@ -1,6 +1,6 @@
 //! The lines of a report and of its traces.
-ghost use Rattle.std.specs.Prelude.{◌≡◌, ◌++◌, length, OnOk, string_bytes};
-ghost use Rattle.fx_report.specs.Text.{names_of, line_end};
+ghost use Rattle.std.specs.Prelude.{◌≡◌, ◌<◌, ◌++◌, codes, length, OnOk, string_bytes};
+ghost use Rattle.fx_report.specs.Text.{names_of, line_end, number, queue_name};
 ghost use Rattle.fx_term.specs.QueuesNamed.{NamesQueueBelow};
 ghost use Rattle.fx_report.specs.Text.{outcome_text, halt_line, queue_line, event_text, event_line};
 
@@ -26,6 +26,54 @@ fn push_outcome(text: &mut String, outcome: Outcome) -> Result<(), AllocError>
     }
 }
 
+/// Appends a word, and a number.
+fn push_numbered(text: &mut String, word: &str, value: u64) -> Result<(), AllocError>
+    ensures { OnOk result
+        (string_bytes text.new ≡ string_bytes text.old ++ word.now ++ number value) }
+{
+    write!(text, "{word} {value}")
+}
+
+/// Appends a word, and the name of a queue.
+fn push_named(
+    text: &mut String,
+    word: &str,
+    queues: &[QueueDecl],
+    queue: u8,
+) -> Result<(), AllocError>
+    requires { queue < length queues.now }
+    ensures { OnOk result (string_bytes text.new
+        ≡ string_bytes text.old ++ word.now ++ queue_name (names_of queues.now) queue) }
+{
+    let name = queues[queue as usize].name.as_str();
+    write!(text, "{word} {name}")
+}
+
+/// Appends a word, the name of a queue, and an element of it.
+fn push_moved(
+    text: &mut String,
+    word: &str,
+    queues: &[QueueDecl],
+    queue: u8,
+    value: u64,
+) -> Result<(), AllocError>
+    requires { queue < length queues.now }
+    ensures { OnOk result (string_bytes text.new ≡ string_bytes text.old
+        ++ word.now ++ queue_name (names_of queues.now) queue ++ number value) }
+{
+    push_named(text, word, queues, queue)?;
+    write!(text, " {value}")
+}
+
+/// Appends a space, and the words for an outcome.
+fn push_end(text: &mut String, outcome: Outcome) -> Result<(), AllocError>
+    ensures { OnOk result
+        (string_bytes text.new ≡ string_bytes text.old ++ codes " " ++ outcome_text outcome) }
+{
+    text.push(' ')?;
+    push_outcome(text, outcome)
+}
+
 /// Appends the words for an event, where the script has these queues.
 fn push_event(text: &mut String, queues: &[QueueDecl], event: Event) -> Result<(), AllocError>
     requires { NamesQueueBelow (length queues.now) event }
@@ -33,39 +81,27 @@ fn push_event(text: &mut String, queues: &[QueueDecl], event: Event) -> Result<(
         (string_bytes text.new ≡ string_bytes text.old ++ event_text (names_of queues.now) event) }
 {
     match event {
-        Event::Start(fiber) => write!(text, "start {fiber}"),
-        Event::Request(fiber) => write!(text, "request {fiber}"),
-        Event::Awaited(fiber) => write!(text, "awaited {fiber}"),
+        Event::Start(fiber) => push_numbered(text, "start", u64::from(fiber)),
+        Event::Request(fiber) => push_numbered(text, "request", u64::from(fiber)),
+        Event::Awaited(fiber) => push_numbered(text, "awaited", u64::from(fiber)),
         Event::Joined(fiber, outcome) => {
-            write!(text, "joined {fiber} ")?;
-            push_outcome(text, outcome)
+            push_numbered(text, "joined", u64::from(fiber))?;
+            push_end(text, outcome)
         }
-        Event::First(side) => write!(text, "first {side}"),
-        Event::Put(queue, value) => {
-            let name = queues[queue as usize].name.as_str();
-            write!(text, "put {name} {value}")
-        }
-        Event::Got(queue, value) => {
-            let name = queues[queue as usize].name.as_str();
-            write!(text, "got {name} {value}")
-        }
-        Event::Refused(queue) => {
-            let name = queues[queue as usize].name.as_str();
-            write!(text, "refused {name}")
-        }
-        Event::Empty(queue) => {
-            let name = queues[queue as usize].name.as_str();
-            write!(text, "empty {name}")
-        }
-        Event::Acquired(resource) => write!(text, "acquired {resource}"),
-        Event::Begin(resource) => write!(text, "begin {resource}"),
-        Event::End(resource) => write!(text, "end {resource}"),
-        Event::Seen => write!(text, "seen"),
-        Event::SelfRequest => write!(text, "selfrequest"),
-        Event::Cancelled => write!(text, "cancelled"),
+        Event::First(side) => push_numbered(text, "first", u64::from(side)),
+        Event::Put(queue, value) => push_moved(text, "put", queues, queue, value),
+        Event::Got(queue, value) => push_moved(text, "got", queues, queue, value),
+        Event::Refused(queue) => push_named(text, "refused", queues, queue),
+        Event::Empty(queue) => push_named(text, "empty", queues, queue),
+        Event::Acquired(resource) => push_numbered(text, "acquired", resource),
+        Event::Begin(resource) => push_numbered(text, "begin", resource),
+        Event::End(resource) => push_numbered(text, "end", resource),
+        Event::Seen => text.push_str("seen"),
+        Event::SelfRequest => text.push_str("selfrequest"),
+        Event::Cancelled => text.push_str("cancelled"),
         Event::Ended(outcome) => {
-            write!(text, "ended ")?;
-            push_outcome(text, outcome)
+            text.push_str("ended")?;
+            push_end(text, outcome)
         }
     }
 }
@@ -115,7 +151,7 @@ pub(crate) fn push_queue_line(
     let name = queue.name.as_str();
     write!(text, "queue {name} left")?;
     let mut rest = items;
-    while let [item, more @ ..] = rest {
+    while let Some((item, more)) = rest.split_first() {
         let value = item.value;
         write!(text, " {value}")?;
         rest = more;

@@ -2,7 +2,7 @@
 ghost use Rattle.std.specs.Prelude.{◌≡◌};
 ghost use Rattle.fx_report.specs.Status.{status_of};
 
-use fx_fiber::Report;
+use fx_model::Report;
 
 /// All fibers of the run have ended, or what was asked for needed no run.
 pub const ENDED: u8 = 0;

@@ -12,7 +12,7 @@ ghost use Rattle.fx_report.specs.Text.{report_text, trace_text};
 use crate::lines::{push_event_line, push_fiber_line, push_queue_line};
 use crate::out_fault::OutFault;
 use crate::output::write_text;
-use fx_fiber::{FiberReport, Report};
+use fx_model::{FiberReport, Report};
 use fx_term::{Event, Item, Outcome};
 use fx_text::{QueueDecl, Script};
 use std::alloc::{AllocError, Global};

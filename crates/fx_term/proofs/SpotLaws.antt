@@ -120,9 +120,11 @@ module _ (queues : ℕ) (nodes : List Node) (tree : ChildrenComeFirst nodes) whe
   right_from zero s lt placed = absurd (omega arith)
   right_from (suc k) s lt placed =
       let ps = parts_at nodes s in
-      let all : All (IsWellPlaced queues nodes) (s ∷ flat_map (spots_from nodes) ps) = subst (All (IsWellPlaced queues nodes)) (spots_at nodes tree s) placed in
+      let all : All (IsWellPlaced queues nodes) (s ∷ flat_map (spots_from nodes) ps) =
+      subst (All (IsWellPlaced queues nodes)) (spots_at nodes tree s) placed in
       let here = All-head (IsWellPlaced queues nodes) s (flat_map (spots_from nodes) ps) all in
-      let below = all_from_flat_map (IsWellPlaced queues nodes) (spots_from nodes) ps (All-tail (IsWellPlaced queues nodes) s (flat_map (spots_from nodes) ps) all) in
+      let below = all_from_flat_map (IsWellPlaced queues nodes) (spots_from nodes) ps
+      (All-tail (IsWellPlaced queues nodes) s (flat_map (spots_from nodes) ps) all) in
       let near = parts_before nodes tree s in
       right_up s here (λ i d h. let before : (get_or ps i d).id < s.id = near i d h in right_from k (get_or ps i d) (omega arith) (below i d h))
 
@@ -133,7 +135,8 @@ module _ (queues : ℕ) (nodes : List Node) (tree : ChildrenComeFirst nodes) whe
       let ps = parts_at nodes s in
       let below = right_down s right in
       let near = parts_before nodes tree s in
-      subst (All (IsWellPlaced queues nodes)) (sym (spots_at nodes tree s)) (All-cons (IsWellPlaced queues nodes) s (flat_map (spots_from nodes) ps) (right_here s right)
+      subst (All (IsWellPlaced queues nodes)) (sym (spots_at nodes tree s))
+      (All-cons (IsWellPlaced queues nodes) s (flat_map (spots_from nodes) ps) (right_here s right)
       (all_flat_map (IsWellPlaced queues nodes) (spots_from nodes) ps
       (λ i d h. let before : (get_or ps i d).id < s.id = near i d h in placed_from k (get_or ps i d) (omega arith) (below i d h))))
 

@@ -87,8 +87,8 @@ walked_root queues nodes some =
       nested = (omega arith, omega arith, omega arith);
     }
 
-pub walked_none : (queues : ℕ) (nodes : List Node) (path : List NameKind) (stack : List Pending) → nodes ≢ [] → path ≡ [] → stack ≡ [] ++ root_pending nodes ∷ []
-    → IsWalked queues nodes path stack
+pub walked_none : (queues : ℕ) (nodes : List Node) (path : List NameKind) (stack : List Pending) → nodes ≢ [] → path ≡ []
+    → stack ≡ [] ++ root_pending nodes ∷ [] → IsWalked queues nodes path stack
 walked_none queues nodes path stack some none e =
     subst (λ (xs : List NameKind). IsWalked queues nodes xs stack) (sym none) (subst (IsWalked queues nodes []) (sym e) (walked_root queues nodes some))
 
@@ -101,8 +101,8 @@ walked_all queues nodes path stack walked e =
     subst (All (IsWellPlaced queues nodes)) (sym whole) walked.placed
 
 -- one look, at the last pending node of the stack
-module _ (queues : ℕ) (nodes : List Node) (tree : IsOneTree nodes) (path : List NameKind) (stack : List Pending) (walked : IsWalked queues nodes path stack) (rest : List Pending)
-    (p : Pending) (popped : stack ≡ rest ++ p ∷ []) (d : Node) where
+module _ (queues : ℕ) (nodes : List Node) (tree : IsOneTree nodes) (path : List NameKind) (stack : List Pending) (walked : IsWalked queues nodes path stack)
+    (rest : List Pending) (p : Pending) (popped : stack ≡ rest ++ p ∷ []) (d : Node) where
   spots_popped : All (IsNear nodes) (map (spot_at path) rest ++ spot_at path p ∷ [])
   spots_popped = subst (All (IsNear nodes)) (ap (map (spot_at path)) popped ∙ map_push (spot_at path) rest p) walked.near
 

@@ -18,7 +18,8 @@ pub record CodeView : Type 0 where
   pub nodes : List Node
   pub queues : ℕ
 
--- one tree whose term stands in no binder's scope, whose loops have few turns, whose parts can use few fiber numbers, and which names no other queues than these
+-- one tree whose term stands in no binder's scope, whose loops have few turns, whose parts can use few fiber numbers, and which names no other queues than
+-- these
 pub record IsCode (queues : ℕ) (nodes : List Node) : Type 0 where
   pub fits : length nodes < 2 ^ 32
   pub tree : IsOneTree nodes
@@ -41,14 +42,17 @@ pub data IsFault (queues : ℕ) (nodes : List Node) : CodeFault → Type 0 where
   orphan : {id : ℕ} → length nodes < 2 ^ 32 → IsForest nodes → id + 1 < length nodes → ((j : ℕ) → j < id → Contains (all_children nodes) j)
       → (Contains (all_children nodes) id → ⊥) → IsFault queues nodes (Child (node_id id))
   -- from the root down, this node is the first that is not well placed, and a slot of it is wrong, or a queue that it names is not there
-  slot : (before after : List Spot) (s : Spot) → length nodes < 2 ^ 32 → IsOneTree nodes → spots nodes ≡ before ++ s ∷ after → All (IsWellPlaced queues nodes) before
-      → (HasRightNumbers queues (length s.kinds) (slice_get nodes s.id) → ⊥) → IsFault queues nodes (Slot (node_id s.id))
+  slot : (before after : List Spot) (s : Spot) → length nodes < 2 ^ 32 → IsOneTree nodes → spots nodes ≡ before ++ s ∷ after
+      → All (IsWellPlaced queues nodes) before → (HasRightNumbers queues (length s.kinds) (slice_get nodes s.id) → ⊥)
+      → IsFault queues nodes (Slot (node_id s.id))
   -- from the root down, this node is the first that is not well placed, and its slots and its queue are right
-  kind : (before after : List Spot) (s : Spot) → length nodes < 2 ^ 32 → IsOneTree nodes → spots nodes ≡ before ++ s ∷ after → All (IsWellPlaced queues nodes) before
-      → HasRightNumbers queues (length s.kinds) (slice_get nodes s.id) → (HasRightKinds s.kinds (slice_get nodes s.id) → ⊥) → IsFault queues nodes (Kind (node_id s.id))
+  kind : (before after : List Spot) (s : Spot) → length nodes < 2 ^ 32 → IsOneTree nodes → spots nodes ≡ before ++ s ∷ after
+      → All (IsWellPlaced queues nodes) before → HasRightNumbers queues (length s.kinds) (slice_get nodes s.id)
+      → (HasRightKinds s.kinds (slice_get nodes s.id) → ⊥)
+      → IsFault queues nodes (Kind (node_id s.id))
   -- from the root down, this node is the first that is not well placed; its slots and its queue are right, and its names are of the right kinds
-  limit : (before after : List Spot) (s : Spot) → length nodes < 2 ^ 32 → IsOneTree nodes → spots nodes ≡ before ++ s ∷ after → All (IsWellPlaced queues nodes) before
-      → HasRightNumbers queues (length s.kinds) (slice_get nodes s.id) → HasRightKinds s.kinds (slice_get nodes s.id)
+  limit : (before after : List Spot) (s : Spot) → length nodes < 2 ^ 32 → IsOneTree nodes → spots nodes ≡ before ++ s ∷ after
+      → All (IsWellPlaced queues nodes) before → HasRightNumbers queues (length s.kinds) (slice_get nodes s.id) → HasRightKinds s.kinds (slice_get nodes s.id)
       → (IsWithinLimits s.turns (need (term_of nodes s.id)) (slice_get nodes s.id) → ⊥) → IsFault queues nodes (Limit (node_id s.id))
 
 -- want of memory, or the first fault of the nodes

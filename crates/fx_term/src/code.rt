@@ -197,6 +197,3 @@ impl Code {
         self.needs[id.0 as usize]
     }
 }
-
-#[cfg(test)]
-mod tests;

@@ -80,6 +80,3 @@ impl Registers {
         }
     }
 }
-
-#[cfg(test)]
-mod tests;

@@ -10,6 +10,7 @@ pub mod TreeLaws
 pub mod ReaderLaws
 pub mod SequenceLaws
 pub mod ReadLaws
+pub mod ReadyLaws
 pub mod MadeLaws
 pub mod HeadLaws
 pub mod ResourceLaws

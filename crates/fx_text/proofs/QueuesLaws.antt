@@ -1,5 +1,6 @@
 -- The queues of a text: reading takes those that the grammar has, and no others.
-use Rattle.std.proofs.Common.{◌≡◌, ℕ, zero, suc, ◌+◌, ◌-◌, ◌<◌, ◌≤◌, nat_lt, nat_le, Bool, true, false, cond, ◌&&◌, Some, None, Ok, Err, List, [], ◌∷◌, ◌++◌, length, codes, bytes_eq, refl, sym, ◌∙◌, ap, subst, arith, append_assoc}
+use Rattle.std.proofs.Common.{◌≡◌, ℕ, zero, suc, ◌+◌, ◌-◌, ◌<◌, ◌≤◌, nat_lt, nat_le, Bool, true, false, cond, ◌&&◌, Some, None, Ok, Err, List, []}
+use Rattle.std.proofs.Common.{◌∷◌, ◌++◌, length, codes, bytes_eq, refl, sym, ◌∙◌, ap, subst, arith, append_assoc}
 use Rattle.std.specs.Int.{IsInRange}
 use Rattle.std.specs.Str.{IsUtf8}
 use Rattle.std.specs.List.{AllByRecursion, IsDistinct, list_any, flat_map}
@@ -206,7 +207,8 @@ pub record IsDeclared (before : List Queue) (text : List ℕ) (q : Queue) (rest 
   pub may : MayFollow before q
   pub text_is : (others : List Token) → IsText rest others → IsText text (size_of q others)
 
-declaration_sound : (before : List Queue) (text : List ℕ) (q : Queue) (rest : List ℕ) → declaration_at before text ≡ Ok (q, rest) → IsDeclared before text q rest
+declaration_sound : (before : List Queue) (text : List ℕ) (q : Queue) (rest : List ℕ) → declaration_at before text ≡ Ok (q, rest)
+    → IsDeclared before text q rest
 unfolding declaration_at binder_at capacity_at closing_at
 declaration_sound before text q rest e =
     let b = bind_ok (binder_at (top (names_of before)) text) (λ x. capacity_at x.1 >>= λ n. closing_at n.1 >>= λ c. Ok ((x.0, n.0), c.1)) (q, rest) e in
@@ -253,7 +255,8 @@ queues_sound zero before queues text rest others e is are full =
     by_form t.0.0 t.0.1 t.1 o
   where
     by_form : (f : TopForm) (after : List ℕ) → top_at zero text ≡ Ok (f, after) → (before ≡ queues) × (after ≡ rest) → Declares before queues text others
-    by_form form.Main after first o = no_more zero before queues text after rest others first (ap (λ (qs : List Queue). Ok (qs, after)) o.0 ∙ ap (λ (l : List ℕ). Ok (queues, l)) o.1) is are
+    by_form form.Main after first o = no_more zero before queues text after rest others first
+        (ap (λ (qs : List Queue). Ok (qs, after)) o.0 ∙ ap (λ (l : List ℕ). Ok (queues, l)) o.1) is are
     by_form form.Queue after first o =
         let none = top_room zero text form.Queue after first in
         absurd (omega arith)

@@ -2,12 +2,11 @@
 use Rattle.std.proofs.Common.{◌≡◌, ℕ, ◌<◌, ◌≤◌, List, [], ◌∷◌, ◌++◌, length, sym, ◌∙◌, subst, arith}
 use Rattle.std.proofs.lemmas.List.{length-append}
 use Rattle.fx_term.specs.declared.node.NodeId.{NodeId}
-use Rattle.fx_term.specs.declared.node.Node.{Node}
 use Rattle.fx_term.specs.Term.{Term}
 use Rattle.fx_text.specs.Limits.{term_spares, form_spares}
 use Rattle.fx_text.specs.declared.reader.Reader.{Reader}
 use Rattle.fx_text.specs.Trees.{AllBelow, GrowsBy}
-use Rattle.fx_text.specs.ReaderState.{scope_of, ids, Went, WentThrough, Adds}
+use Rattle.fx_text.specs.ReaderState.{scope_of, ids, Went, WentThrough}
 use Rattle.fx_text.specs.Made.{Makes}
 use Rattle.fx_text.proofs.ReaderLaws.{grows_append}
 use Rattle.fx_text.proofs.SequenceLaws.{ids_push}
@@ -62,22 +61,6 @@ through_later old new roots bytes rest after t le = record {
   keeps = t.keeps;
   below = t.below;
   paid = omega (arith, t.paid);
-  shorter = omega (arith, t.shorter);
-}
-
--- the parts, the `)`, and then one node
-pub node_went : (old middle new : Reader) (roots : List NodeId) (n : Node) (root : ℕ) (bytes after rest : List ℕ) → WentThrough old middle roots bytes after
-    → length rest < length after → Adds middle new n root → Went form_spares old new root bytes rest
-node_went old middle new roots n root bytes after rest t lt a = record {
-  names = a.names ∙ t.names;
-  place = a.place ∙ t.place;
-  made = a.made;
-  keeps = record {
-    longer = let l = a.keeps.longer in let k = t.keeps.longer in omega arith;
-    same = λ id h. a.keeps.same id (let k = t.keeps.longer in omega arith) ∙ t.keeps.same id h;
-  };
-  last = a.last;
-  paid = omega (arith, t.paid, a.one);
   shorter = omega (arith, t.shorter);
 }
 

@@ -1,5 +1,6 @@
 -- A text is read exactly where it is a schedule.
-use Rattle.std.proofs.Common.{◌≡◌, ◌↔◌, ℕ, zero, suc, ◌<◌, ◌≤◌, nat_lt, Bool, true, false, cond, IfOk, Result, Ok, Err, Vec, Global, List, [], ◌∷◌, ◌++◌, length, refl, ap, ◌∙◌, subst, arith, length-append}
+use Rattle.std.proofs.Common.{◌≡◌, ◌↔◌, ℕ, zero, suc, ◌<◌, ◌≤◌, nat_lt, Bool, true, false, cond, IfOk, Result, Ok, Err, Vec, Global, List, [], ◌∷◌}
+use Rattle.std.proofs.Common.{◌++◌, length, refl, ap, ◌∙◌, subst, arith, length-append}
 use Rattle.std.proofs.lemmas.Bool.{ltb-false, le-ltb}
 use Rattle.fx_text.specs.declared.pick.Pick.{Pick}
 use Rattle.fx_text.specs.declared.fault.TextFault.{TextFault}

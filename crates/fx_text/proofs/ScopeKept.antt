@@ -567,7 +567,11 @@ shape_fits form.If p = λ v h a first b second. record {
 }
 shape_fits form.For p = λ x n few a inside. for_stands p x n a few inside
 shape_fits form.Mask p = λ x a inside. mask_stands p x a inside
-shape_fits form.Poll p = λ i lt of_poll a h. record { scope = record { levels = (lt, h.scope.levels); scoped = (of_poll, h.scope.scoped) }; turns = h.turns; named = h.named }
+shape_fits form.Poll p = λ i lt of_poll a h. record {
+  scope = record { levels = (lt, h.scope.levels); scoped = (of_poll, h.scope.scoped) };
+  turns = h.turns;
+  named = h.named;
+}
 shape_fits form.OnCancel p = λ a first f second. record {
   scope = record { levels = (first.scope.levels, second.scope.levels); scoped = (first.scope.scoped, second.scope.scoped) };
   turns = (first.turns, second.turns);
@@ -589,7 +593,11 @@ shape_fits form.Start p = λ h a first b second. start_stands p h a first b seco
 shape_fits form.Join p = λ f lt of_fiber a first b second c third. join_stands p f lt of_fiber a first b second c third
 shape_fits form.Cancel p = λ f lt of_fiber. record { scope = record { levels = lt; scoped = of_fiber }; turns = tt; named = tt }
 shape_fits form.Race p = λ a first b second. race_stands p a b first second
-shape_fits form.First p = λ f lt of_fiber g lt' of_fiber'. record { scope = record { levels = (lt, lt'); scoped = (of_fiber, of_fiber') }; turns = tt; named = tt }
+shape_fits form.First p = λ f lt of_fiber g lt' of_fiber'. record {
+  scope = record { levels = (lt, lt'); scoped = (of_fiber, of_fiber') };
+  turns = tt;
+  named = tt;
+}
 shape_fits form.Offer p = λ q lt v h. record { scope = record { levels = h.levels; scoped = h.scoped }; turns = tt; named = lt }
 shape_fits form.Take p = λ q lt. record { scope = record { levels = tt; scoped = tt }; turns = tt; named = lt }
 shape_fits form.TryOffer p = λ q lt v h. record { scope = record { levels = h.levels; scoped = h.scoped }; turns = tt; named = lt }

@@ -1,5 +1,6 @@
 -- Names in scope, as the code keeps them.
-use Rattle.std.proofs.Common.{◌≡◌, ℕ, zero, suc, ◌+◌, ◌≤◌, ◌&&◌, ◌||◌, Bool, Some, None, option_map, List, [], ◌∷◌, ◌++◌, length, map, take, drop, bytes_eq, string_bytes, refl, sym, ◌∙◌, ap, arith}
+use Rattle.std.proofs.Common.{◌≡◌, ℕ, zero, suc, ◌+◌, ◌≤◌, ◌&&◌, ◌||◌, Bool, Some, None, option_map, List, [], ◌∷◌, ◌++◌, length, map, take, drop}
+use Rattle.std.proofs.Common.{bytes_eq, string_bytes, refl, sym, ◌∙◌, ap, arith}
 use Rattle.std.specs.List.{list_any, position}
 use Rattle.std.proofs.lemmas.List.{length-map, map-append, length-take-le}
 use Rattle.fx_term.specs.declared.name_kind.NameKind.{NameKind}

@@ -102,7 +102,8 @@ module _ (text : List ℕ) (m : Meaning) where
         short = short;
         queues = subst AreQueues s.queues_are d.are;
         tokens = s.tokens;
-        text_is = subst (λ (qs : List Queue). IsText text (flat_map declaration qs ++ Open ∷ Name (codes "main") ∷ s.tokens)) (sym d.whole ∙ s.queues_are) d.text_is;
+        text_is = subst (λ (qs : List Queue). IsText text (flat_map declaration qs ++ Open ∷ Name (codes "main") ∷ s.tokens))
+            (sym d.whole ∙ s.queues_are) d.text_is;
         main = s.main;
       }
 

@@ -13,7 +13,7 @@ use Rattle.fx_text.specs.Limits.{most_bytes, most_queues, most_nodes, term_spare
 use Rattle.fx_text.specs.Scope.{Scope}
 use Rattle.fx_text.specs.ScopeView.{scope}
 use Rattle.fx_text.specs.Shape.{seq}
-use Rattle.fx_text.specs.Reading.{Read}
+use Rattle.fx_text.specs.Reading.{Read, closing_at}
 use Rattle.fx_text.specs.Given.{Fails}
 use Rattle.fx_text.specs.Needs.{AreMade}
 use Rattle.fx_text.specs.Trees.{AllBelow, GrowsBy, Keeps}
@@ -65,6 +65,17 @@ pub record Adds (old new : Reader) (n : Node) (root : ℕ) : Type 0 where
   pub term : term_of new.nodes.items root ≡ assemble (Some n) (term_of new.nodes.items)
   pub grows : (start : List Node) (parts : List ℕ) → IsPermutation parts (children n) → GrowsBy start old.nodes.items parts
       → GrowsBy start new.nodes.items (root ∷ [])
+
+-- the `)` was read, and then a node was added
+pub record Closes (old new : Reader) (n : Node) (root : ℕ) (bytes rest : List ℕ) : Type 0 where
+  pub closed : closing_at bytes ≡ Ok (tt, rest)
+  pub shorter : length rest < length bytes
+  pub added : Adds old new n root
+
+-- or what stands there is no `)`; or memory ran out
+abbrev pub Ends : Reader → Reader → Node → List ℕ → Result (NodeId × Bor (List ℕ)) ReadError → Type 0
+Ends old new n bytes (Ok x) = Closes old new n x.0.0 bytes x.1.now
+Ends old new n bytes (Err e) = Fails e (closing_at bytes)
 
 abbrev pub ids : List NodeId → List ℕ
 ids = map λ root. root.0

@@ -4,54 +4,41 @@ ghost use Rattle.fx_text.specs.declared.fault.ReadError.TheVariants as errors;
 ghost use Rattle.fx_text.specs.Fault.{kind_number, answered};
 
 use std::alloc::{AllocError, AllocFailed};
+use std::fmt;
 use thiserror::Error;
 
 /// The kind of a fault.
-#[derive(Clone, Copy, PartialEq, Eq, Debug, Error)]
+#[derive(Clone, Copy, PartialEq, Eq, Debug)]
 pub enum TextKind {
     /// A script has more than 65,536 bytes, or a schedule more than 2,097,152.
-    #[error("the text is too long")]
     Length,
     /// A byte that no token or space has.
-    #[error("no text has this byte")]
     Byte,
     /// In a script a word that begins with a digit and is no number, in a schedule a number above
     /// 4,294,967,295.
-    #[error("no number, or one that is too large")]
     Number,
     /// The text ends inside a form.
-    #[error("the text ends inside a form")]
     Ended,
     /// A token after `(` that is no word of a form, or at the top before `main` another token than `(`.
-    #[error("no word of a form")]
     Form,
     /// Another token than its place wants, or a word of a schedule that is no pick.
-    #[error("not what is wanted here")]
     Unwanted,
     /// A name that is not in scope, or is of another kind, or is the poll of another fiber.
-    #[error("no such name of this kind is in scope")]
     Unknown,
     /// A binder or a queue whose name is in scope.
-    #[error("this name is in scope already")]
     Taken,
     /// A capacity outside 1 to 1,024, a count that takes the turns of its loop above 1,000,000, or the
     /// 100,001st word of a schedule.
-    #[error("a capacity, turns of a loop or words of a schedule outside of their limits")]
     Size,
     /// A 17th queue.
-    #[error("16 queues are declared already")]
     Queues,
     /// A `(` where 100 are open.
-    #[error("100 parentheses are open already")]
     Depth,
     /// A form that can start more than 1,023 fibers.
-    #[error("a form that can start more than 1,023 fibers")]
     Need,
     /// The text ends before `main`, or goes on after it.
-    #[error("a script has one main, and nothing after it")]
     Main,
     /// Want of memory.
-    #[error("out of memory")]
     Memory,
 }
 
@@ -77,7 +64,36 @@ impl TextKind {
             TextKind::Memory => 14,
         }
     }
+
+    /// What is said of it.
+    fn words(self) -> &'static str {
+        match self {
+            TextKind::Length => "the text is too long",
+            TextKind::Byte => "no text has this byte",
+            TextKind::Number => "no number, or one that is too large",
+            TextKind::Ended => "the text ends inside a form",
+            TextKind::Form => "no word of a form",
+            TextKind::Unwanted => "not what is wanted here",
+            TextKind::Unknown => "no such name of this kind is in scope",
+            TextKind::Taken => "this name is in scope already",
+            TextKind::Size =>
+                "a capacity, turns of a loop or words of a schedule outside of their limits",
+            TextKind::Queues => "16 queues are declared already",
+            TextKind::Depth => "100 parentheses are open already",
+            TextKind::Need => "a form that can start more than 1,023 fibers",
+            TextKind::Main => "a script has one main, and nothing after it",
+            TextKind::Memory => "out of memory",
+        }
+    }
 }
+
+impl fmt::Display for TextKind {
+    fn fmt<W: fmt::Write>(&self, f: &mut fmt::Formatter<W>) -> fmt::Result {
+        f.write_str(self.words())
+    }
+}
+
+impl std::error::Error for TextKind {}
 
 /// The first fault of a text, and the byte that it is at, from 0. For want of memory that is 0.
 #[derive(Clone, Copy, PartialEq, Eq, Debug, Error)]
@@ -97,14 +113,14 @@ impl TextFault {
 }
 
 /// A fault, by how many bytes of the text stand from it to the end.
-#[derive(Clone, Copy, PartialEq, Eq, Debug)]
+#[derive(Clone, Copy)]
 pub(crate) struct Fault {
     pub(crate) kind: TextKind,
     pub(crate) left: usize,
 }
 
 /// Why a text could not be read.
-#[derive(Debug, Drop)]
+#[derive(Clone, Copy)]
 pub(crate) enum ReadError {
     Memory,
     Fault(Fault),

@@ -1,7 +1,7 @@
 //! The forms of a term.
 
 /// A form of a term.
-#[derive(Clone, Copy, PartialEq, Eq, Debug)]
+#[derive(Clone, Copy)]
 pub(crate) enum Form {
     Pure,
     Raise,

@@ -46,6 +46,3 @@ pub use pick::Pick;
 pub use queues::QueueDecl;
 pub use schedules::schedule;
 pub use script::{Script, parse};
-
-#[cfg(test)]
-mod tests;

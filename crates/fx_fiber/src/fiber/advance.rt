@@ -4,7 +4,7 @@ ghost use Rattle.fx_fiber.specs.Sound.{IsSoundMachine};
 ghost use Rattle.fx_fiber.specs.Methods.{Advances, ComesFirst, IsSame, IsGoing, is_open_machine};
 ghost use Rattle.fx_fiber.specs.Deed.{Deed, Saw};
 ghost use Rattle.fx_fiber.specs.Fiber.{is_fiber_number};
-ghost use Rattle.fx_fiber.specs.Scopes.{IsProgressScopedOver};
+ghost use Rattle.fx_model.specs.Scopes.{IsProgressScopedOver};
 ghost use Rattle.fx_fiber.specs.Machine.{progress_of};
 
 use crate::machine::Machine;

@@ -9,9 +9,10 @@ ghost use Rattle.fx_fiber.specs.Methods.{IsSame, StandsAt};
 
 use crate::fiber::Fiber;
 use crate::fiber::bare::Bare;
+use crate::fiber::child::child_of;
 use crate::machine::focus::Focus;
 use crate::port::Port;
-use fx_term::{Begin, Code, Event, Memory, NodeId};
+use fx_term::{Code, Event, Memory, NodeId};
 
 /// Starts a fiber that runs one part, under no mask and not canceled, with the numbers of the names in
 /// scope; the other part goes on with the fiber's number by this name. All memory is had before the
@@ -46,21 +47,11 @@ pub(crate) fn start<P: Port>(
     ensures number { P.number port.new ≡ P.number port.old }
     ensures beginning { P.beginning port.new ≡ P.beginning port.old }
 {
-    let machine = &mut bare.machine;
-    let alloc = machine.alloc;
-    let id = machine.next;
-    let next = id + 1;
-    let begin = Begin {
-        node: started,
-        slots: machine.registers.copied(alloc)?,
-        next,
-        end: next + code.need(started),
-    };
-    let child = Bare::beginning(alloc, id, &begin)?;
-    machine.registers.bind(Some(slot), u64::from(id))?;
+    let id = bare.machine.next;
+    let (begin, child) = child_of(&mut bare.machine, code, slot, started)?;
     let own = port.start(shared, id, &begin)?;
-    machine.next = begin.end;
-    machine.focus = Focus::Eval(then);
+    bare.machine.next = begin.end;
+    bare.machine.focus = Focus::Eval(then);
     bare.trace.push_reserved(Event::Start(id));
     Ok(Fiber::beginning(own, child))
 }

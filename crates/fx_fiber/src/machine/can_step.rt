@@ -1,18 +1,18 @@
 //! Whether a machine can step.
 ghost use Rattle.std.specs.Prelude.{◌≡◌, ◌&&◌, ◌||◌, List};
 ghost use Rattle.fx_term.specs.declared.node.Node.{Node};
-ghost use Rattle.fx_fiber.specs.Outside.{leaf_can_step, can_step};
-ghost use Rattle.fx_fiber.specs.Closed.{outside_of};
+ghost use Rattle.fx_model.specs.Outside.{leaf_can_step, can_step};
+ghost use Rattle.fx_model.specs.Closed.{outside_of};
 ghost use Rattle.fx_fiber.specs.Fiber.{is_fiber_number};
-ghost use Rattle.fx_fiber.specs.Scopes.{IsProgressScopedOver};
+ghost use Rattle.fx_model.specs.Scopes.{IsProgressScopedOver};
 ghost use Rattle.fx_fiber.specs.Machine.{counts_of, progress_of};
 ghost use Rattle.fx_fiber.specs.Sound.{IsSoundMachine};
 ghost use Rattle.fx_fiber.specs.LeafBelow.{IsLeafBelow, term_at};
 
-use crate::closed::Closed;
 use crate::machine::Machine;
 use crate::machine::focus::Focus;
 use crate::machine::leaf_below::LeafBelow;
+use fx_model::Closed;
 use fx_term::Code;
 
 impl Machine {

@@ -4,7 +4,7 @@ ghost use Rattle.fx_term.specs.declared.node.Node.TheVariants as node;
 ghost use Rattle.fx_fiber.specs.Methods.{MakesRule, Interrupts, IsSame, StandsAt, IsBeforeTurn, ReturnsInto};
 ghost use Rattle.fx_fiber.specs.Methods.{ReturnsOut, IsReturning, IsLeafNode, IsLocalLeaf, IsInterrupted, MakesCall};
 ghost use Rattle.fx_fiber.specs.Fiber.{is_fiber_number};
-ghost use Rattle.fx_fiber.specs.Scopes.{IsProgressScopedOver};
+ghost use Rattle.fx_model.specs.Scopes.{IsProgressScopedOver};
 ghost use Rattle.fx_fiber.specs.Machine.{progress_of};
 
 use crate::machine::Machine;

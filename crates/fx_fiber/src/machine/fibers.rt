@@ -6,7 +6,7 @@ ghost use Rattle.fx_term.specs.declared.node.Node.TheVariants as node;
 ghost use Rattle.fx_term.specs.Fill.{fill_arg};
 ghost use Rattle.fx_fiber.specs.Sound.{IsSoundMachine};
 ghost use Rattle.fx_fiber.specs.Fiber.{is_fiber_number};
-ghost use Rattle.fx_fiber.specs.Scopes.{IsProgressScopedOver};
+ghost use Rattle.fx_model.specs.Scopes.{IsProgressScopedOver};
 ghost use Rattle.fx_fiber.specs.Machine.{progress_of};
 ghost use Rattle.fx_fiber.specs.Methods.{MakesCall, IsSame, StandsAt, IsJoin, joined_machine};
 

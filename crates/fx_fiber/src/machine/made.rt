@@ -3,7 +3,7 @@
 use fx_term::{Event, NodeId, Outcome};
 
 /// Which rule was made, by what it shows.
-#[derive(Clone, Copy, PartialEq, Eq, Debug)]
+#[derive(Clone, Copy)]
 pub(crate) enum Made {
     /// One that shows nothing.
     Silent,

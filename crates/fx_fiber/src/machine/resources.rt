@@ -1,6 +1,6 @@
 //! The rules of `bracket`, one method each, named as in the table.
 ghost use Rattle.std.specs.Prelude.{◌≡◌, ◌^◌, ◌<◌};
-ghost use Rattle.fx_fiber.specs.Row.{after_release};
+ghost use Rattle.fx_model.specs.Row.{after_release};
 ghost use Rattle.fx_fiber.specs.Methods.{MakesRule, IsSame, ReturnsInto, IsBracketAt};
 
 use crate::machine::Machine;

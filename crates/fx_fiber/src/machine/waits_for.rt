@@ -1,10 +1,10 @@
 //! What a machine waits for.
 ghost use Rattle.std.specs.Prelude.{◌≡◌, List, option_and_then};
 ghost use Rattle.fx_term.specs.declared.node.Node.{Node};
-ghost use Rattle.fx_fiber.specs.Step.{leaf_at};
-ghost use Rattle.fx_fiber.specs.Waiting.{wait_at};
+ghost use Rattle.fx_model.specs.Step.{leaf_at};
+ghost use Rattle.fx_model.specs.Waiting.{wait_at};
 ghost use Rattle.fx_fiber.specs.Fiber.{is_fiber_number};
-ghost use Rattle.fx_fiber.specs.Scopes.{IsProgressScopedOver};
+ghost use Rattle.fx_model.specs.Scopes.{IsProgressScopedOver};
 ghost use Rattle.fx_fiber.specs.Machine.{progress_of};
 ghost use Rattle.fx_fiber.specs.Sound.{IsSoundMachine};
 ghost use Rattle.fx_fiber.specs.LeafBelow.{IsLeafBelow, term_at};
@@ -12,7 +12,7 @@ ghost use Rattle.fx_fiber.specs.LeafBelow.{IsLeafBelow, term_at};
 use crate::machine::Machine;
 use crate::machine::focus::Focus;
 use crate::machine::leaf_below::LeafBelow;
-use crate::source::Source;
+use fx_model::Source;
 use fx_term::{Code, Node};
 
 impl Machine {

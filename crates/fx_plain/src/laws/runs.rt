@@ -11,12 +11,13 @@ ghost use Rattle.fx_model.specs.Causes.{IsLawfulInOneOrder};
 ghost use Rattle.fx_model.specs.Headline.{KeepsWhatIsPromised};
 ghost use Rattle.fx_text.specs.declared.pick.Pick.{Pick};
 ghost use Rattle.fx_plain.specs.WholeMachine.{WholeMachine, Move, opening, can_step_in, FiberSteps, IsWholeMachineRun, steps_in, FindsItsNumber};
+ghost use Rattle.fx_plain.specs.SettledRun.{HasSettledRun};
 ghost use Rattle.fx_plain.specs.Chosen.{IsChosen, IsReplay};
 
-/// The report of the run that a list of picks chooses is lawful, where every number may be requested
-/// from outside.
-pub fn replay_is_lawful()
-    ensures { (s : ScriptView) (ps : List Pick) (r : ReportView) → IsReplay s ps r
+/// The report of a run of the whole machine is lawful, whoever chose its steps, where at its end no fiber
+/// can step. Every number may be requested from outside.
+pub fn settled_run_is_lawful()
+    ensures { (s : ScriptView) (r : ReportView) → HasSettledRun s r
         → IsLawfulReport s (λ f. true) r }
 {}
 
@@ -24,8 +25,8 @@ pub fn replay_is_lawful()
 /// trace stops at its outcome and released each resource that it acquired once, inner before outer,
 /// and cancellation acted only where each mask round it was opened by its own poll. The script's term
 /// is core, as that of each code is.
-pub fn replay_keeps_what_is_promised()
-    ensures { (s : ScriptView) (ps : List Pick) (r : ReportView) → IsCore s.term → IsReplay s ps r
+pub fn settled_run_keeps_what_is_promised()
+    ensures { (s : ScriptView) (r : ReportView) → IsCore s.term → HasSettledRun s r
         → KeepsWhatIsPromised s (λ f. true) r }
 {}
 
@@ -33,6 +34,30 @@ pub fn replay_keeps_what_is_promised()
 /// it keeps each fiber's own order, and has each take after the put of what was taken, each join,
 /// await and first of two after the outcome that was learnt, each request seen after some request,
 /// unless that came from outside, and each fiber's first event after its start.
+pub fn settled_run_has_one_order()
+    ensures { (s : ScriptView) (r : ReportView) → HasSettledRun s r
+        → IsLawfulInOneOrder s (λ f. true) r }
+{}
+
+/// The run that picks choose is such a run: at its end no fiber can step.
+pub fn replay_is_settled()
+    ensures { (s : ScriptView) (ps : List Pick) (r : ReportView) → IsReplay s ps r
+        → HasSettledRun s r }
+{}
+
+/// So its report is lawful.
+pub fn replay_is_lawful()
+    ensures { (s : ScriptView) (ps : List Pick) (r : ReportView) → IsReplay s ps r
+        → IsLawfulReport s (λ f. true) r }
+{}
+
+/// Where all its fibers have ended, it has what is promised.
+pub fn replay_keeps_what_is_promised()
+    ensures { (s : ScriptView) (ps : List Pick) (r : ReportView) → IsCore s.term → IsReplay s ps r
+        → KeepsWhatIsPromised s (λ f. true) r }
+{}
+
+/// Its events have one order.
 pub fn replay_has_one_order()
     ensures { (s : ScriptView) (ps : List Pick) (r : ReportView) → IsReplay s ps r
         → IsLawfulInOneOrder s (λ f. true) r }

@@ -48,8 +48,7 @@ impl<'a> Reader<'a> {
         let (x, rest) = binder(&self.names, self.place, rest)?;
         let slot = self.names.len() as u32;
         let (b, rest) = self.term_in(Inner::Name(NameKind::Value, x), room, rest)?;
-        let rest = closing(rest)?;
-        Ok((self.add(Node::Handle(a, Some(slot), b))?, rest))
+        self.end(Node::Handle(a, Some(slot), b), rest)
     }
 
     #[cycle(terms)]
@@ -66,8 +65,7 @@ impl<'a> Reader<'a> {
         let zero = self.add(Node::Pure(Arg::Number(0)))?;
         let handled = self.add(Node::Handle(forced, None, zero))?;
         let (then, rest) = self.term(room, rest)?;
-        let rest = closing(rest)?;
-        Ok((self.add(Node::Let(None, handled, then))?, rest))
+        self.end(Node::Let(None, handled, then), rest)
     }
 
     #[cycle(terms)]

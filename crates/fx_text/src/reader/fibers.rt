@@ -65,9 +65,8 @@ impl<'a> Reader<'a> {
         let (succeeded, rest) = self.outcome(room, bytes)?;
         let (errored, rest) = self.outcome(room, rest)?;
         let (canceled, rest) = self.term(room, rest)?;
-        let rest = closing(rest)?;
         let node = Node::Join(fiber, slot, succeeded, slot, errored, canceled);
-        Ok((self.add(node)?, rest))
+        self.end(node, rest)
     }
 
     /// What comes after an outcome that has a number: the name of the number, and a term.

@@ -1,12 +1,14 @@
 //! What stands before the terms of a form, and the node that is made of these terms.
-ghost use Rattle.std.specs.Prelude.{◌≡◌, [], ◌∷◌, IfOk};
+ghost use Rattle.std.specs.Prelude.{◌≡◌, ◌<◌, [], ◌∷◌, length, IfOk};
 ghost use Rattle.fx_term.specs.Meaning.{term_of};
 ghost use Rattle.fx_term.specs.Tree.{children};
-ghost use Rattle.fx_text.specs.Limits.{form_spares};
+ghost use Rattle.fx_text.specs.Limits.{most_nodes, form_spares};
 ghost use Rattle.fx_text.specs.Head.{ReadsHead, still, single_term, double_term};
 ghost use Rattle.fx_text.specs.Made.{CanMake, Makes};
 ghost use Rattle.fx_text.specs.Reading.{GroupReading, parts_at};
-ghost use Rattle.fx_text.specs.ReaderState.{scope_of, IsReady, ReadsTerm};
+ghost use Rattle.fx_text.specs.ReaderState.{scope_of, IsReady, ReadsTerm, Ends};
+ghost use Rattle.fx_text.specs.Needs.{AreMade};
+ghost use Rattle.fx_text.specs.Trees.{AllBelow};
 
 use crate::fault::ReadError;
 use crate::form::Form;
@@ -115,6 +117,21 @@ impl<'a> Reader<'a> {
         }
     }
 
+    /// The `)` of a form, and its node.
+    pub(super) fn end(
+        &mut self,
+        node: Node,
+        bytes: &'a [u8],
+    ) -> Result<(NodeId, &'a [u8]), ReadError>
+        requires made { AreMade self.old.nodes.items self.old.needs.items }
+        requires children { AllBelow (length self.old.nodes.items) (children node) }
+        requires small { length self.old.nodes.items < most_nodes }
+        ensures { Ends self.old self.new node bytes.now result }
+    {
+        let rest = closing(bytes)?;
+        Ok((self.add(node)?, rest))
+    }
+
     /// A form with no term in it.
     pub(super) fn leaf(
         &mut self,
@@ -127,8 +144,7 @@ impl<'a> Reader<'a> {
             → ReadsTerm form_spares self.old self.new bytes.now
             (parts_at each (still (Head.Leaf node) (scope_of self.old)) bytes.now) result }
     {
-        let rest = closing(bytes)?;
-        Ok((self.add(node)?, rest))
+        self.end(node, bytes)
     }
 
     /// The node of a form of one term.

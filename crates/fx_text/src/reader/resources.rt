@@ -58,9 +58,7 @@ impl<'a> Reader<'a> {
         let (acquire, rest) = self.term(room, bytes)?;
         let (used, rest) = self.term_in(inner, room, rest)?;
         let (release, rest) = self.term_in(inner, room, rest)?;
-        let rest = closing(rest)?;
-        let node = Node::Bracket(Some(slot), acquire, used, release);
-        Ok((self.add(node)?, rest))
+        self.end(Node::Bracket(Some(slot), acquire, used, release), rest)
     }
 
     /// What is used, in a bracket whose resource is the value 0.

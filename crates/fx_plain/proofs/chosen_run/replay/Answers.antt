@@ -6,8 +6,7 @@ use Rattle.fx_model.specs.Causes.{IsLawfulInOneOrder}
 use Rattle.fx_text.specs.View.{meaning}
 use Rattle.fx_plain.specs.Chosen.{IsReplay}
 use Rattle.fx_report.specs.Script.{script_of}
-use Rattle.fx_plain.proofs.LawfulRuns.{replay_is_lawful}
-use Rattle.fx_plain.proofs.ReplayOrder.{replay_is_in_order}
+use Rattle.fx_plain.proofs.ChosenRuns.{replay_is_lawful, replay_is_in_order}
 use Rattle.fx_plain.proofs.chosen_run.replay.Goals as goal
 
 pub returns-clause-lawful : goal.returns-clause-lawful

@@ -10,7 +10,7 @@ use Rattle.fx_plain.specs.Chosen.{IsReplay}
 use Rattle.fx_report.specs.Script.{script_of}
 use Rattle.fx_report.specs.Text.{queue_names, IsWritable}
 use Rattle.fx_plain.specs.PlainMachine.{IsUnderWay}
-use Rattle.fx_plain.proofs.LawfulRuns.{replay_is_lawful, replay_keeps_promises}
+use Rattle.fx_plain.proofs.ChosenRuns.{replay_is_lawful, replay_keeps_promises}
 use Rattle.fx_report.proofs.QueueNames.{names_declared}
 use Rattle.fx_report.proofs.WritableReports.{lawful_is_writable}
 use Rattle.fx_plain.proofs.chosen_run.replay_named.Goals as goal

@@ -5,9 +5,9 @@ use Rattle.fx_report.specs.Text.{number}
 use Rattle.fx_report.proofs.lines.push_queue_line.Given as goal
 
 -- what is written so far, and the values of the other elements, are the line
-abbrev pub invariant-loop-rest : goal.invariant-loop-rest
-invariant-loop-rest l = string_bytes l.text ++ flat_map (λ (x : Item). number x.value) l.rest
+abbrev pub invariant-loop-item : goal.invariant-loop-item
+invariant-loop-item l = string_bytes l.text ++ flat_map (λ (x : Item). number x.value) l.rest
     ≡ (string_bytes l.fn.text ++ codes "queue " ++ string_bytes l.queue.name ++ codes " left") ++ flat_map (λ (x : Item). number x.value) l.items
 
-abbrev pub decreases-loop-rest : goal.decreases-loop-rest
-decreases-loop-rest l = length l.rest
+abbrev pub decreases-loop-item : goal.decreases-loop-item
+decreases-loop-item l = length l.rest

@@ -1,8 +1,8 @@
 use Rattle.std.proofs.Common.{◌∙◌, ap}
-use Rattle.fx_fiber.specs.Origin.{Origin}
+use Rattle.fx_model.specs.Origin.{Origin}
 use Rattle.fx_fiber.specs.Fiber.{is_fiber_number}
-use Rattle.fx_fiber.specs.Step.{Runs}
-use Rattle.fx_fiber.proofs.Beginnings.{main_begins, main_work_fits, main_scoped, main_room}
+use Rattle.fx_model.specs.Step.{Runs}
+use Rattle.fx_model.proofs.Beginnings.{main_begins, main_work_fits, main_scoped, main_room}
 use Rattle.fx_fiber.proofs.fiber.Fiber.new.Goals as goal
 
 pub beginning-requires-2-clause-countable : goal.beginning-requires-2-clause-countable

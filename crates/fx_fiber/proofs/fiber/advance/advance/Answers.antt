@@ -1,6 +1,6 @@
 use Rattle.std.proofs.Common.{◌≡◌, refl, ap}
 use Rattle.std.proofs.lemmas.Result.{IfOk-weaker}
-use Rattle.fx_fiber.specs.Row.{Counts}
+use Rattle.fx_model.specs.Row.{Counts}
 use Rattle.fx_fiber.specs.Methods.{MakesRule, MakesCall, Interrupts}
 use Rattle.fx_fiber.proofs.Calls.{local_call}
 use Rattle.fx_fiber.proofs.Advances.{inside_leaf, inside_result, inside_loop, same_here, is_interrupted, is_free}
@@ -23,7 +23,8 @@ leaf_rule-requires g c =
       at = record {
         at = here.ensures.at;
         free =
-            is_free g.P.Port.calls g.P.Port.agrees g.P.Port.puts g.P.Port.code c.args.machine.now c.enter.new.self _ _ _ _ _ here.ensures.same inside c.in-None.ensures.first;
+            is_free g.P.Port.calls g.P.Port.agrees g.P.Port.puts g.P.Port.code c.args.machine.now c.enter.new.self _ _ _ _ _ here.ensures.same inside
+            c.in-None.ensures.first;
       };
       leaf = here.ensures.leaf;
       countable =
@@ -50,8 +51,8 @@ returns-in-None-clause-ok g c =
     let here = c.in_ok-id-in-Eval in
     let inside = inside_leaf g.P.Port.code c.enter.new.self here.id here.node.now _ here.ensures.at here.ensures.leaf c.is_canceled.ensures in
     IfOk-weaker c.leaf_rule.result
-    (λ m. MakesCall g.P.Port.calls g.P.Port.agrees g.P.Port.puts g.P.Port.code c.enter.new.self c.interruption.new.port c.interruption.new.shared m c.leaf_rule.new.self
-    c.leaf_rule.new.port c.leaf_rule.new.shared) _
+    (λ m. MakesCall g.P.Port.calls g.P.Port.agrees g.P.Port.puts g.P.Port.code c.enter.new.self c.interruption.new.port c.interruption.new.shared
+    m c.leaf_rule.new.self c.leaf_rule.new.port c.leaf_rule.new.shared) _
     (λ m h. rule_advances g.P.Port.calls g.P.Port.agrees g.P.Port.puts g.P.Port.code c.args.machine.now c.enter.new.self _ _ _ _ _
     here.ensures.same inside m _ _ _ c.in-None.ensures.first h)
     c.leaf_rule.ensures.ok

@@ -1,5 +1,5 @@
 use Rattle.std.proofs.Common.{sym, ◌∙◌, inl, inr}
-use Rattle.fx_fiber.specs.Closed.{outside_of}
+use Rattle.fx_model.specs.Closed.{outside_of}
 use Rattle.fx_fiber.proofs.LeavesBelow.{interrupted_can_step, leaf_goes, await_can_step, result_can_step, turn_can_step, unwinding_can_step}
 use Rattle.fx_fiber.proofs.machine.Machine.can_step.Goals as goal
 

@@ -1,6 +1,6 @@
 use Rattle.std.proofs.Common.{refl, rules}
 use Rattle.fx_term.specs.declared.node.Node.TheVariants as node
-use Rattle.fx_fiber.specs.Row.{cede}
+use Rattle.fx_model.specs.Row.{cede}
 use Rattle.fx_fiber.proofs.Leaves.{leaf_at_cede, row_at}
 use Rattle.fx_fiber.proofs.machine.Machine.cede.Goals as goal
 

@@ -1,4 +1,4 @@
-use Rattle.fx_fiber.specs.Step.{finalizer_ends}
+use Rattle.fx_model.specs.Step.{finalizer_ends}
 use Rattle.fx_fiber.proofs.Results.{given_is_no_cede}
 use Rattle.fx_fiber.proofs.Unwindings.{between_sound}
 use Rattle.fx_fiber.proofs.machine.Machine.finalizer_ends.Goals as goal

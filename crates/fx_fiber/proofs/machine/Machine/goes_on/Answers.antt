@@ -1,8 +1,8 @@
 use Rattle.std.proofs.Common.{sym, ◌∙◌}
-use Rattle.fx_fiber.specs.Closed.{outside_of}
+use Rattle.fx_model.specs.Closed.{outside_of}
 use Rattle.fx_fiber.specs.LeafBelow.{term_at}
 use Rattle.fx_fiber.proofs.LeavesBelow.{closed_below}
-use Rattle.fx_fiber.proofs.WaitingLaws.{leaf_waits, leaf_goes_on}
+use Rattle.fx_model.proofs.WaitingLaws.{leaf_waits, leaf_goes_on}
 use Rattle.fx_fiber.proofs.machine.Machine.goes_on.Goals as goal
 
 pub returns-in-Some : goal.returns-in-Some

@@ -1,7 +1,7 @@
 use Rattle.std.proofs.Common.{refl, rules}
 use Rattle.fx_term.specs.declared.done.Done.TheVariants.{Err}
 use Rattle.fx_frames.specs.declared.frame.Frame.TheVariants as frame
-use Rattle.fx_fiber.specs.Row.{let_error}
+use Rattle.fx_model.specs.Row.{let_error}
 use Rattle.fx_fiber.proofs.Results.{given_is_no_cede, given_step}
 use Rattle.fx_fiber.proofs.machine.Machine.let_error.Goals as goal
 

@@ -1,7 +1,7 @@
 use Rattle.std.proofs.Common.{refl}
 use Rattle.fx_term.specs.declared.done.Done.TheVariants.{Val}
 use Rattle.fx_frames.specs.declared.frame.Frame.TheVariants as frame
-use Rattle.fx_fiber.specs.Row.{let_value}
+use Rattle.fx_model.specs.Row.{let_value}
 use Rattle.fx_fiber.proofs.Results.{given_is_no_cede, named_step, named_sound}
 use Rattle.fx_fiber.proofs.machine.Machine.let_value.Goals as goal
 

@@ -1,6 +1,6 @@
 use Rattle.std.proofs.Common.{refl, rules}
 use Rattle.fx_frames.specs.declared.frame.Frame.TheVariants as frame
-use Rattle.fx_fiber.specs.Row.{oncancel_ends}
+use Rattle.fx_model.specs.Row.{oncancel_ends}
 use Rattle.fx_fiber.proofs.Results.{given_is_no_cede, given_step}
 use Rattle.fx_fiber.proofs.machine.Machine.oncancel_ends.Goals as goal
 

@@ -1,6 +1,6 @@
 use Rattle.std.proofs.Common.{refl, rules, sym}
 use Rattle.fx_frames.specs.declared.frame.Frame.TheVariants as frame
-use Rattle.fx_fiber.specs.Row.{opened_ends}
+use Rattle.fx_model.specs.Row.{opened_ends}
 use Rattle.fx_fiber.proofs.Results.{given_is_no_cede, given_step, given_quietly, counts_same}
 use Rattle.fx_fiber.proofs.machine.Machine.opened_ends.Goals as goal
 

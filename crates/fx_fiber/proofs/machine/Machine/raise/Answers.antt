@@ -1,7 +1,7 @@
 use Rattle.std.proofs.Common.{refl, ap, rules}
 use Rattle.fx_term.specs.declared.node.Node.TheVariants as node
 use Rattle.fx_term.specs.Term.{Raise}
-use Rattle.fx_fiber.specs.Row.{raise}
+use Rattle.fx_model.specs.Row.{raise}
 use Rattle.fx_fiber.proofs.Leaves.{arg_within, levels, leaf_is_no_cede, row_at}
 use Rattle.fx_fiber.proofs.machine.Machine.raise.Goals as goal
 

@@ -1,4 +1,4 @@
-use Rattle.fx_fiber.specs.Step.{release_ends}
+use Rattle.fx_model.specs.Step.{release_ends}
 use Rattle.fx_fiber.proofs.Unwindings.{between_sound}
 use Rattle.fx_fiber.proofs.machine.Machine.release_ends.Goals as goal
 

@@ -1,6 +1,6 @@
 use Rattle.std.proofs.Common.{refl, rules}
 use Rattle.fx_frames.specs.declared.frame.Frame.TheVariants as frame
-use Rattle.fx_fiber.specs.Row.{released}
+use Rattle.fx_model.specs.Row.{released}
 use Rattle.fx_fiber.proofs.Results.{given_step, closed_inside}
 use Rattle.fx_fiber.proofs.machine.Machine.released.Goals as goal
 

@@ -1,7 +1,7 @@
 use Rattle.std.proofs.Common.{refl, rules, ◌∙◌, ap}
 use Rattle.std.specs.Prelude.{not}
 use Rattle.fx_term.specs.declared.node.Node.TheVariants as node
-use Rattle.fx_fiber.specs.Row.{self_request}
+use Rattle.fx_model.specs.Row.{self_request}
 use Rattle.fx_fiber.proofs.Leaves.{closed_at_canceled, row_at}
 use Rattle.fx_fiber.proofs.machine.Machine.self_request.Goals as goal
 

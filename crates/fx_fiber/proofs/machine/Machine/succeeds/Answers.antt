@@ -1,6 +1,6 @@
 use Rattle.std.proofs.Common.{rules}
 use Rattle.fx_term.specs.declared.done.Done.TheVariants.{Val}
-use Rattle.fx_fiber.specs.Step.{succeeds}
+use Rattle.fx_model.specs.Step.{succeeds}
 use Rattle.fx_fiber.proofs.Results.{result_is_free}
 use Rattle.fx_fiber.proofs.machine.Machine.succeeds.Goals as goal
 

@@ -1,6 +1,6 @@
 use Rattle.std.proofs.Common.{refl}
 use Rattle.fx_fiber.specs.Machine.{counts_of}
-use Rattle.fx_fiber.specs.Step.{unwound}
+use Rattle.fx_model.specs.Step.{unwound}
 use Rattle.fx_fiber.proofs.Unwindings.{finalizer_sound, release_sound, unwound_sound, finalizer_begins, release_begins}
 use Rattle.fx_fiber.proofs.machine.Machine.unwinds.Goals as goal
 

@@ -1,6 +1,6 @@
 use Rattle.std.proofs.Common.{refl, rules}
 use Rattle.fx_frames.specs.declared.frame.Frame.TheVariants as frame
-use Rattle.fx_fiber.specs.Row.{used}
+use Rattle.fx_model.specs.Row.{used}
 use Rattle.fx_fiber.proofs.Results.{given_step}
 use Rattle.fx_fiber.proofs.machine.Machine.used.Goals as goal
 

@@ -1,4 +1,4 @@
-use Rattle.fx_plain.proofs.RunLaws.{chosen_leads}
+use Rattle.fx_plain.proofs.ChosenRuns.{chosen_leads}
 use Rattle.fx_plain.proofs.laws.runs.chosen_run_is_a_run.Goals as goal
 
 pub returns : goal.returns

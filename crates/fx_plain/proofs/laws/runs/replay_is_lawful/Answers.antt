@@ -1,4 +1,4 @@
-use Rattle.fx_plain.proofs.LawfulRuns.{replay_is_lawful}
+use Rattle.fx_plain.proofs.ChosenRuns.{replay_is_lawful}
 use Rattle.fx_plain.proofs.laws.runs.replay_is_lawful.Goals as goal
 
 pub returns : goal.returns

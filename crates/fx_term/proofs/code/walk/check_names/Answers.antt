@@ -18,7 +18,8 @@ unfolding root_pending
 at_start c = c.in_ok-push.ensures.items ∙ ap (λ xs. xs ++ root_pending c.args.nodes.now ∷ []) c.new-stack.ensures.items
 
 pub loop-pending-init : goal.loop-pending-init
-loop-pending-init c = walked_none c.args.queues c.args.nodes.now c.new-path.result.items c.push.new.self.items c.requires.tree.some_node c.new-path.ensures.items (at_start c)
+loop-pending-init c = walked_none c.args.queues c.args.nodes.now c.new-path.result.items c.push.new.self.items c.requires.tree.some_node
+    c.new-path.ensures.items (at_start c)
 
 pub bounds-nodes-pending : goal.bounds-nodes-pending
 bounds-nodes-pending c =

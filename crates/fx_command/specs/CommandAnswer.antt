@@ -1,0 +1,70 @@
+-- What a call of the program answers to the texts that its names stand for.
+use Rattle.std.specs.Prelude.{◌≡◌, ℕ, Option, Some, None, List, [], string_bytes, IfSome}
+use Rattle.std.specs.Io.KnownBytes.{Appends, Keeps}
+use Rattle.fx_text.specs.declared.pick.Pick.{Pick}
+use Rattle.fx_text.specs.Meaning.{Meaning}
+use Rattle.fx_text.specs.Grammar.{IsScript}
+use Rattle.fx_text.specs.Schedule.{IsSchedule}
+use Rattle.fx_report.specs.Output.{WritesPrefix}
+use Rattle.fx_command.specs.declared.call.Command.{Command}
+use Rattle.fx_command.specs.declared.command_fault.CommandFault.{CommandFault}
+use Rattle.fx_command.specs.declared.command_fault.CommandFault.TheVariants.{Refused, Unreadable, Memory, Write}
+use Rattle.fx_command.specs.Refused.{IsNoScript, IsNoSchedule}
+use Rattle.fx_command.specs.Performed.{IsPerformed}
+
+-- the status and the printed text for a script and a schedule: what was asked for, or one line where one of them is no such text. A schedule is read only
+-- after a script
+pub data IsCommandAnswer (c : Command) (script schedule : List ℕ) : ℕ → List ℕ → Type 0 where
+  performed : {m : Meaning} {ps : List Pick} {status : ℕ} {text : List ℕ} → IsScript script m → IsSchedule schedule ps → IsPerformed m ps c status text
+      → IsCommandAnswer c script schedule status text
+  no_script : {line : List ℕ} → IsNoScript line script → IsCommandAnswer c script schedule 3 line
+  no_schedule : {m : Meaning} {line : List ℕ} → IsScript script m → IsNoSchedule line schedule → IsCommandAnswer c script schedule 3 line
+
+-- the schedule that is known, of that name; the empty one without a name
+abbrev pub known_schedule : (List ℕ → Option (List ℕ)) → Option (List ℕ) → Option (List ℕ)
+known_schedule holds None = Some []
+known_schedule holds (Some name) = holds name
+
+-- what is answered to the texts of which so much is known
+pub record AnswersTo (c : Command) (script_known schedule_known : Option (List ℕ)) (status : ℕ) (text : List ℕ) : Type 0 where
+  pub script : List ℕ
+  pub schedule : List ℕ
+  pub is_script : IfSome script_known (λ all. script ≡ all)
+  pub is_schedule : IfSome schedule_known (λ all. schedule ≡ all)
+  pub answer : IsCommandAnswer c script schedule status text
+
+-- that answer was written whole, and nothing else
+pub record WritesAnswer (c : Command) (script_known schedule_known : Option (List ℕ)) (status : ℕ) (old new : Option (List ℕ)) : Type 0 where
+  pub text : List ℕ
+  pub answers : AnswersTo c script_known schedule_known status text
+  pub appended : Appends old new text
+
+-- a prefix of it was written, and nothing else
+pub record WritesAnswerPart (c : Command) (script_known schedule_known : Option (List ℕ)) (old new : Option (List ℕ)) : Type 0 where
+  pub status : ℕ
+  pub text : List ℕ
+  pub answers : AnswersTo c script_known schedule_known status text
+  pub part : WritesPrefix text old new
+
+-- what a fault leaves: only where the output took not all was anything written. The line of a refusal is the answer, and comes then
+abbrev pub Leaves : Command → Option (List ℕ) → Option (List ℕ) → CommandFault → Option (List ℕ) → Option (List ℕ) → Type 0
+Leaves c script_known schedule_known (Refused r) old new = AnswersTo c script_known schedule_known 3 (string_bytes r.line) × Keeps old new
+Leaves c script_known schedule_known (Unreadable name) old new = Keeps old new
+Leaves c script_known schedule_known Memory old new = Keeps old new
+Leaves c script_known schedule_known Write old new = WritesAnswerPart c script_known schedule_known old new
+
+-- the line of a refusal was written, or a prefix of it
+pub data TellsRefusal (line : List ℕ) (old new : Option (List ℕ)) : ℕ → Type 0 where
+  told : Appends old new line → TellsRefusal line old new 3
+  not_taken : WritesPrefix line old new → TellsRefusal line old new 5
+
+-- A run of the program with this status. Other words are answered by 2, a text that cannot be read by 4, any other fault by 5, and all else by the answer to
+-- the texts of some names
+pub data Runs (holds : List ℕ → Option (List ℕ)) (old new : Option (List ℕ)) : ℕ → Type 0 where
+  other_words : Keeps old new → Runs holds old new 2
+  answered : {status : ℕ} (c : Command) (script : List ℕ) (schedule : Option (List ℕ))
+      → WritesAnswer c (holds script) (known_schedule holds schedule) status old new → Runs holds old new status
+  unreadable : Keeps old new → Runs holds old new 4
+  no_memory : Keeps old new → Runs holds old new 5
+  not_taken : (c : Command) (script : List ℕ) (schedule : Option (List ℕ))
+      → WritesAnswerPart c (holds script) (known_schedule holds schedule) old new → Runs holds old new 5

@@ -1,0 +1,31 @@
+-- Which fault of a command that of a write is, and which one a text has that is not accepted.
+use Rattle.std.specs.Prelude.{ℕ, List, string_bytes}
+use Rattle.fx_report.specs.declared.out_fault.OutFault.{OutFault}
+use Rattle.fx_report.specs.declared.out_fault.OutFault.TheVariants as out
+use Rattle.fx_command.specs.declared.command_fault.CommandFault.{CommandFault}
+use Rattle.fx_command.specs.declared.command_fault.CommandFault.TheVariants.{Refused, Unreadable, Memory, Write}
+
+abbrev pub fault_of_writing : OutFault → CommandFault
+fault_of_writing out.Write = Write
+fault_of_writing out.Memory = Memory
+
+-- memory ran out, or the text is refused by a line that is right
+abbrev pub IsRefusal : (List ℕ → Type 0) → CommandFault → Type 0
+IsRefusal IsRight (Refused r) = IsRight (string_bytes r.line)
+IsRefusal IsRight Memory = Unit {0}
+IsRefusal IsRight (Unreadable name) = ⊥
+IsRefusal IsRight Write = ⊥
+
+-- no text was read
+abbrev pub IsUnread : CommandFault → Type 0
+IsUnread (Refused r) = ⊥
+IsUnread Memory = Unit {0}
+IsUnread (Unreadable name) = Unit {0}
+IsUnread Write = ⊥
+
+-- no text was read, or it is refused by a line that is right
+abbrev pub IsUnreadOrRefusal : (List ℕ → Type 0) → CommandFault → Type 0
+IsUnreadOrRefusal IsRight (Refused r) = IsRight (string_bytes r.line)
+IsUnreadOrRefusal IsRight Memory = Unit {0}
+IsUnreadOrRefusal IsRight (Unreadable name) = Unit {0}
+IsUnreadOrRefusal IsRight Write = ⊥

@@ -1,0 +1,53 @@
+//! Why a command does not print what it was asked for.
+ghost use Rattle.std.specs.Prelude.{◌≡◌};
+
+use fx_plain::OutFault;
+use std::alloc::AllocError;
+use thiserror::Error;
+
+/// What is said of a text that is refused: the line of the refusal, and words for people.
+#[derive(Debug, Drop)]
+pub(crate) struct Refusal {
+    pub(crate) line: String,
+    pub(crate) words: String,
+}
+
+/// Why a command does not print what it was asked for.
+#[derive(Debug, Drop, Error)]
+pub(crate) enum CommandFault<'a> {
+    /// The script or the schedule is refused.
+    #[error("the text is refused")]
+    Refused(Refusal),
+    /// The text of this name cannot be read.
+    #[error("cannot read {0}")]
+    Unreadable(&'a str),
+    /// Memory ran out. Nothing was printed.
+    #[error("fault memory")]
+    Memory,
+    /// What is printed was not taken whole.
+    #[error("fault write")]
+    Write,
+}
+
+impl From<AllocError> for CommandFault<'_> {
+    ghost use Rattle.fx_command.specs.declared.command_fault.CommandFault.TheVariants.{Memory};
+
+    ghost from_gives = { λ _ fault. fault ≡ Memory };
+
+    fn from(_refused: AllocError) -> Self {
+        CommandFault::Memory
+    }
+}
+
+impl From<OutFault> for CommandFault<'_> {
+    ghost use Rattle.fx_command.specs.CommandFault.{fault_of_writing};
+
+    ghost from_gives = { λ fault made. made ≡ fault_of_writing fault };
+
+    fn from(fault: OutFault) -> Self {
+        match fault {
+            OutFault::Write => CommandFault::Write,
+            OutFault::Memory => CommandFault::Memory,
+        }
+    }
+}

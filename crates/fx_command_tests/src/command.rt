@@ -1,0 +1,94 @@
+//! Runs of the program over texts in memory.
+use fx_command::command::{FAULT, OTHER_WORDS, UNREADABLE, command};
+use fx_command::files::{FetchFault, Files};
+use fx_plain::{BLOCKED, ENDED, REFUSED};
+use std::alloc::{AllocError, Global};
+use std::io::{self, Read, Write};
+use std::process::Abort;
+use std::test::Fail;
+
+mod fibers;
+mod limits;
+mod queues;
+mod schedule_words;
+mod script_words;
+mod scripts;
+mod streams;
+mod tour;
+mod words;
+
+/// A text in memory. One that is broken answers an error at its end.
+#[derive(Clone, Copy, Drop)]
+struct Text<'a> {
+    left: &'a [u8],
+    is_broken: bool,
+}
+
+impl Read for Text<'_> {
+    fn read(&mut self, buf: &mut [u8]) -> io::Result<usize> {
+        if self.left.is_empty() && self.is_broken {
+            return Err(io::Error::from(io::ErrorKind::Other));
+        }
+        self.left.read(buf)
+    }
+}
+
+/// Texts in memory, by name.
+#[derive(Drop)]
+struct Texts<'a> {
+    texts: &'a [(&'a str, Text<'a>)],
+}
+
+impl<'a> Files for Texts<'a> {
+    ghost use Rattle.std.specs.Prelude.{None};
+
+    type Input = Text<'a>;
+
+    ghost holds = { λ texts name. None };
+
+    fn fetch(&mut self, name: &str) -> Result<Text<'a>, FetchFault> {
+        match self.texts.iter().find(|entry| entry.0 == name) {
+            Some(entry) => Ok(entry.1),
+            None => Err(FetchFault::Unreadable),
+        }
+    }
+}
+
+/// What a run of the program answered: its status, and what it printed.
+#[derive(Drop)]
+struct Ran {
+    status: u8,
+    out: Vec<u8>,
+    err: Vec<u8>,
+}
+
+/// A text that is read to its end.
+fn whole(left: &[u8]) -> Text<'_> {
+    Text {
+        left,
+        is_broken: false,
+    }
+}
+
+/// The words of a line.
+fn words_of(alloc: Global, line: &str) -> Result<Vec<String>, AllocError> {
+    let mut words = Vec::new(alloc);
+    for word in line.split_whitespace() {
+        words.push(String::from_str(alloc, word)?)?;
+    }
+    Ok(words)
+}
+
+/// The run of the program with these words, over these texts.
+fn run_of(alloc: Global, line: &str, texts: &[(&str, Text<'_>)]) -> Result<Ran, AllocError> {
+    let words = words_of(alloc, line)?;
+    let mut out = Vec::new(alloc);
+    let mut err = Vec::new(alloc);
+    let status = command(alloc, &words, &mut Texts { texts }, &mut out, &mut err);
+    Ok(Ran { status, out, err })
+}
+
+/// The replay of a script with the empty schedule.
+fn replayed(alloc: Global, script: &[u8]) -> Result<Ran, AllocError> {
+    run_of(alloc, "replay F", &[("F", whole(script))])
+}

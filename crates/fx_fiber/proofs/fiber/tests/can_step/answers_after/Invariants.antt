@@ -1,4 +1,0 @@
-use Rattle.fx_fiber.proofs.fiber.tests.can_step.answers_after.Given as goal
-
-abbrev pub ghosts-answers : goal.ghosts-answers
-ghosts-answers a = record { nodes = a.code.now.nodes }

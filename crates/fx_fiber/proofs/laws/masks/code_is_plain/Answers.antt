@@ -1,5 +1,0 @@
-use Rattle.fx_fiber.proofs.PlainCode.{code_is_plain}
-use Rattle.fx_fiber.proofs.laws.masks.code_is_plain.Goals as goal
-
-pub returns : goal.returns
-returns c queues = code_is_plain

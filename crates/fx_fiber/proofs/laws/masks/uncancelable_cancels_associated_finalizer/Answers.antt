@@ -1,5 +1,0 @@
-use Rattle.fx_fiber.proofs.MaskLaws.{masked_finalizer}
-use Rattle.fx_fiber.proofs.laws.masks.uncancelable_cancels_associated_finalizer.Goals as goal
-
-pub returns : goal.returns
-returns c scope p t f plain scoped = masked_finalizer scope p t plain scoped f

@@ -1,5 +1,0 @@
-use Rattle.fx_fiber.proofs.RangeLaws.{run_start}
-use Rattle.fx_fiber.proofs.laws.ranges.start_takes_its_range.Goals as goal
-
-pub returns : goal.returns
-returns c = run_start

@@ -1,5 +1,0 @@
-use Rattle.fx_fiber.proofs.CausesFound.{causes_found}
-use Rattle.fx_fiber.proofs.laws.reports.causes_are_found.Goals as goal
-
-pub returns : goal.returns
-returns c = causes_found

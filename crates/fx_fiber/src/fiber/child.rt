@@ -1,0 +1,51 @@
+//! The child of a start, before its port is asked for.
+ghost use Rattle.std.specs.Prelude.{◌≡◌, ◌+◌, ◌^◌, ◌<◌, ◌≤◌, List, Some, IfOk, OnOk, OnErr};
+ghost use Rattle.fx_term.specs.declared.node.Node.{Node};
+ghost use Rattle.fx_term.specs.declared.node.Node.TheVariants as node;
+ghost use Rattle.fx_term.specs.declared.node.NodeId.{NodeId};
+ghost use Rattle.fx_term.specs.Meaning.{term_of};
+ghost use Rattle.fx_term.specs.Need.{need};
+ghost use Rattle.fx_term.specs.Registers.{with_number};
+ghost use Rattle.fx_fiber.specs.Bare.{IsFirstBare};
+ghost use Rattle.fx_fiber.specs.MakesStart.{child_begin};
+ghost use Rattle.fx_fiber.specs.Methods.{IsEvaluating};
+
+use crate::fiber::bare::Bare;
+use crate::machine::Machine;
+use fx_term::{Begin, Code, Memory, NodeId};
+
+/// What the child of a `start` begins with, and what it has beside its port: it is under no mask and
+/// not canceled, with the numbers of the names in scope. Its own number is had by this name.
+pub(crate) fn child_of(
+    machine: &mut Machine,
+    code: &Code,
+    slot: u32,
+    started: NodeId,
+) -> Result<(Begin, Box<Bare>), Memory>
+    ghost nodes: { List Node }
+    requires code { code.now.nodes ≡ nodes }
+    requires stands { (id : NodeId) × (then : NodeId)
+        × IsEvaluating nodes machine.old id (node.Start slot started then) }
+    requires room { machine.old.next + 1 + need (term_of nodes started.0) ≤ machine.old.end }
+    requires word { machine.old.end < 2 ^ 32 }
+    ensures begin { IfOk result (λ child. child.0 ≡ child_begin nodes machine.old started) }
+    ensures bare { IfOk result
+        (λ child. IsFirstBare nodes machine.old.next child.0 child.1.value) }
+    ensures named { OnOk result (machine.new ≡ record machine.old {
+      registers = with_number (Some slot) machine.old.next machine.old.registers;
+    }) }
+    ensures err { OnErr result (machine.new ≡ machine.old) }
+{
+    let alloc = machine.alloc;
+    let id = machine.next;
+    let next = id + 1;
+    let begin = Begin {
+        node: started,
+        slots: machine.registers.copied(alloc)?,
+        next,
+        end: next + code.need(started),
+    };
+    let child = Bare::beginning(alloc, id, &begin)?;
+    machine.registers.bind(Some(slot), u64::from(id))?;
+    Ok((begin, child))
+}

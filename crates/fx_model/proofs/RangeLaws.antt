@@ -1,0 +1,110 @@
+-- A fiber's range has room for all that its term can start.
+use Rattle.std.proofs.Common.{◌≡◌, ℕ, suc, ◌+◌, ◌-◌, ◌*◌, ◌≤◌, max, Bool, Option, Some, None, List, [], ◌∷◌, ◌++◌, refl, arith}
+use Rattle.fx_term.specs.declared.outcome.Outcome.{Outcome}
+use Rattle.fx_term.specs.declared.outcome.Outcome.TheVariants as outcome
+use Rattle.fx_term.specs.Term.{Finished, Term, Let, Handle, If, For, Mask, Poll, OnCancel, Bracket, Start, Join, TryTake, Masked, Opened, InUse, InRelease}
+use Rattle.fx_term.specs.Term.{Loop, put}
+use Rattle.fx_term.specs.Term.{put_named}
+use Rattle.fx_term.specs.Need.{need}
+use Rattle.fx_model.specs.Path.{Context, LetIn, OnCancelIn, InUseIn, plug, CleanupTerm, Finalizer, Release, cleanup_terms}
+use Rattle.fx_model.proofs.Paths.{along_path}
+use Rattle.fx_term.specs.declared.done.Done.TheVariants.{Val}
+use Rattle.fx_model.specs.Row.{Counts, Label, Starts, part_after, Row}
+use Rattle.fx_model.specs.Origin.{Origin}
+use Rattle.fx_model.specs.Row as row
+use Rattle.fx_model.specs.Step.{Progress, Runs, Unwinds, CleansUp, HasEnded, Step}
+use Rattle.fx_model.specs.Step as step
+use Rattle.fx_model.specs.Run.{first_counts, Leads, IsRun}
+use Rattle.fx_model.specs.NeedLeft.{clean_up_need, need_left, HasRoom, StartsInItsRange}
+use Rattle.fx_model.proofs.StepLabels.{StartsNext, step_tells}
+
+-- a number for a name leaves the need as it is
+put_need : (x n : ℕ) (t : Term) → need (put x n t) ≡ need t
+put_need x n (Let y a b) = let p = put_need x n a in let q = put_need x n b in cc
+put_need x n (Handle a y b) = let p = put_need x n a in let q = put_need x n b in cc
+put_need x n (If v a b) = let p = put_need x n a in let q = put_need x n b in cc
+put_need x n (For y c a) = let p = put_need x n a in cc
+put_need x n (Mask y a) = let p = put_need x n a in cc
+put_need x n (Poll v a) = let p = put_need x n a in cc
+put_need x n (OnCancel a b) = let p = put_need x n a in let q = put_need x n b in cc
+put_need x n (Bracket y a b c) = let p = put_need x n a in let q = put_need x n b in let r = put_need x n c in cc
+put_need x n (Start y a b) = let p = put_need x n a in let q = put_need x n b in cc
+put_need x n (Join v y a z b c) = let p = put_need x n a in let q = put_need x n b in let r = put_need x n c in cc
+put_need x n (TryTake k y a b) = let p = put_need x n a in let q = put_need x n b in cc
+put_need x n (Masked k a) = let p = put_need x n a in cc
+put_need x n (Opened k a) = let p = put_need x n a in cc
+put_need x n (InUse k a b) = let p = put_need x n a in let q = put_need x n b in cc
+put_need x n (InRelease k a v) = let p = put_need x n a in cc
+put_need x n (Loop y k c a) = let p = put_need x n a in cc
+put_need x n _ = refl
+
+put_named_need : (x : Option ℕ) (n : ℕ) (t : Term) → need (put_named x n t) ≡ need t
+put_named_need None n t = refl
+put_named_need (Some x) n t = put_need x n t
+
+turn_need : (m left w : ℕ) → left ≡ suc m → w + m * w ≡ left * w
+turn_need m left w e = rw e (grind arith)
+
+branch_need : (o : Outcome) (x e : ℕ) (a b c : Term) → need (part_after o x a e b c) ≤ max (need a) (max (need b) (need c))
+branch_need (outcome.Succeeded n) x e a b c = let p = put_need x n a in omega arith
+branch_need (outcome.Errored n) x e a b c = let p = put_need e n b in omega arith
+branch_need outcome.Canceled x e a b c = omega arith
+
+-- a context has its own need beside that of its part
+need_plug : (f : Context) (a : Term) → need (plug f a) ≡ need a + need (plug f (Finished (Val 0)))
+need_plug (LetIn x b) a = omega arith
+need_plug _ a = omega arith
+
+-- what was used and what can still be used are together no more than before
+row_need : {k : Bool} {c d : Counts} {l : Label} {t t' : Term} → Row k c t l d t' → d.next + need t' ≤ c.next + need t
+row_need (row.for_begins {n = n}) = let e : n - 0 ≡ n = omega arith in rw e (omega arith)
+row_need (row.loop_turns {i = i} {k = j} {n = n} {t = a} h) =
+    let p = put_need i j a in let q = turn_need (n - (j + 1)) (n - j) (need a) (omega arith) in omega arith
+row_need (row.let_value {x = x} {n = n} {b = b}) = let p = put_named_need x n b in omega arith
+row_need (row.handle_error {x = x} {e = e} {b = b}) = let p = put_named_need x e b in omega arith
+row_need {c = c} (row.mask {p = p} {t = a}) = let q = put_need p c.masks a in omega arith
+row_need (row.acquired {x = x} {n = n} {u = u} {r = r}) = let p = put_named_need x n u in let q = put_named_need x n r in omega arith
+row_need {c = c} (row.start {h = h} {b = b}) = let p = put_need h c.next b in omega arith
+row_need (row.joined {x = x} {e = e} {a = a} {b = b} {d = g} {o = o}) = let p = branch_need o x e a b g in omega arith
+row_need (row.tried_take {n = n} {x = x} {a = a}) = let p = put_need x n a in omega arith
+row_need (row.inside f {a = a} {a' = a'} e g r) =
+    let here = row_need r in let before = need_plug f a in let after = need_plug f a' in rw (e, g) (omega arith)
+row_need _ = omega arith
+
+clean_up_need-append : (xs ys : List CleanupTerm) → clean_up_need (xs ++ ys) ≡ clean_up_need xs + clean_up_need ys
+clean_up_need-append [] ys = omega arith
+clean_up_need-append (Finalizer f ∷ xs) ys = let p = clean_up_need-append xs ys in omega arith
+clean_up_need-append (Release k r ∷ xs) ys = let p = clean_up_need-append xs ys in omega arith
+
+context_need : (f : Context) (a : Term) → clean_up_need (cleanup_terms a) ≤ need a → clean_up_need (cleanup_terms (plug f a)) ≤ need (plug f a)
+context_need (OnCancelIn f) a h = let p = clean_up_need-append (cleanup_terms a) (Finalizer f ∷ []) in omega arith
+context_need (InUseIn k r) a h = let p = clean_up_need-append (cleanup_terms a) (Release k r ∷ []) in omega arith
+context_need _ a h = omega arith
+
+-- the clean-ups of a path are a part of the term
+clean_ups_need : (t : Term) → clean_up_need (cleanup_terms t) ≤ need t
+clean_ups_need = along_path (λ t. clean_up_need (cleanup_terms t) ≤ need t) context_need (λ t bare. rw bare (omega arith))
+
+pub step_need : {c d : Counts} {p q : Progress} {l : Label} → Step c p l d q → d.next + need_left q ≤ c.next + need_left p
+step_need (step.cancelled {t = t} m) = let e = clean_ups_need t in omega arith
+step_need (step.row m r) = row_need r
+step_need (step.cleans r) = let e = row_need r in omega arith
+step_need _ = omega arith
+
+-- steps one after another
+leads_need : (c d : Counts) (p q : Progress) (ls : List Label) → Leads c p ls d q → c.next + need_left p ≤ c.end → d.next + need_left q ≤ d.end
+leads_need c d p q [] r room = rw (r.0, r.1) room
+leads_need c d p q (l ∷ ls) r room = leads_need r.0 d r.1 q ls r.3 (let n = step_need r.2 in let e = (step_tells r.2).end in omega arith)
+
+-- where the range that a fiber begins with has room for its term, what is left of it has room at each progress
+pub run_need : (b : Origin) (ls : List Label) (c : Counts) (p : Progress) → HasRoom b → IsRun b ls c p → c.next + need_left p ≤ c.end
+run_need b ls c p room r = leads_need (first_counts b) c (Runs b.term) p ls r room
+
+-- so a start takes its numbers in that range
+pub run_start : (b : Origin) (ls : List Label) (c : Counts) (p : Progress) → HasRoom b → IsRun b ls c p → StartsInItsRange c p
+run_start b ls c p room r d q f child st =
+    let t : StartsNext c d f child = (step_tells st).takes in
+    let left = run_need b ls c p room r in
+    let n = step_need st in
+    let p1 = t.number in let p2 = t.next in let p3 = t.end in let p4 = t.after in
+    record { number = t.number; next = omega arith; room = t.end; within = omega arith }

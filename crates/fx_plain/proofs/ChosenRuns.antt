@@ -1,0 +1,45 @@
+-- The run that picks choose is one of the whole machine, at whose end no fiber can step.
+use Rattle.std.proofs.Common.{ℕ, true, List, refl}
+use Rattle.fx_term.specs.Forms.{IsCore}
+use Rattle.fx_term.specs.Script.{ScriptView}
+use Rattle.fx_model.specs.Report.{ReportView}
+use Rattle.fx_model.specs.LawfulReport.{IsLawfulReport}
+use Rattle.fx_model.specs.Causes.{IsLawfulInOneOrder}
+use Rattle.fx_model.specs.Headline.{KeepsWhatIsPromised}
+use Rattle.fx_text.specs.declared.pick.Pick.{Pick}
+use Rattle.fx_plain.specs.WholeMachine.{WholeMachine, Move, IsSettled, WholeMachineLeads}
+use Rattle.fx_plain.specs.SettledRun.{HasSettledRun}
+use Rattle.fx_plain.specs.Chosen.{IsChosen, IsReplay}
+use Rattle.fx_plain.specs.Chosen as chosen
+use Rattle.fx_plain.proofs.LawfulRuns.{settled_is_lawful, settled_keeps_promises}
+use Rattle.fx_plain.proofs.RunOrder.{settled_is_in_order}
+
+pub chosen_leads : (s : ScriptView) {ps : List Pick} {m last : WholeMachine} {vs : List Move} → IsChosen s ps m vs last → WholeMachineLeads s m vs last
+chosen_leads s (chosen.step {m' = m'} c rest) = (m', c.steps, chosen_leads s rest)
+chosen_leads s (chosen.no_step e rest) = chosen_leads s rest
+chosen_leads s (chosen.request lt rest) = (_, (lt, refl), chosen_leads s rest)
+chosen_leads s (chosen.no_request le rest) = chosen_leads s rest
+chosen_leads s (chosen.least {m' = m'} none c rest) = (m', c.steps, chosen_leads s rest)
+chosen_leads s (chosen.rests none) = refl
+
+pub chosen_settles : (s : ScriptView) {ps : List Pick} {m last : WholeMachine} {vs : List Move} → IsChosen s ps m vs last → IsSettled s last
+chosen_settles s (chosen.step c rest) = chosen_settles s rest
+chosen_settles s (chosen.no_step e rest) = chosen_settles s rest
+chosen_settles s (chosen.request lt rest) = chosen_settles s rest
+chosen_settles s (chosen.no_request le rest) = chosen_settles s rest
+chosen_settles s (chosen.least none c rest) = chosen_settles s rest
+chosen_settles s (chosen.rests none) = none
+
+-- so what is true of the report of each such run is true of a replay's
+pub replay_settles : (s : ScriptView) (ps : List Pick) (r : ReportView) → IsReplay s ps r → HasSettledRun s r
+replay_settles s ps r h =
+    record { moves = h.moves; last = h.last; run = chosen_leads s h.chosen; settled = chosen_settles s h.chosen; report = h.report }
+
+pub replay_is_lawful : (s : ScriptView) (ps : List Pick) (r : ReportView) → IsReplay s ps r → IsLawfulReport s (λ f. true) r
+replay_is_lawful s ps r h = settled_is_lawful s r (replay_settles s ps r h)
+
+pub replay_keeps_promises : (s : ScriptView) (ps : List Pick) (r : ReportView) → IsCore s.term → IsReplay s ps r → KeepsWhatIsPromised s (λ f. true) r
+replay_keeps_promises s ps r core h = settled_keeps_promises s r core (replay_settles s ps r h)
+
+pub replay_is_in_order : (s : ScriptView) (ps : List Pick) (r : ReportView) → IsReplay s ps r → IsLawfulInOneOrder s (λ f. true) r
+replay_is_in_order s ps r h = settled_is_in_order s r (replay_settles s ps r h)

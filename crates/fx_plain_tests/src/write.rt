@@ -1,0 +1,205 @@
+//! The texts of reports that are made by hand.
+ghost use Rattle.std.specs.Prelude.{◌≡◌, All};
+ghost use Rattle.std.specs.Bool.{OnTrue};
+ghost use Rattle.fx_text.specs.View.{meaning};
+ghost use Rattle.fx_report.specs.Text.{queue_names, ends};
+ghost use Rattle.fx_report.specs.Text.{IsWritableFiber, IsWritable};
+ghost use Rattle.fx_term.specs.QueuesNamed.{NamesQueueBelow};
+
+use fx_fiber::{FiberReport, Report, State};
+use fx_plain::{OutFault, write_report, write_trace};
+use fx_term::{Event, Item, Outcome};
+use fx_text::{QueueDecl, Script, parse};
+use std::alloc::Global;
+use std::io;
+use std::io::Write;
+use std::process::Abort;
+use std::test::Fail;
+
+mod rows;
+
+/// A fiber: its number, how it is at the end, and its trace.
+type Told<'a> = (u32, State, &'a [Event]);
+
+/// The fibers of a report, what is left in each queue, and the two texts.
+#[derive(Clone, Copy)]
+struct Row<'a> {
+    fibers: &'a [Told<'a>],
+    left: &'a [&'a [u64]],
+    report: &'a str,
+    traces: &'a str,
+}
+
+/// A script whose queues have these names.
+fn script_with(alloc: Global, names: &[&str]) -> Result<Script, Fail> {
+    let mut script = parse(alloc, b"(main (pure 5))")?;
+    for name in names {
+        script.queues.push(QueueDecl {
+            name: String::from_str(alloc, name)?,
+            cap: 4,
+        })?;
+    }
+    Ok(script)
+}
+
+/// Elements with these values.
+fn items(alloc: Global, values: &[u64]) -> Result<Vec<Item>, Fail> {
+    let mut items = Vec::new(alloc);
+    for value in values {
+        items.push(Item {
+            fiber: 0,
+            nth: 0,
+            value: *value,
+        })?;
+    }
+    Ok(items)
+}
+
+fn report_of(alloc: Global, row: &Row) -> Result<Report, Fail> {
+    let mut fibers = Vec::new(alloc);
+    for (id, state, trace) in row.fibers {
+        fibers.push(FiberReport {
+            id: *id,
+            parent: None,
+            state: *state,
+            trace: Vec::from_slice(alloc, trace)?,
+        })?;
+    }
+    let mut left = Vec::new(alloc);
+    for values in row.left {
+        left.push(items(alloc, values)?)?;
+    }
+    Ok(Report {
+        fibers,
+        left,
+        outside: Vec::new(alloc),
+        late: 0,
+    })
+}
+
+fn names_queue_below(queues: usize, event: Event) -> bool
+    ensures { OnTrue result (NamesQueueBelow queues event) }
+{
+    match event {
+        Event::Put(queue, _) | Event::Got(queue, _) | Event::Refused(queue) | Event::Empty(queue) =>
+            (queue as usize) < queues,
+        _ => true,
+    }
+}
+
+fn trace_names_below(queues: usize, trace: &[Event]) -> bool
+    ensures { OnTrue result (All (NamesQueueBelow queues) trace.now) }
+{
+    for event in trace {
+        if !names_queue_below(queues, *event) {
+            return false;
+        }
+    }
+    true
+}
+
+fn tells_its_end(fiber: &FiberReport) -> bool
+    ensures { OnTrue result (ends fiber.now.trace ≡ fiber.now.has_ended) }
+{
+    let ends = matches!(fiber.trace.last(), Some(Event::Ended(_)));
+    match fiber.state {
+        State::Ended => ends,
+        State::Blocked => !ends,
+    }
+}
+
+fn is_writable_fiber(queues: usize, fiber: &FiberReport) -> bool
+    ensures { OnTrue result (IsWritableFiber queues fiber.now) }
+{
+    trace_names_below(queues, &fiber.trace) && tells_its_end(fiber)
+}
+
+fn are_writable(queues: usize, fibers: &[FiberReport]) -> bool
+    ensures { OnTrue result (All (IsWritableFiber queues) fibers.now) }
+{
+    for fiber in fibers {
+        if !is_writable_fiber(queues, fiber) {
+            return false;
+        }
+    }
+    true
+}
+
+fn is_writable(script: &Script, report: &Report) -> bool
+    ensures { OnTrue result (IsWritable (queue_names (meaning script.now)) report.now) }
+{
+    report.left.len() == script.queues.len() && are_writable(script.queues.len(), &report.fibers)
+}
+
+/// Sees that both texts of each report are these, where the script's queues have these names.
+fn assert_writes(rt: &impl Abort, alloc: Global, names: &[&str], rows: &[Row]) -> Result<(), Fail> {
+    let script = script_with(alloc, names)?;
+    for row in rows {
+        let report = report_of(alloc, row)?;
+        assert!(rt; is_writable(&script, &report));
+        let mut written = Vec::new(alloc);
+        write_report(alloc, &script, &report, &mut written)?;
+        assert_eq!(rt; written.as_slice(), row.report.as_bytes());
+        let mut written = Vec::new(alloc);
+        write_trace(alloc, &script, &report, &mut written)?;
+        assert_eq!(rt; written.as_slice(), row.traces.as_bytes());
+    }
+    Ok(())
+}
+
+/// Takes so many bytes, one at a time, and then answers an error.
+#[derive(Drop)]
+struct Full {
+    taken: Vec<u8>,
+    room: usize,
+}
+
+impl Write for Full {
+    fn write(&mut self, buf: &[u8]) -> io::Result<usize> {
+        let Some(first) = buf.first() else {
+            return Ok(0);
+        };
+        if self.taken.len() >= self.room {
+            return Err(io::Error::from(io::ErrorKind::Other));
+        }
+        self.taken.push(*first)?;
+        Ok(1)
+    }
+
+    fn flush(&mut self) -> io::Result<()> {
+        Ok(())
+    }
+}
+
+#[test]
+fn writer_that_fails_has_a_prefix_of_the_text(rt: HostRuntime) -> Result<(), Fail> {
+    let whole = b"fiber 0 blocked\nqueue q left 6\n";
+    let script = script_with(rt.alloc(), &["q"])?;
+    let report = report_of(
+        rt.alloc(),
+        &Row {
+            fibers: &[(0, State::Blocked, &[])],
+            left: &[&[6]],
+            report: "",
+            traces: "",
+        },
+    )?;
+    assert!(rt; is_writable(&script, &report));
+    for room in 0..=31 {
+        let mut writer = Full {
+            taken: Vec::new(rt.alloc()),
+            room,
+        };
+        let written = write_report(rt.alloc(), &script, &report, &mut writer);
+        let wanted = if room < 31 {
+            Err(OutFault::Write)
+        } else {
+            Ok(())
+        };
+        assert_eq!(rt; written, wanted, "room for {room}");
+        assert_eq!(rt; writer.taken.as_slice(), &whole[..room], "room for {room}");
+    }
+    assert_eq!(rt; OutFault::Write.number(), 1);
+    assert_eq!(rt; OutFault::Memory.number(), 2);
+    Ok(())
+}
