@@ -5,15 +5,17 @@ use Rattle.fx_text.specs.declared.pick.Pick.{Pick}
 use Rattle.fx_text.specs.Meaning.{Meaning}
 use Rattle.fx_report.specs.declared.out_fault.OutFault.{OutFault}
 use Rattle.fx_report.specs.declared.out_fault.OutFault.TheVariants as out
+use Rattle.fx_report.specs.declared.status.TheConstants.{REFUSED}
+use Rattle.fx_report.specs.Output.{fault_of_writing}
+use Rattle.fx_report.specs.Written.{WritesAnswer}
 use Rattle.fx_report.proofs.Written.{keeps_same}
 use Rattle.fx_command.specs.declared.call.Command.{Command}
 use Rattle.fx_command.specs.declared.command_fault.Refusal.{Refusal}
 use Rattle.fx_command.specs.declared.command_fault.CommandFault.{CommandFault}
 use Rattle.fx_command.specs.declared.command_fault.CommandFault.TheVariants.{Refused, Unreadable, Memory, Write}
-use Rattle.fx_command.specs.CommandFault.{fault_of_writing}
 use Rattle.fx_command.specs.Fetched.{FetchesScript, FetchesSchedule, FetchesNoScript, FetchesNoSchedule}
 use Rattle.fx_command.specs.Performed.{Performs}
-use Rattle.fx_command.specs.CommandAnswer.{performed, no_script, no_schedule, known_schedule, WritesAnswer, Leaves}
+use Rattle.fx_command.specs.CommandAnswer.{performed, no_script, no_schedule, known_schedule, AnswersTo, Leaves}
 use Rattle.fx_command.specs.CommandAnswer.{TellsRefusal, told, Runs, answered}
 use Rattle.fx_command.specs.CommandAnswer.TellsRefusal.{not_taken as line_not_taken}
 use Rattle.fx_command.specs.CommandAnswer.Runs.{not_taken}
@@ -62,31 +64,31 @@ leaves_no_schedule c m script schedule Write old has without = absurd without
 
 pub leaves_unwritten : (c : Command) (m : Meaning) (ps : List Pick) (script schedule : Option (List ℕ)) (fault : OutFault) (old new : Option (List ℕ))
     → FetchesScript script m → FetchesSchedule schedule ps → Performs c m ps (Err fault) old new
-    → Leaves c script schedule (fault_of_writing fault) old new
+    → Leaves c script schedule (fault_of_writing Write Memory fault) old new
 leaves_unwritten c m ps script schedule out.Write old new has picks part = record {
   status = part.status;
   text = part.text;
-  answers = record {
+  answer = record {
     script = has.text;
     schedule = picks.text;
     is_script = has.is;
     is_schedule = picks.is;
-    answer = performed has.holds picks.holds part.performed;
+    answer = performed has.holds picks.holds part.answer;
   };
   part = part.part;
 }
 leaves_unwritten c m ps script schedule out.Memory old new has picks kept = kept
 
 pub writes_answer : (c : Command) (m : Meaning) (ps : List Pick) (script schedule : Option (List ℕ)) (status : ℕ) (old new : Option (List ℕ))
-    → FetchesScript script m → FetchesSchedule schedule ps → Performs c m ps (Ok status) old new → WritesAnswer c script schedule status old new
+    → FetchesScript script m → FetchesSchedule schedule ps → Performs c m ps (Ok status) old new → WritesAnswer (AnswersTo c script schedule) status old new
 writes_answer c m ps script schedule status old new has picks whole = record {
   text = whole.text;
-  answers = record {
+  answer = record {
     script = has.text;
     schedule = picks.text;
     is_script = has.is;
     is_schedule = picks.is;
-    answer = performed has.holds picks.holds whole.performed;
+    answer = performed has.holds picks.holds whole.answer;
   };
   appended = whole.appended;
 }
@@ -104,13 +106,13 @@ pub refusal_runs : (holds : List ℕ → Option (List ℕ)) (c : Command) (scrip
     → Runs holds old new status
 refusal_runs holds c script schedule r old mid new _ left (told appended) = answered c script schedule (record {
   text = string_bytes r.line;
-  answers = left.0;
+  answer = left.0;
   appended = kept_then_appends old mid new (string_bytes r.line) left.1 appended;
 })
 refusal_runs holds c script schedule r old mid new _ left (line_not_taken part) = not_taken c script schedule (record {
-  status = 3;
+  status = REFUSED;
   text = string_bytes r.line;
-  answers = left.0;
+  answer = left.0;
   part = record {
     count = part.count;
     short = part.short;

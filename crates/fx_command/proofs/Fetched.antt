@@ -6,9 +6,11 @@ use Rattle.std.proofs.lemmas.Bool.{cases_lt, lt-ltb}
 use Rattle.std.proofs.lemmas.List.{take_all, length-take}
 use Rattle.fx_text.specs.declared.fault.TextKind.TheVariants as kind
 use Rattle.fx_text.specs.declared.pick.Pick.{Pick}
+use Rattle.fx_text.specs.Limits.{most_bytes, most_schedule_bytes}
 use Rattle.fx_text.specs.Meaning.{Meaning}
 use Rattle.fx_text.specs.Grammar.{IsScript}
 use Rattle.fx_text.specs.Schedule.{IsSchedule, nothing, schedule_reading}
+use Rattle.fx_report.specs.Answering.{most_read}
 use Rattle.fx_report.proofs.Answered.{read_long}
 use Rattle.fx_command.specs.declared.command_fault.CommandFault.{CommandFault}
 use Rattle.fx_command.specs.declared.command_fault.CommandFault.TheVariants.{Refused, Unreadable, Memory, Write}
@@ -34,29 +36,33 @@ of_prefix Holds most text read of_long e h = elim (same_or_long most text read e
   | inr long ↦ of_long long.0 long.1 h
 ]
 
+-- one byte more than a schedule may have is all that is read of one
+abbrev pub most_of_schedule : ℕ
+most_of_schedule = 1 + most_schedule_bytes
+
 -- a schedule that is too long has that for its first fault
-long_schedule : (text : List ℕ) → 2097152 < length text → schedule_reading text ≡ Err (record { kind = kind.Length; at = 2097152 })
-long_schedule text h = let long : nat_lt 2097152 (length text) ≡ true = lt-ltb _ _ h in rw long refl
+long_schedule : (text : List ℕ) → most_schedule_bytes < length text → schedule_reading text ≡ Err (record { kind = kind.Length; at = most_schedule_bytes })
+long_schedule text h = let long : nat_lt most_schedule_bytes (length text) ≡ true = lt-ltb _ _ h in rw long refl
 
 abbrev pub HoldsOfPrefix : (List ℕ → Type 0) → ℕ → Type 0
 HoldsOfPrefix Holds most = (text read : List ℕ) → read ≡ take most text → Holds read → Holds text
 
-pub script_of_prefix : (m : Meaning) → HoldsOfPrefix (λ text. IsScript text m) 65537
-script_of_prefix m text read = of_prefix (λ text. IsScript text m) 65536 text read (λ h k s. absurd (let short = s.short in omega arith))
+pub script_of_prefix : (m : Meaning) → HoldsOfPrefix (λ text. IsScript text m) most_read
+script_of_prefix m text read = of_prefix (λ text. IsScript text m) most_bytes text read (λ h k s. absurd (let short = s.short in omega arith))
 
-pub schedule_of_prefix : (ps : List Pick) → HoldsOfPrefix (λ text. IsSchedule text ps) 2097153
-schedule_of_prefix ps text read = of_prefix (λ text. IsSchedule text ps) 2097152 text read (λ h k s. absurd (let short = s.short in omega arith))
+pub schedule_of_prefix : (ps : List Pick) → HoldsOfPrefix (λ text. IsSchedule text ps) most_of_schedule
+schedule_of_prefix ps text read = of_prefix (λ text. IsSchedule text ps) most_schedule_bytes text read (λ h k s. absurd (let short = s.short in omega arith))
 
-pub no_script_of_prefix : (line : List ℕ) → HoldsOfPrefix (IsNoScript line) 65537
-no_script_of_prefix line text read = of_prefix (IsNoScript line) 65536 text read (λ h k no. record {
+pub no_script_of_prefix : (line : List ℕ) → HoldsOfPrefix (IsNoScript line) most_read
+no_script_of_prefix line text read = of_prefix (IsNoScript line) most_bytes text read (λ h k no. record {
   none = λ m s. let short = s.short in omega arith;
   fault = no.fault;
   first = read_long text k ∙ sym (read_long read h) ∙ no.first;
   told = no.told;
 })
 
-pub no_schedule_of_prefix : (line : List ℕ) → HoldsOfPrefix (IsNoSchedule line) 2097153
-no_schedule_of_prefix line text read = of_prefix (IsNoSchedule line) 2097152 text read (λ h k no. record {
+pub no_schedule_of_prefix : (line : List ℕ) → HoldsOfPrefix (IsNoSchedule line) most_of_schedule
+no_schedule_of_prefix line text read = of_prefix (IsNoSchedule line) most_schedule_bytes text read (λ h k no. record {
   none = λ ps s. let short = s.short in omega arith;
   fault = no.fault;
   first = long_schedule text k ∙ sym (long_schedule read h) ∙ no.first;

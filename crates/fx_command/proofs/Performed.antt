@@ -4,9 +4,9 @@ use Rattle.fx_text.specs.declared.pick.Pick.{Pick}
 use Rattle.fx_text.specs.Meaning.{Meaning}
 use Rattle.fx_model.specs.Report.{ReportView}
 use Rattle.fx_plain.specs.Chosen.{IsReplay}
-use Rattle.fx_plain.specs.Replay.{script_of}
+use Rattle.fx_report.specs.Script.{script_of}
 use Rattle.fx_report.specs.Text.{queue_names, report_text, trace_text}
-use Rattle.fx_report.specs.Answer.{status_of}
+use Rattle.fx_report.specs.Status.{status_of}
 use Rattle.fx_report.specs.declared.out_fault.OutFault.{OutFault}
 use Rattle.fx_report.specs.declared.out_fault.OutFault.TheVariants.{Write, Memory}
 use Rattle.fx_report.specs.Output.{FailsToWrite}
@@ -25,5 +25,5 @@ traced_with_status m picks r status runs is = rw is (traced runs)
 -- what a write that fails leaves
 pub fails_to_perform : (m : Meaning) (picks : List Pick) (c : Command) (status : ℕ) (text : List ℕ) (fault : OutFault) (old new : Option (List ℕ))
     → IsPerformed m picks c status text → FailsToWrite fault text old new → Performs c m picks (Err fault) old new
-fails_to_perform m picks c status text Write old new performed part = record { status = status; text = text; performed = performed; part = part }
+fails_to_perform m picks c status text Write old new performed part = record { status = status; text = text; answer = performed; part = part }
 fails_to_perform m picks c status text Memory old new performed kept = kept

@@ -1,13 +1,7 @@
--- Which fault of a command that of a write is, and which one a text has that is not accepted.
+-- Which fault of a command a text has that is not accepted.
 use Rattle.std.specs.Prelude.{ℕ, List, string_bytes}
-use Rattle.fx_report.specs.declared.out_fault.OutFault.{OutFault}
-use Rattle.fx_report.specs.declared.out_fault.OutFault.TheVariants as out
 use Rattle.fx_command.specs.declared.command_fault.CommandFault.{CommandFault}
 use Rattle.fx_command.specs.declared.command_fault.CommandFault.TheVariants.{Refused, Unreadable, Memory, Write}
-
-abbrev pub fault_of_writing : OutFault → CommandFault
-fault_of_writing out.Write = Write
-fault_of_writing out.Memory = Memory
 
 -- memory ran out, or the text is refused by a line that is right
 abbrev pub IsRefusal : (List ℕ → Type 0) → CommandFault → Type 0

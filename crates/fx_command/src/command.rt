@@ -4,29 +4,22 @@ ghost use Rattle.fx_text.specs.View.{meaning};
 ghost use Rattle.fx_command.specs.CommandFault.{IsUnread};
 ghost use Rattle.fx_command.specs.Fetched.{IsPrefixOf, FetchesScript, FetchesNoScript};
 ghost use Rattle.fx_command.specs.Fetched.{FetchesSchedule, FetchesNoSchedule, KeepsFiles};
-ghost use Rattle.fx_command.specs.CommandAnswer.{known_schedule, WritesAnswer, Leaves, TellsRefusal, Runs};
+ghost use Rattle.fx_report.specs.Written.{WritesAnswer};
+ghost use Rattle.fx_command.specs.CommandAnswer.{known_schedule, AnswersTo, Leaves, TellsRefusal, Runs};
 
 use crate::call::Call;
 use crate::command_fault::{CommandFault, Refusal};
 use crate::files::{FetchFault, Files};
 use crate::perform::perform;
 use crate::texts::{picks_in, script_in};
-use fx_plain::{MOST_OF_SCRIPT, PlainFault, REFUSED, read_text, write_text};
+use fx_report::{AnswerFault, MOST_OF_SCRIPT, REFUSED, read_text, write_text};
+pub use fx_report::{FAULT, OTHER_WORDS, UNREADABLE};
 use fx_text::{Pick, Script};
 use std::alloc::Global;
 use std::io::Write;
 
 const USAGE: &str =
     "usage: fibers [check F | replay F [SCHEDULE] | trace F [SCHEDULE] | run F WORKERS]";
-
-/// The status after words that are no call of the program.
-pub const OTHER_WORDS: u8 = 2;
-
-/// The status where a text cannot be read.
-pub const UNREADABLE: u8 = 4;
-
-/// The status after any other fault.
-pub const FAULT: u8 = 5;
 
 /// One byte more than a schedule may have, so that one that is too long is known to be.
 const MOST_OF_SCHEDULE: usize = 2_097_153;
@@ -50,7 +43,7 @@ fn fetched<'a, F: Files>(
     };
     match read_text(alloc, &mut input, most) {
         Ok(text) => Ok(text),
-        Err(PlainFault::Memory) => Err(CommandFault::Memory),
+        Err(AnswerFault::Memory) => Err(CommandFault::Memory),
         Err(_) => Err(CommandFault::Unreadable(name)),
     }
 }
@@ -103,8 +96,9 @@ fn answer<'a, F: Files, W: Write>(
     requires { IfSome call.schedule (λ name. name.now ≢ codes "-") }
     ensures answered { let held = F.holds files.old in
         let schedule = option_map (λ n. n.now) call.entry.schedule in
-        IfOk result (λ status. WritesAnswer call.entry.command (held call.entry.script.now)
-        (known_schedule held schedule) status (W.contents out.old) (W.contents out.new)) }
+        IfOk result (λ status. WritesAnswer (AnswersTo call.entry.command
+        (held call.entry.script.now) (known_schedule held schedule)) status
+        (W.contents out.old) (W.contents out.new)) }
     ensures fault { let held = F.holds files.old in
         let schedule = option_map (λ n. n.now) call.entry.schedule in
         IfErr result (λ fault. Leaves call.entry.command (held call.entry.script.now)

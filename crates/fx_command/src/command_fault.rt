@@ -1,7 +1,7 @@
 //! Why a command does not print what it was asked for.
 ghost use Rattle.std.specs.Prelude.{◌≡◌};
 
-use fx_plain::OutFault;
+use fx_report::OutFault;
 use std::alloc::AllocError;
 use thiserror::Error;
 
@@ -40,9 +40,10 @@ impl From<AllocError> for CommandFault<'_> {
 }
 
 impl From<OutFault> for CommandFault<'_> {
-    ghost use Rattle.fx_command.specs.CommandFault.{fault_of_writing};
+    ghost use Rattle.fx_report.specs.Output.{fault_of_writing};
+    ghost use Rattle.fx_command.specs.declared.command_fault.CommandFault.TheVariants.{Memory, Write};
 
-    ghost from_gives = { λ fault made. made ≡ fault_of_writing fault };
+    ghost from_gives = { λ fault made. made ≡ fault_of_writing Write Memory fault };
 
     fn from(fault: OutFault) -> Self {
         match fault {

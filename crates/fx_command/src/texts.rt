@@ -11,7 +11,7 @@ use crate::command_fault::{CommandFault, Refusal};
 use crate::explain::explain;
 use crate::schedule_words::wrong_in_schedule;
 use crate::script_words::wrong_in_script;
-use fx_plain::format_refusal;
+use fx_report::format_refusal;
 use fx_text::{Pick, Script, TextFault, TextKind, parse, schedule};
 use std::alloc::{AllocError, Global};
 

@@ -1,11 +1,11 @@
 -- A lawful report whose fibers have all ended has what is promised.
-use Rattle.std.proofs.Common.{◌≡◌, ℕ, zero, suc, ◌<◌, Bool, true, Some, List, ◌++◌, refl, sym, ◌∙◌, ap, subst, arith, inl, inr}
+use Rattle.std.proofs.Common.{◌≡◌, ℕ, zero, suc, ◌<◌, Bool, true, Some, List, ◌++◌, All, refl, sym, ◌∙◌, ap, subst, arith, inl, inr}
 use Rattle.std.proofs.lemmas.Bool.{eq-eqb, cases_eq}
 use Rattle.std.proofs.lemmas.List.Elements.{All-contains}
 use Rattle.fx_term.specs.declared.outcome.Outcome.{Outcome}
 use Rattle.fx_term.specs.Forms.{IsCore}
 use Rattle.fx_model.specs.Row.{Counts, Label, Starts}
-use Rattle.fx_model.specs.Origin.{Origin}
+use Rattle.fx_model.specs.Origin.{Origin, main_origin}
 use Rattle.fx_model.specs.Step.{Progress, Runs, Unwinds, CleansUp, HasEnded, has_ended}
 use Rattle.fx_model.specs.Run.{first_counts, IsRun, events}
 use Rattle.fx_model.specs.Outside.{outcome_at}
@@ -19,7 +19,7 @@ use Rattle.fx_model.specs.LawfulReport.{starts_of, HasStarters, BeginsAs, HasRun
 use Rattle.fx_model.specs.Headline.{EachOfferOnce, EndsBalanced, AllEnded, HoldsWhatIsPromised}
 use Rattle.fx_term.proofs.QueueLaws.{takes_then_rest}
 use Rattle.fx_model.proofs.OutcomeLaws.{run_stops}
-use Rattle.fx_model.proofs.StartLaws.{StartsRightly, IsStartRight, run_starts, StartsCore, run_starts_core, HasStart, start_of_trace}
+use Rattle.fx_model.proofs.StartLaws.{StartsRightly, IsStartRight, run_starts, StartsSo, run_starts_core, HasStart, start_of_trace}
 
 module _ (s : ScriptView) (r : ReportView) (starters : HasStarters r) (runs : HasRuns s r) (origins : HasOrigins s r runs) where
   -- the parent's trace starts the fiber once
@@ -48,15 +48,6 @@ module _ (s : ScriptView) (r : ReportView) (starters : HasStarters r) (runs : Ha
       All-contains (IsStartRight (runs.origin p).next) (runs.labels p) (Starts f h.origin) all h.holds in
       subst (λ (b : Origin). StartsRightly (runs.origin p).next f b) (sym (begin_told f p y at_p h)) right
 
-  -- it begins at a core term, where its parent does
-  child_is_core : (f p : ℕ) (x y : FiberReportView) → fiber_in r f ≡ Some x → x.parent ≡ Some p → fiber_in r p ≡ Some y → IsCore (runs.origin p).term
-      → IsCore (runs.origin f).term
-  child_is_core f p x y at parent at_p core =
-      let h = start_told f p x y at parent at_p in
-      let all = run_starts_core (runs.origin p) (runs.labels p) (runs.counts p) (runs.progress p) core (runs.run p y at_p).run in
-      let right : IsCore h.origin.term = All-contains StartsCore (runs.labels p) (Starts f h.origin) all h.holds in
-      subst (λ (b : Origin). IsCore b.term) (sym (begin_told f p y at_p h)) right
-
   -- a fiber has numbers above its own
   numbers_above : (f : ℕ) (x : FiberReportView) → fiber_in r f ≡ Some x → f < (runs.origin f).next
   numbers_above f x at = elim (cases_eq f 0) [
@@ -64,20 +55,33 @@ module _ (s : ScriptView) (r : ReportView) (starters : HasStarters r) (runs : Ha
     | inr ne ↦ (let h = starters.others f x at ne in let c = child_begins f h.0 x h.1 at h.2 h.3 in let e = c.next in omega arith)
   ]
 
-  -- each fiber begins at a core term, where the script's term is core
-  begins_below : IsCore s.term → (n f : ℕ) → f < n → (x : FiberReportView) → fiber_in r f ≡ Some x → IsCore (runs.origin f).term
-  begins_below core zero f lt x at = absurd (omega arith)
-  begins_below core (suc n) f lt x at = elim (cases_eq f 0) [
-    | inl e ↦ subst (λ (k : ℕ). IsCore (runs.origin k).term) (sym e) (rw origins.main core)
-    | inr ne ↦
-        (let h = starters.others f x at ne in
-        let above = numbers_above h.0 h.1 h.3 in
-        let least = (child_begins f h.0 x h.1 at h.2 h.3).least in
-        child_is_core f h.0 x h.1 at h.2 h.3 (begins_below core n h.0 (omega arith) h.1 h.3))
-  ]
+  -- what is so of the main fiber's beginning, and of what a fiber starts where it is so of its own, is so of each fiber's
+  module _ (IsSo : Origin → Type 0)
+      (starts_so : (b : Origin) (ls : List Label) (c : Counts) (p : Progress) → IsSo b → IsRun b ls c p → All (StartsSo IsSo) ls) where
+    child_begins_so : (f p : ℕ) (x y : FiberReportView) → fiber_in r f ≡ Some x → x.parent ≡ Some p → fiber_in r p ≡ Some y → IsSo (runs.origin p)
+        → IsSo (runs.origin f)
+    child_begins_so f p x y at parent at_p so =
+        let h = start_told f p x y at parent at_p in
+        let all = starts_so (runs.origin p) (runs.labels p) (runs.counts p) (runs.progress p) so (runs.run p y at_p).run in
+        subst IsSo (sym (begin_told f p y at_p h)) (All-contains (StartsSo IsSo) (runs.labels p) (Starts f h.origin) all h.holds)
 
+    begins_below : IsSo (main_origin s.term) → (n f : ℕ) → f < n → (x : FiberReportView) → fiber_in r f ≡ Some x → IsSo (runs.origin f)
+    begins_below so zero f lt x at = absurd (omega arith)
+    begins_below so (suc n) f lt x at = elim (cases_eq f 0) [
+      | inl e ↦ subst (λ (k : ℕ). IsSo (runs.origin k)) (sym e) (subst IsSo (sym origins.main) so)
+      | inr ne ↦
+          (let h = starters.others f x at ne in
+          let above = numbers_above h.0 h.1 h.3 in
+          let least = (child_begins f h.0 x h.1 at h.2 h.3).least in
+          child_begins_so f h.0 x h.1 at h.2 h.3 (begins_below so n h.0 (omega arith) h.1 h.3))
+    ]
+
+    pub each_begins_so : IsSo (main_origin s.term) → (f : ℕ) (x : FiberReportView) → fiber_in r f ≡ Some x → IsSo (runs.origin f)
+    each_begins_so so f x at = begins_below so (suc f) f (omega arith) x at
+
+  -- each fiber begins at a core term, where the script's term is core
   pub begins_at_core : IsCore s.term → (f : ℕ) (x : FiberReportView) → fiber_in r f ≡ Some x → IsCore (runs.origin f).term
-  begins_at_core core f x at = begins_below core (suc f) f (omega arith) x at
+  begins_at_core core f x at = each_begins_so (λ b. IsCore b.term) run_starts_core core f x at
 
 -- a fiber that has ended has done so with some outcome
 ended_with : (p : Progress) → has_ended p ≡ true → (o : Outcome) × (p ≡ HasEnded o)

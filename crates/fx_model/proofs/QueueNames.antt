@@ -1,6 +1,6 @@
 -- A term that names queues below a bound shows only events that do, and starts only such terms.
-use Rattle.std.proofs.Common.{ℕ, ◌≤◌, arith, Bool, Option, Some, None, [], ◌∷◌, All}
-use Rattle.std.proofs.lemmas.List.Elements.{All-nil, All-cons}
+use Rattle.std.proofs.Common.{ℕ, ◌≤◌, arith, Bool, Option, Some, None, List, [], ◌∷◌, All}
+use Rattle.std.proofs.lemmas.List.Elements.{All-nil, All-cons, All-head, All-tail, All-weaker}
 use Rattle.fx_term.specs.declared.outcome.Outcome.{Outcome}
 use Rattle.fx_term.specs.declared.outcome.Outcome.TheVariants as outcome
 use Rattle.fx_term.specs.declared.event.Event.TheVariants as event
@@ -14,6 +14,7 @@ use Rattle.fx_model.specs.Step.{Progress, Runs, AreAll, IsProgressOf, Step}
 use Rattle.fx_model.specs.Step as step
 use Rattle.fx_model.specs.Run.{events}
 use Rattle.fx_model.proofs.Cleanups.{all_on_path}
+use Rattle.fx_model.proofs.StartLaws.{StartsSo}
 
 -- a greater bound does as well
 module _ (n k : ℕ) (le : n ≤ k) where
@@ -140,9 +141,37 @@ module _ (n : ℕ) where
   step_names step.release_ends h = (h.1, tt)
   step_names _ h = (tt, tt)
 
-  -- the events of a step
-  pub events_name : (l : Label) → LabelNamesBelow l → All (NamesQueueBelow n) (events (l ∷ []))
-  events_name Silent h = All-nil (NamesQueueBelow n)
-  events_name (Shows e) h = All-cons (NamesQueueBelow n) e [] h (All-nil (NamesQueueBelow n))
-  events_name (Learns f o e) h = All-cons (NamesQueueBelow n) e [] h (All-nil (NamesQueueBelow n))
-  events_name (Starts f b) h = All-cons (NamesQueueBelow n) (event.Start f) [] tt (All-nil (NamesQueueBelow n))
+  -- the labels of a run that begins at such a term
+  leads_name : (c d : Counts) (p q : Progress) (ls : List Label) → Leads c p ls d q → ProgressNamesBelow p → All LabelNamesBelow ls
+  leads_name c d p q [] r h = All-nil LabelNamesBelow
+  leads_name c d p q (l ∷ ls) r h =
+      let next = step_names r.2 h in
+      All-cons LabelNamesBelow l ls next.1 (leads_name r.0 d r.1 q ls r.3 next.0)
+
+  run_labels_name : (b : Origin) (ls : List Label) (d : Counts) (q : Progress) → NamesQueuesBelow n b.term → IsRun b ls d q → All LabelNamesBelow ls
+  run_labels_name b ls d q h r = leads_name (first_counts b) d (Runs b.term) q ls r h
+
+  -- what it starts begins at such a term
+  start_names : (l : Label) → LabelNamesBelow l → StartsSo (λ b. NamesQueuesBelow n b.term) l
+  start_names (Starts f b) h = h
+  start_names _ h = tt
+
+  pub run_starts_named : (b : Origin) (ls : List Label) (d : Counts) (q : Progress) → NamesQueuesBelow n b.term → IsRun b ls d q
+      → All (StartsSo (λ b. NamesQueuesBelow n b.term)) ls
+  run_starts_named b ls d q h r = All-weaker LabelNamesBelow (StartsSo (λ b. NamesQueuesBelow n b.term)) start_names ls (run_labels_name b ls d q h r)
+
+  -- and its trace names such queues
+  events_name : (ls : List Label) → All LabelNamesBelow ls → All (NamesQueueBelow n) (events ls)
+  events_name [] all = All-nil (NamesQueueBelow n)
+  events_name (Silent ∷ ls) all = events_name ls (All-tail LabelNamesBelow Silent ls all)
+  events_name (Shows e ∷ ls) all =
+      All-cons (NamesQueueBelow n) e (events ls) (All-head LabelNamesBelow (Shows e) ls all) (events_name ls (All-tail LabelNamesBelow (Shows e) ls all))
+  events_name (Learns f o e ∷ ls) all =
+      All-cons (NamesQueueBelow n) e (events ls) (All-head LabelNamesBelow (Learns f o e) ls all)
+      (events_name ls (All-tail LabelNamesBelow (Learns f o e) ls all))
+  events_name (Starts f b ∷ ls) all =
+      All-cons (NamesQueueBelow n) (event.Start f) (events ls) tt (events_name ls (All-tail LabelNamesBelow (Starts f b) ls all))
+
+  pub run_names : (b : Origin) (ls : List Label) (d : Counts) (q : Progress) → NamesQueuesBelow n b.term → IsRun b ls d q
+      → All (NamesQueueBelow n) (events ls)
+  run_names b ls d q h r = events_name ls (run_labels_name b ls d q h r)
