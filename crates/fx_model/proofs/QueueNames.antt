@@ -12,7 +12,8 @@ use Rattle.fx_model.specs.Row.{Counts, Label, Silent, Shows, Learns, Starts, par
 use Rattle.fx_model.specs.Row as row
 use Rattle.fx_model.specs.Step.{Progress, Runs, AreAll, IsProgressOf, Step}
 use Rattle.fx_model.specs.Step as step
-use Rattle.fx_model.specs.Run.{events}
+use Rattle.fx_model.specs.Origin.{Origin}
+use Rattle.fx_model.specs.Run.{Leads, IsRun, events, first_counts}
 use Rattle.fx_model.proofs.Cleanups.{all_on_path}
 use Rattle.fx_model.proofs.StartLaws.{StartsSo}
 
