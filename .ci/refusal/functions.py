@@ -88,6 +88,28 @@ def span(lines, n, indent):
     return first + 1, body, last + 1
 
 
+def callees(found, texts):
+    """The functions that each function may call, by their names alone, so that a call that is not one may be among them."""
+    of_name, named = {}, {}
+    for it in found:
+        of_name.setdefault(it.path.split("::")[-1], set()).add(it.path)
+    for it in found:
+        words = set(re.findall(r"\w+", "\n".join(texts[it.file].split("\n")[(it.body or it.last) - 1 : it.last])))
+        named[it.path] = {path for word in words & of_name.keys() for path in of_name[word]} | named.get(it.path, set())
+    return named
+
+
+def reached(paths, calls):
+    """What is called from these functions, near or far, and they themselves."""
+    seen, left = set(), [*paths]
+    while left:
+        path = left.pop()
+        if path not in seen:
+            seen.add(path)
+            left += calls.get(path, ())
+    return seen
+
+
 def at_line(found, file, line):
     """The innermost function that has the line."""
     return next((it for it in reversed(found) if it.file == file and it.first <= line <= it.last), None)

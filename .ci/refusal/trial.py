@@ -5,7 +5,7 @@ import tempfile
 
 from refusal import edit as edits
 from refusal.evidence import against, is_answer, verdict_on
-from refusal.functions import functions, sources
+from refusal.functions import callees, functions, reached, sources
 from refusal.kit import check
 
 HARMLESS = "let _ = ();"
@@ -18,6 +18,7 @@ class Trial:
         self.crate, self.name = crate, crate.name
         self.texts = sources(crate.folder)
         self.found = functions(self.texts)
+        self.calls = callees(self.found, self.texts)
         folder = f"{crate.folder}/{folder}"
         self.edits = sorted(f"{folder}/{it}" for it in os.listdir(folder) if it.endswith(".edit")) if os.path.isdir(folder) else []
         self.passed, self.failed, self.rounds = 0, 0, 0
@@ -99,10 +100,10 @@ class Trial:
         told = verdict_on(control.path, said, self.name)
         if control.path in shown:
             self.fails(f"control {control.path}", f"a body that does the same has an open goal: {shown[control.path]}")
-        elif not told:
-            self.fails(f"control {control.path}", "the check says nothing of it")
+        elif told != "proved":
+            self.fails(f"control {control.path}", f"it is not proved: {told or 'the check says nothing of it'}")
         else:
-            self.passes(f"control {control.path}", f"not refused ({told[:80]})")
+            self.passes(f"control {control.path}", "proved")
 
     def judge(self, edit, shown, said):
         goals = [(path, shown[path]) for path in sorted(edit.functions) if path in shown]
@@ -113,8 +114,8 @@ class Trial:
             self.fails(edit.name, f"no goal of its own function is open ({told[:200]})")
 
     def control(self, changed):
-        """A function that the round leaves as it is: best of one that other rounds make wrong, then of one beside those of this round."""
-        free = [it for it in self.found if it.path not in changed and it.body and it.last > it.body and not it.is_test]
+        """A function that the round leaves as it is, with all that it calls: best of a file that the round changes."""
+        free = [it for it in self.found if it.body and it.last > it.body and not it.is_test and not reached([it.path], self.calls) & changed]
         beside = {it.file for it in self.found if it.path in changed}
         free = [it for it in free if it.file in beside] or free
         return free[self.rounds % len(free)] if free else None
