@@ -1,5 +1,5 @@
 -- The run that picks choose is one of the whole machine, at whose end no fiber can step.
-use Rattle.std.proofs.Common.{ℕ, true, List, refl}
+use Rattle.std.proofs.Common.{true, List, refl}
 use Rattle.fx_term.specs.Forms.{IsCore}
 use Rattle.fx_term.specs.Script.{ScriptView}
 use Rattle.fx_model.specs.Report.{ReportView}

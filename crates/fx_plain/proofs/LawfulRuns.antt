@@ -1,6 +1,6 @@
 -- The report of a run of the whole machine at whose end no fiber can step is lawful.
 use Rattle.std.specs.Prelude.{if◌then◌else◌}
-use Rattle.std.proofs.Common.{◌≡◌, ℕ, All, ◌<◌, Bool, true, false, Option, Some, None, List, [], ◌∷◌, length, refl, sym, ◌∙◌, ap, inl, inr}
+use Rattle.std.proofs.Common.{◌≡◌, ℕ, All, ◌<◌, Bool, true, Option, Some, None, List, [], ◌∷◌, length, refl, sym, ◌∙◌, ap, inl, inr}
 use Rattle.std.specs.Prelude.{nat_lt, slice_get, slice_index}
 use Rattle.std.specs.List.{list_any}
 use Rattle.std.proofs.lemmas.Bool.{or_cases, or_left, or_right}
@@ -25,7 +25,7 @@ use Rattle.fx_model.specs.LawfulReport.{starts_of, is_parent, HasStarters, HasRu
 use Rattle.fx_model.specs.LawfulReport.{IsLawfulReport}
 use Rattle.fx_model.specs.Headline.{KeepsWhatIsPromised}
 use Rattle.fx_model.proofs.HeadlineLaws.{ended_report_holds}
-use Rattle.fx_plain.specs.WholeMachine.{StartedFiber, WholeMachine, Move, opening, outcome_of_fiber, outcome_of, outside_of, can_step_fiber, can_step_in}
+use Rattle.fx_plain.specs.WholeMachine.{StartedFiber, WholeMachine, Move, opening, outcome_of_fiber, outcome_of, outside_of, can_step_fiber}
 use Rattle.fx_plain.specs.WholeMachine.{moved, FiberSteps, requested_from_outside, Steps, Requests, IsSettled, WholeMachineLeads, IsWholeMachineRun}
 use Rattle.fx_plain.specs.SettledRun.{report_of_fiber, IsReportOf, HasSettledRun}
 use Rattle.fx_plain.proofs.Maps.{same_tests}
