@@ -8,6 +8,9 @@ OF_NAMES = re.compile(r"was not admitted|is not in scope|has no field|has no `|i
 OPEN = re.compile(r"note: (?:\./)?(src/\S+?):(\d+):\d+: (it is not proved.*)")
 ANSWER = re.compile(r"(?:\./)?proofs/(\S+)/(?:Answers|Invariants|Proof)\.antt:\d+:\d+: error: (.*)")
 
+# What a check says of a function that keeps its contract: one that may wait for another thread does if it returns.
+PROVED = ("proved", "proved, may wait")
+
 
 def against(said, crate, found):
     """The functions that have an open goal, each with the first one: by its path, or what else was named.

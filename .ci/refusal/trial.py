@@ -4,7 +4,7 @@ import shutil
 import tempfile
 
 from refusal import edit as edits
-from refusal.evidence import against, is_answer, verdict_on
+from refusal.evidence import PROVED, against, is_answer, verdict_on
 from refusal.functions import callees, functions, reached, sources
 from refusal.kit import check
 
@@ -21,7 +21,7 @@ class Trial:
         self.calls = callees(self.found, self.texts)
         folder = f"{crate.folder}/{folder}"
         self.edits = sorted(f"{folder}/{it}" for it in os.listdir(folder) if it.endswith(".edit")) if os.path.isdir(folder) else []
-        self.passed, self.failed, self.rounds = 0, 0, 0
+        self.passed, self.failed, self.rounds, self.tried = 0, 0, 0, set()
 
     def lines(self):
         return sum(text.count("\n") for text in self.texts.values())
@@ -79,6 +79,7 @@ class Trial:
         label = f"round {self.rounds}"
         changed = {path for it in chosen for path in it.functions}
         control = self.control(changed)
+        self.tried |= changed
         if not control:
             self.fails(label, "no function is left for a control")
             return
@@ -100,7 +101,7 @@ class Trial:
         told = verdict_on(control.path, said, self.name)
         if control.path in shown:
             self.fails(f"control {control.path}", f"a body that does the same has an open goal: {shown[control.path]}")
-        elif told != "proved":
+        elif told not in PROVED:
             self.fails(f"control {control.path}", f"it is not proved: {told or 'the check says nothing of it'}")
         else:
             self.passes(f"control {control.path}", "proved")
@@ -118,6 +119,8 @@ class Trial:
         free = [it for it in self.found if it.body and it.last > it.body and not it.is_test and not reached([it.path], self.calls) & changed]
         beside = {it.file for it in self.found if it.path in changed}
         free = [it for it in free if it.file in beside] or free
+        # (what calls a function that an earlier round spoilt may be kept as not proved)
+        free = [it for it in free if not reached(self.calls[it.path], self.calls) & self.tried] or free
         return free[self.rounds % len(free)] if free else None
 
 

@@ -1,5 +1,5 @@
 -- What a command answers, from what was read and what was written.
-use Rattle.std.proofs.Common.{◌≡◌, ℕ, Option, Some, None, Ok, Err, List, [], string_bytes, refl, IfSome}
+use Rattle.std.proofs.Common.{◌≡◌, ℕ, Option, Some, None, Ok, Err, List, [], string_bytes, refl, sym, ◌∙◌, ap, inl, inr, option_map, IfSome}
 use Rattle.std.specs.Io.KnownBytes.{Appends, Keeps}
 use Rattle.fx_text.specs.declared.pick.Pick.{Pick}
 use Rattle.fx_text.specs.Meaning.{Meaning}
@@ -9,16 +9,19 @@ use Rattle.fx_report.specs.declared.status.TheConstants.{REFUSED}
 use Rattle.fx_report.specs.Output.{fault_of_writing}
 use Rattle.fx_report.specs.Written.{WritesAnswer}
 use Rattle.fx_report.proofs.Written.{keeps_same}
-use Rattle.fx_command.specs.declared.call.Command.{Command}
 use Rattle.fx_command.specs.declared.command_fault.Refusal.{Refusal}
 use Rattle.fx_command.specs.declared.command_fault.CommandFault.{CommandFault}
 use Rattle.fx_command.specs.declared.command_fault.CommandFault.TheVariants.{Refused, Unreadable, Memory, Write}
 use Rattle.fx_command.specs.Fetched.{FetchesScript, FetchesSchedule, FetchesNoScript, FetchesNoSchedule}
+use Rattle.fx_command.specs.declared.perform.Performed.{Performed}
 use Rattle.fx_command.specs.Performed.{Performs}
-use Rattle.fx_command.specs.CommandAnswer.{performed, no_script, no_schedule, known_schedule, AnswersTo, Leaves}
-use Rattle.fx_command.specs.CommandAnswer.{TellsRefusal, told, Runs, answered}
-use Rattle.fx_command.specs.CommandAnswer.TellsRefusal.{not_taken as line_not_taken}
-use Rattle.fx_command.specs.CommandAnswer.Runs.{not_taken}
+use Rattle.fx_command.specs.declared.call.Call.{Call}
+use Rattle.fx_command.specs.Call.{CallView, view_call, call_of}
+use Rattle.fx_command.specs.CommandAnswer.{performed, no_script, no_schedule, known_schedule, AnswersToCall, IsNamedIn, Leaves}
+use Rattle.fx_command.specs.CommandAnswer.{TellsRefusal, TellsUnreadable, Runs}
+use Rattle.fx_command.specs.CommandAnswer.TellsRefusal.{told, not_taken as line_not_taken}
+use Rattle.fx_command.specs.CommandAnswer.TellsUnreadable.{told as unread_told, no_memory as unread_no_memory}
+use Rattle.fx_command.specs.CommandAnswer.Runs.{answered, unreadable, no_memory, not_taken}
 
 -- some text of which so much is known
 known_or_empty : (known : Option (List ℕ)) → List ℕ
@@ -30,25 +33,25 @@ unfolding known_or_empty
 known_is None = tt
 known_is (Some all) = refl
 
-pub leaves_no_script : (c : Command) (script schedule : Option (List ℕ)) (fault : CommandFault) (old : Option (List ℕ))
-    → FetchesNoScript script fault → Leaves c script schedule fault old old
-leaves_no_script c script schedule (Refused r) old without = (
+pub leaves_no_script : (holds : List ℕ → Option (List ℕ)) (call : CallView) (fault : CommandFault) (old : Option (List ℕ))
+    → FetchesNoScript call.script (holds call.script) fault → Leaves holds call fault old old
+leaves_no_script holds call (Refused r) old without = (
   record {
     script = without.text;
-    schedule = known_or_empty schedule;
+    schedule = known_or_empty (known_schedule holds call.schedule);
     is_script = without.is;
-    is_schedule = known_is schedule;
+    is_schedule = known_is (known_schedule holds call.schedule);
     answer = no_script without.holds;
   },
   keeps_same old,
 )
-leaves_no_script c script schedule (Unreadable name) old without = keeps_same old
-leaves_no_script c script schedule Memory old without = keeps_same old
-leaves_no_script c script schedule Write old without = absurd without
+leaves_no_script holds call (Unreadable name) old without = (inl without, keeps_same old)
+leaves_no_script holds call Memory old without = keeps_same old
+leaves_no_script holds call Write old without = absurd without
 
-pub leaves_no_schedule : (c : Command) (m : Meaning) (script schedule : Option (List ℕ)) (fault : CommandFault) (old : Option (List ℕ))
-    → FetchesScript script m → FetchesNoSchedule schedule fault → Leaves c script schedule fault old old
-leaves_no_schedule c m script schedule (Refused r) old has without = (
+pub leaves_no_schedule : (holds : List ℕ → Option (List ℕ)) (call : CallView) (m : Meaning) (fault : CommandFault) (old : Option (List ℕ))
+    → FetchesScript (holds call.script) m → FetchesNoSchedule call.schedule (known_schedule holds call.schedule) fault → Leaves holds call fault old old
+leaves_no_schedule holds call m (Refused r) old has without = (
   record {
     script = has.text;
     schedule = without.text;
@@ -58,30 +61,34 @@ leaves_no_schedule c m script schedule (Refused r) old has without = (
   },
   keeps_same old,
 )
-leaves_no_schedule c m script schedule (Unreadable name) old has without = keeps_same old
-leaves_no_schedule c m script schedule Memory old has without = keeps_same old
-leaves_no_schedule c m script schedule Write old has without = absurd without
+leaves_no_schedule holds call m (Unreadable name) old has without = (inr without, keeps_same old)
+leaves_no_schedule holds call m Memory old has without = keeps_same old
+leaves_no_schedule holds call m Write old has without = absurd without
 
-pub leaves_unwritten : (c : Command) (m : Meaning) (ps : List Pick) (script schedule : Option (List ℕ)) (fault : OutFault) (old new : Option (List ℕ))
-    → FetchesScript script m → FetchesSchedule schedule ps → Performs c m ps (Err fault) old new
-    → Leaves c script schedule (fault_of_writing Write Memory fault) old new
-leaves_unwritten c m ps script schedule out.Write old new has picks part = record {
-  status = part.status;
-  text = part.text;
-  answer = record {
-    script = has.text;
-    schedule = picks.text;
-    is_script = has.is;
-    is_schedule = picks.is;
-    answer = performed has.holds picks.holds part.answer;
-  };
-  part = part.part;
-}
-leaves_unwritten c m ps script schedule out.Memory old new has picks kept = kept
+pub leaves_unwritten : (holds : List ℕ → Option (List ℕ)) (call : CallView) (m : Meaning) (ps : List Pick) (fault : OutFault) (old new : Option (List ℕ))
+    → FetchesScript (holds call.script) m → FetchesSchedule (known_schedule holds call.schedule) ps → Performs call.command m ps (Err fault) old new
+    → Leaves holds call (fault_of_writing Write Memory fault) old new
+leaves_unwritten holds call m ps out.Write old new has picks (words, part) = (
+  words,
+  record {
+    status = part.status;
+    text = part.text;
+    answer = record {
+      script = has.text;
+      schedule = picks.text;
+      is_script = has.is;
+      is_schedule = picks.is;
+      answer = performed has.holds picks.holds part.answer;
+    };
+    part = part.part;
+  },
+)
+leaves_unwritten holds call m ps out.Memory old new has picks kept = kept
 
-pub writes_answer : (c : Command) (m : Meaning) (ps : List Pick) (script schedule : Option (List ℕ)) (status : ℕ) (old new : Option (List ℕ))
-    → FetchesScript script m → FetchesSchedule schedule ps → Performs c m ps (Ok status) old new → WritesAnswer (AnswersTo c script schedule) status old new
-writes_answer c m ps script schedule status old new has picks whole = record {
+pub writes_answer : (holds : List ℕ → Option (List ℕ)) (call : CallView) (m : Meaning) (ps : List Pick) (done : Performed) (old new : Option (List ℕ))
+    → FetchesScript (holds call.script) m → FetchesSchedule (known_schedule holds call.schedule) ps → Performs call.command m ps (Ok done) old new
+    → WritesAnswer (AnswersToCall holds call (string_bytes done.words)) done.status old new
+writes_answer holds call m ps done old new has picks whole = record {
   text = whole.text;
   answer = record {
     script = has.text;
@@ -101,15 +108,15 @@ kept_then_appends (Some xs) (Some ys) None bytes k a = absurd a
 kept_then_appends (Some xs) (Some ys) (Some zs) bytes k a = rw (a, k) refl
 
 -- the line of a refusal was told
-pub refusal_runs : (holds : List ℕ → Option (List ℕ)) (c : Command) (script : List ℕ) (schedule : Option (List ℕ)) (r : Refusal) (old mid new : Option (List ℕ))
-    (status : ℕ) → Leaves c (holds script) (known_schedule holds schedule) (Refused r) old mid → TellsRefusal (string_bytes r.line) mid new status
-    → Runs holds old new status
-refusal_runs holds c script schedule r old mid new _ left (told appended) = answered c script schedule (record {
+pub refusal_runs : (words : List (List ℕ)) (holds : List ℕ → Option (List ℕ)) (call : CallView) (r : Refusal) (old mid new said says : Option (List ℕ))
+    (status : ℕ) → call_of words ≡ Some call → Leaves holds call (Refused r) old mid
+    → TellsRefusal (string_bytes r.line) (string_bytes r.words) mid new said says status → Runs words holds old new said says status
+refusal_runs words holds call r old mid new said says _ is left (told appended remark) = answered call is (record {
   text = string_bytes r.line;
   answer = left.0;
   appended = kept_then_appends old mid new (string_bytes r.line) left.1 appended;
-})
-refusal_runs holds c script schedule r old mid new _ left (line_not_taken part) = not_taken c script schedule (record {
+}) remark
+refusal_runs words holds call r old mid new said says _ is left (line_not_taken part line) = not_taken call is (record {
   status = REFUSED;
   text = string_bytes r.line;
   answer = left.0;
@@ -118,4 +125,15 @@ refusal_runs holds c script schedule r old mid new _ left (line_not_taken part) 
     short = part.short;
     appended = kept_then_appends old mid new _ left.1 part.appended;
   };
-})
+}) line
+
+-- it was said that a text cannot be read
+pub unread_runs : (words : List (List ℕ)) (holds : List ℕ → Option (List ℕ)) (call : CallView) (name : List ℕ) (old new said says : Option (List ℕ))
+    (status : ℕ) → call_of words ≡ Some call → IsNamedIn call name × Keeps old new → TellsUnreadable name said says status
+    → Runs words holds old new said says status
+unread_runs words holds call name old new said says _ is left (unread_told line) = unreadable call name is left.0 left.1 line
+unread_runs words holds call name old new said says _ is left (unread_no_memory line) = no_memory call is left.1 line
+
+-- the call that the words make
+pub call_is : (words : List (List ℕ)) (o : Option Call) (c : Call) → option_map view_call o ≡ call_of words → o ≡ Some c → call_of words ≡ Some (view_call c)
+call_is words o c made is = sym made ∙ ap (option_map view_call) is

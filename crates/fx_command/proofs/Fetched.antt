@@ -81,14 +81,14 @@ pub if_fetched : {X : Type 0} (Says : X → List ℕ → Type 0) (most : ℕ) (k
 if_fetched Says most known read (Ok x) of p h = of_text (Says x) most known read (of x) p h
 if_fetched Says most known read (Err f) of p h = tt
 
-pub if_not_fetched : {X : Type 0} (Refuses : List ℕ → List ℕ → Type 0) (most : ℕ) (known : Option (List ℕ)) (read : List ℕ) (r : Result X CommandFault)
-    → ((line : List ℕ) → HoldsOfPrefix (Refuses line) most) → IsPrefixOf most known read → IfErr r (λ f. IsRefusal (λ line. Refuses line read) f)
-    → IfErr r (λ f. IsUnreadOrRefusal (λ line. OfText known (Refuses line)) f)
-if_not_fetched Refuses most known read (Ok x) of p h = tt
-if_not_fetched Refuses most known read (Err (Refused r)) of p h = of_text (Refuses _) most known read (of _) p h
-if_not_fetched Refuses most known read (Err Memory) of p h = tt
-if_not_fetched Refuses most known read (Err (Unreadable n)) of p h = absurd h
-if_not_fetched Refuses most known read (Err Write) of p h = absurd h
+pub if_not_fetched : {X : Type 0} (IsName : List ℕ → Type 0) (Refuses : List ℕ → List ℕ → Type 0) (most : ℕ) (known : Option (List ℕ)) (read : List ℕ)
+    (r : Result X CommandFault) → ((line : List ℕ) → HoldsOfPrefix (Refuses line) most) → IsPrefixOf most known read
+    → IfErr r (λ f. IsRefusal (λ line. Refuses line read) f) → IfErr r (λ f. IsUnreadOrRefusal IsName (λ line. OfText known (Refuses line)) f)
+if_not_fetched IsName Refuses most known read (Ok x) of p h = tt
+if_not_fetched IsName Refuses most known read (Err (Refused r)) of p h = of_text (Refuses _) most known read (of _) p h
+if_not_fetched IsName Refuses most known read (Err Memory) of p h = tt
+if_not_fetched IsName Refuses most known read (Err (Unreadable n)) of p h = absurd h
+if_not_fetched IsName Refuses most known read (Err Write) of p h = absurd h
 
 pub empty_schedule : IsSchedule [] []
 empty_schedule = record { short = omega arith; few = omega arith; spells = nothing }

@@ -3,10 +3,12 @@ use Rattle.std.proofs.Common.{◌≡◌, ℕ, Option, Err, List}
 use Rattle.fx_text.specs.declared.pick.Pick.{Pick}
 use Rattle.fx_text.specs.Meaning.{Meaning}
 use Rattle.fx_model.specs.Report.{ReportView}
-use Rattle.fx_plain.specs.Chosen.{IsReplay}
+use Rattle.fx_plain.specs.Waits.{IsReplayWithWaits}
 use Rattle.fx_report.specs.Script.{script_of}
 use Rattle.fx_report.specs.Text.{queue_names, report_text, trace_text}
 use Rattle.fx_report.specs.Status.{status_of}
+use Rattle.fx_report.specs.Waits.{waits_text}
+use Rattle.fx_report.specs.declared.wait.Wait.{Wait}
 use Rattle.fx_report.specs.declared.out_fault.OutFault.{OutFault}
 use Rattle.fx_report.specs.declared.out_fault.OutFault.TheVariants.{Write, Memory}
 use Rattle.fx_report.specs.Output.{FailsToWrite}
@@ -14,16 +16,19 @@ use Rattle.fx_command.specs.declared.call.Command.{Command}
 use Rattle.fx_command.specs.declared.call.Command.TheVariants.{Replay, Trace}
 use Rattle.fx_command.specs.Performed.{IsPerformed, replayed, traced, Performs}
 
-pub replayed_with_status : (m : Meaning) (picks : List Pick) (r : ReportView) (status : ℕ) → IsReplay (script_of m) picks r → status ≡ status_of r
-    → IsPerformed m picks Replay status (report_text (queue_names m) r)
-replayed_with_status m picks r status runs is = rw is (replayed runs)
+pub replayed_with_status : (m : Meaning) (picks : List Pick) (r : ReportView) (waits : List Wait) (words : List ℕ) (status : ℕ)
+    → IsReplayWithWaits (script_of m) picks r waits → words ≡ waits_text (queue_names m) waits → status ≡ status_of r
+    → IsPerformed m picks Replay words status (report_text (queue_names m) r)
+replayed_with_status m picks r waits words status runs said is = rw (is, said) (replayed runs)
 
-pub traced_with_status : (m : Meaning) (picks : List Pick) (r : ReportView) (status : ℕ) → IsReplay (script_of m) picks r → status ≡ status_of r
-    → IsPerformed m picks Trace status (trace_text (queue_names m) r)
-traced_with_status m picks r status runs is = rw is (traced runs)
+pub traced_with_status : (m : Meaning) (picks : List Pick) (r : ReportView) (waits : List Wait) (words : List ℕ) (status : ℕ)
+    → IsReplayWithWaits (script_of m) picks r waits → words ≡ waits_text (queue_names m) waits → status ≡ status_of r
+    → IsPerformed m picks Trace words status (trace_text (queue_names m) r)
+traced_with_status m picks r waits words status runs said is = rw (is, said) (traced runs)
 
 -- what a write that fails leaves
-pub fails_to_perform : (m : Meaning) (picks : List Pick) (c : Command) (status : ℕ) (text : List ℕ) (fault : OutFault) (old new : Option (List ℕ))
-    → IsPerformed m picks c status text → FailsToWrite fault text old new → Performs c m picks (Err fault) old new
-fails_to_perform m picks c status text Write old new performed part = record { status = status; text = text; answer = performed; part = part }
-fails_to_perform m picks c status text Memory old new performed kept = kept
+pub fails_to_perform : (m : Meaning) (picks : List Pick) (c : Command) (words : List ℕ) (status : ℕ) (text : List ℕ) (fault : OutFault)
+    (old new : Option (List ℕ)) → IsPerformed m picks c words status text → FailsToWrite fault text old new → Performs c m picks (Err fault) old new
+fails_to_perform m picks c words status text Write old new performed part =
+    (words, record { status = status; text = text; answer = performed; part = part })
+fails_to_perform m picks c words status text Memory old new performed kept = kept

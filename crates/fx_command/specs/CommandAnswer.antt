@@ -1,5 +1,5 @@
 -- What a call of the program answers to the texts that its names stand for.
-use Rattle.std.specs.Prelude.{◌≡◌, ℕ, Option, Some, None, List, [], string_bytes, IfSome}
+use Rattle.std.specs.Prelude.{◌≡◌, ◌⊎◌, ℕ, Option, Some, None, List, [], string_bytes, IfSome}
 use Rattle.std.specs.Io.KnownBytes.{Appends, Keeps}
 use Rattle.fx_text.specs.declared.pick.Pick.{Pick}
 use Rattle.fx_text.specs.Meaning.{Meaning}
@@ -13,14 +13,16 @@ use Rattle.fx_command.specs.declared.command_fault.CommandFault.{CommandFault}
 use Rattle.fx_command.specs.declared.command_fault.CommandFault.TheVariants.{Refused, Unreadable, Memory, Write}
 use Rattle.fx_command.specs.Refused.{IsNoScript, IsNoSchedule}
 use Rattle.fx_command.specs.Performed.{IsPerformed}
+use Rattle.fx_command.specs.Call.{CallView, call_of}
+use Rattle.fx_command.specs.Said.{Says, usage_line, unreadable_line, memory_line, write_line}
 
--- the status and the printed text for a script and a schedule: what was asked for, or one line where one of them is no such text. A schedule is read only
--- after a script
-pub data IsCommandAnswer (c : Command) (script schedule : List ℕ) : ℕ → List ℕ → Type 0 where
-  performed : {m : Meaning} {ps : List Pick} {status : ℕ} {text : List ℕ} → IsScript script m → IsSchedule schedule ps → IsPerformed m ps c status text
-      → IsCommandAnswer c script schedule status text
-  no_script : {line : List ℕ} → IsNoScript line script → IsCommandAnswer c script schedule REFUSED line
-  no_schedule : {m : Meaning} {line : List ℕ} → IsScript script m → IsNoSchedule line schedule → IsCommandAnswer c script schedule REFUSED line
+-- the status and the printed text for a script and a schedule, with these words for people: what was asked for, or one line where one of them is no such
+-- text, with some words. A schedule is read only after a script
+pub data IsCommandAnswer (c : Command) (script schedule words : List ℕ) : ℕ → List ℕ → Type 0 where
+  performed : {m : Meaning} {ps : List Pick} {status : ℕ} {text : List ℕ} → IsScript script m → IsSchedule schedule ps
+      → IsPerformed m ps c words status text → IsCommandAnswer c script schedule words status text
+  no_script : {line : List ℕ} → IsNoScript line script → IsCommandAnswer c script schedule words REFUSED line
+  no_schedule : {m : Meaning} {line : List ℕ} → IsScript script m → IsNoSchedule line schedule → IsCommandAnswer c script schedule words REFUSED line
 
 -- the schedule that is known, of that name; the empty one without a name
 abbrev pub known_schedule : (List ℕ → Option (List ℕ)) → Option (List ℕ) → Option (List ℕ)
@@ -28,32 +30,47 @@ known_schedule holds None = Some []
 known_schedule holds (Some name) = holds name
 
 -- what is answered to the texts of which so much is known
-pub record AnswersTo (c : Command) (script_known schedule_known : Option (List ℕ)) (status : ℕ) (text : List ℕ) : Type 0 where
+pub record AnswersTo (c : Command) (script_known schedule_known : Option (List ℕ)) (words : List ℕ) (status : ℕ) (text : List ℕ) : Type 0 where
   pub script : List ℕ
   pub schedule : List ℕ
   pub is_script : IfSome script_known (λ all. script ≡ all)
   pub is_schedule : IfSome schedule_known (λ all. schedule ≡ all)
-  pub answer : IsCommandAnswer c script schedule status text
+  pub answer : IsCommandAnswer c script schedule words status text
+
+-- what is answered to the texts that a call names
+abbrev pub AnswersToCall : (List ℕ → Option (List ℕ)) → CallView → List ℕ → ℕ → List ℕ → Type 0
+AnswersToCall holds call words = AnswersTo call.command (holds call.script) (known_schedule holds call.schedule) words
+
+-- the call names this text
+abbrev pub IsNamedIn : CallView → List ℕ → Type 0
+IsNamedIn call name = (name ≡ call.script) ⊎ (call.schedule ≡ Some name)
 
 -- what a fault leaves: only where the output took not all was anything written. The line of a refusal is the answer, and comes then
-abbrev pub Leaves : Command → Option (List ℕ) → Option (List ℕ) → CommandFault → Option (List ℕ) → Option (List ℕ) → Type 0
-Leaves c script_known schedule_known (Refused r) old new = AnswersTo c script_known schedule_known REFUSED (string_bytes r.line) × Keeps old new
-Leaves c script_known schedule_known (Unreadable name) old new = Keeps old new
-Leaves c script_known schedule_known Memory old new = Keeps old new
-Leaves c script_known schedule_known Write old new = WritesPart (AnswersTo c script_known schedule_known) old new
+abbrev pub Leaves : (List ℕ → Option (List ℕ)) → CallView → CommandFault → Option (List ℕ) → Option (List ℕ) → Type 0
+Leaves holds call (Refused r) old new = AnswersToCall holds call (string_bytes r.words) REFUSED (string_bytes r.line) × Keeps old new
+Leaves holds call (Unreadable name) old new = IsNamedIn call name.now × Keeps old new
+Leaves holds call Memory old new = Keeps old new
+Leaves holds call Write old new = (words : List ℕ) × WritesPart (AnswersToCall holds call words) old new
 
--- the line of a refusal was written, or a prefix of it
-pub data TellsRefusal (line : List ℕ) (old new : Option (List ℕ)) : ℕ → Type 0 where
-  told : Appends old new line → TellsRefusal line old new REFUSED
-  not_taken : WritesPrefix line old new → TellsRefusal line old new FAULT
+-- the line of a refusal was written, and its words said; or a prefix of the line was written
+pub data TellsRefusal (line remark : List ℕ) (old new said says : Option (List ℕ)) : ℕ → Type 0 where
+  told : Appends old new line → Says remark said says → TellsRefusal line remark old new said says REFUSED
+  not_taken : WritesPrefix line old new → Says write_line said says → TellsRefusal line remark old new said says FAULT
 
--- A run of the program with this status. Other words, a text that cannot be read and any other fault have a status each, and all else is the answer to the
--- texts of some names
-pub data Runs (holds : List ℕ → Option (List ℕ)) (old new : Option (List ℕ)) : ℕ → Type 0 where
-  other_words : Keeps old new → Runs holds old new OTHER_WORDS
-  answered : {status : ℕ} (c : Command) (script : List ℕ) (schedule : Option (List ℕ))
-      → WritesAnswer (AnswersTo c (holds script) (known_schedule holds schedule)) status old new → Runs holds old new status
-  unreadable : Keeps old new → Runs holds old new UNREADABLE
-  no_memory : Keeps old new → Runs holds old new FAULT
-  not_taken : (c : Command) (script : List ℕ) (schedule : Option (List ℕ))
-      → WritesPart (AnswersTo c (holds script) (known_schedule holds schedule)) old new → Runs holds old new FAULT
+-- it was said that the text of this name cannot be read, or that memory ran out
+pub data TellsUnreadable (name : List ℕ) (said says : Option (List ℕ)) : ℕ → Type 0 where
+  told : Says (unreadable_line name) said says → TellsUnreadable name said says UNREADABLE
+  no_memory : Says memory_line said says → TellsUnreadable name said says FAULT
+
+-- A run of the program with these words, of which `old` and `new` are what was written on standard output before and after, `said` and `says` what on standard
+-- error. Words that make no call, a text that cannot be read and any other fault have a status and a line each, and all else is the answer to the call, with
+-- its words for people
+pub data Runs (words : List (List ℕ)) (holds : List ℕ → Option (List ℕ)) (old new said says : Option (List ℕ)) : ℕ → Type 0 where
+  other_words : call_of words ≡ None → Keeps old new → Says usage_line said says → Runs words holds old new said says OTHER_WORDS
+  answered : {status : ℕ} {remark : List ℕ} (call : CallView) → call_of words ≡ Some call → WritesAnswer (AnswersToCall holds call remark) status old new
+      → Says remark said says → Runs words holds old new said says status
+  unreadable : (call : CallView) (name : List ℕ) → call_of words ≡ Some call → IsNamedIn call name → Keeps old new → Says (unreadable_line name) said says
+      → Runs words holds old new said says UNREADABLE
+  no_memory : (call : CallView) → call_of words ≡ Some call → Keeps old new → Says memory_line said says → Runs words holds old new said says FAULT
+  not_taken : {remark : List ℕ} (call : CallView) → call_of words ≡ Some call → WritesPart (AnswersToCall holds call remark) old new
+      → Says write_line said says → Runs words holds old new said says FAULT

@@ -10,16 +10,16 @@ IsRefusal IsRight Memory = Unit {0}
 IsRefusal IsRight (Unreadable name) = ⊥
 IsRefusal IsRight Write = ⊥
 
--- no text was read
-abbrev pub IsUnread : CommandFault → Type 0
-IsUnread (Refused r) = ⊥
-IsUnread Memory = Unit {0}
-IsUnread (Unreadable name) = Unit {0}
-IsUnread Write = ⊥
+-- no text was read: memory ran out, or the text of such a name cannot be read
+abbrev pub IsUnread : (List ℕ → Type 0) → CommandFault → Type 0
+IsUnread IsName (Refused r) = ⊥
+IsUnread IsName Memory = Unit {0}
+IsUnread IsName (Unreadable name) = IsName name.now
+IsUnread IsName Write = ⊥
 
 -- no text was read, or it is refused by a line that is right
-abbrev pub IsUnreadOrRefusal : (List ℕ → Type 0) → CommandFault → Type 0
-IsUnreadOrRefusal IsRight (Refused r) = IsRight (string_bytes r.line)
-IsUnreadOrRefusal IsRight Memory = Unit {0}
-IsUnreadOrRefusal IsRight (Unreadable name) = Unit {0}
-IsUnreadOrRefusal IsRight Write = ⊥
+abbrev pub IsUnreadOrRefusal : (List ℕ → Type 0) → (List ℕ → Type 0) → CommandFault → Type 0
+IsUnreadOrRefusal IsName IsRight (Refused r) = IsRight (string_bytes r.line)
+IsUnreadOrRefusal IsName IsRight Memory = Unit {0}
+IsUnreadOrRefusal IsName IsRight (Unreadable name) = IsName name.now
+IsUnreadOrRefusal IsName IsRight Write = ⊥

@@ -1,5 +1,5 @@
 -- What is had of a text by its name.
-use Rattle.std.specs.Prelude.{◌≡◌, ◌≢◌, ℕ, Option, List, codes, take, IfSome}
+use Rattle.std.specs.Prelude.{◌≡◌, ◌≢◌, ℕ, Option, Some, List, codes, take, IfSome}
 use Rattle.fx_text.specs.declared.pick.Pick.{Pick}
 use Rattle.fx_text.specs.Meaning.{Meaning}
 use Rattle.fx_text.specs.Grammar.{IsScript}
@@ -25,12 +25,12 @@ FetchesScript known m = OfText known (λ text. IsScript text m)
 abbrev pub FetchesSchedule : Option (List ℕ) → List Pick → Type 0
 FetchesSchedule known ps = OfText known (λ text. IsSchedule text ps)
 
--- there is none, and the fault says why
-abbrev pub FetchesNoScript : Option (List ℕ) → CommandFault → Type 0
-FetchesNoScript known fault = IsUnreadOrRefusal (λ line. OfText known (IsNoScript line)) fault
+-- there is none of that name, and the fault says why
+abbrev pub FetchesNoScript : List ℕ → Option (List ℕ) → CommandFault → Type 0
+FetchesNoScript name known fault = IsUnreadOrRefusal (λ n. n ≡ name) (λ line. OfText known (IsNoScript line)) fault
 
-abbrev pub FetchesNoSchedule : Option (List ℕ) → CommandFault → Type 0
-FetchesNoSchedule known fault = IsUnreadOrRefusal (λ line. OfText known (IsNoSchedule line)) fault
+abbrev pub FetchesNoSchedule : Option (List ℕ) → Option (List ℕ) → CommandFault → Type 0
+FetchesNoSchedule name known fault = IsUnreadOrRefusal (λ n. name ≡ Some n) (λ line. OfText known (IsNoSchedule line)) fault
 
 -- a fetch keeps each text but standard input
 abbrev pub KeepsFiles : (List ℕ → Option (List ℕ)) → (List ℕ → Option (List ℕ)) → Type 0

@@ -1,6 +1,8 @@
 pub mod FetchFault
 pub mod Refused
 pub mod CommandFault
+pub mod Call
+pub mod Said
 pub mod Fetched
 pub mod Performed
 pub mod CommandAnswer

@@ -1,5 +1,5 @@
--- What is done with a script and picks, and what is printed of it.
-use Rattle.std.specs.Prelude.{ℕ, Option, Result, Ok, Err, List, ◌++◌, codes, decimal, length}
+-- What is done with a script and picks, and what is printed and said of it.
+use Rattle.std.specs.Prelude.{ℕ, Option, Result, Ok, Err, List, [], ◌++◌, codes, decimal, length, string_bytes}
 use Rattle.std.specs.Io.KnownBytes.{Keeps}
 use Rattle.fx_term.specs.Script.{total}
 use Rattle.fx_text.specs.declared.pick.Pick.{Pick}
@@ -8,13 +8,16 @@ use Rattle.fx_model.specs.Report.{ReportView}
 use Rattle.fx_report.specs.declared.out_fault.OutFault.{OutFault}
 use Rattle.fx_report.specs.declared.out_fault.OutFault.TheVariants.{Write, Memory}
 use Rattle.fx_report.specs.declared.status.TheConstants.{ENDED}
-use Rattle.fx_plain.specs.Chosen.{IsReplay}
+use Rattle.fx_plain.specs.Waits.{IsReplayWithWaits}
+use Rattle.fx_report.specs.declared.wait.Wait.{Wait}
 use Rattle.fx_report.specs.Script.{script_of}
 use Rattle.fx_report.specs.Text.{line_end, queue_names, report_text, trace_text}
 use Rattle.fx_report.specs.Status.{status_of}
+use Rattle.fx_report.specs.Waits.{waits_text}
 use Rattle.fx_report.specs.Written.{WritesAnswer, WritesPart}
 use Rattle.fx_command.specs.declared.call.Command.{Command}
 use Rattle.fx_command.specs.declared.call.Command.TheVariants.{Check, Replay, Trace}
+use Rattle.fx_command.specs.declared.perform.Performed.{Performed}
 
 -- the line of a check
 abbrev pub counts_text : ℕ → ℕ → List ℕ
@@ -24,14 +27,17 @@ counts_text fibers queues = codes "fibers " ++ decimal fibers ++ codes " queues 
 abbrev pub check_text : Meaning → List ℕ
 check_text m = counts_text (total (script_of m)) (length m.queues)
 
--- the status and the printed text: of a check the counts, else the report of the run that the picks choose, or its traces
-pub data IsPerformed (m : Meaning) (picks : List Pick) : Command → ℕ → List ℕ → Type 0 where
-  checked : IsPerformed m picks Check ENDED (check_text m)
-  replayed : {r : ReportView} → IsReplay (script_of m) picks r → IsPerformed m picks Replay (status_of r) (report_text (queue_names m) r)
-  traced : {r : ReportView} → IsReplay (script_of m) picks r → IsPerformed m picks Trace (status_of r) (trace_text (queue_names m) r)
+-- the words for people, the status and the printed text: of a check the counts, and no words; else the report of the run that the picks choose, or its
+-- traces, and a line for each blocked fiber
+pub data IsPerformed (m : Meaning) (picks : List Pick) : Command → List ℕ → ℕ → List ℕ → Type 0 where
+  checked : IsPerformed m picks Check [] ENDED (check_text m)
+  replayed : {r : ReportView} {waits : List Wait} → IsReplayWithWaits (script_of m) picks r waits
+      → IsPerformed m picks Replay (waits_text (queue_names m) waits) (status_of r) (report_text (queue_names m) r)
+  traced : {r : ReportView} {waits : List Wait} → IsReplayWithWaits (script_of m) picks r waits
+      → IsPerformed m picks Trace (waits_text (queue_names m) waits) (status_of r) (trace_text (queue_names m) r)
 
 -- what is done takes the writer from `old` to `new`
-abbrev pub Performs : Command → Meaning → List Pick → Result ℕ OutFault → Option (List ℕ) → Option (List ℕ) → Type 0
-Performs c m picks (Ok status) old new = WritesAnswer (IsPerformed m picks c) status old new
-Performs c m picks (Err Write) old new = WritesPart (IsPerformed m picks c) old new
+abbrev pub Performs : Command → Meaning → List Pick → Result Performed OutFault → Option (List ℕ) → Option (List ℕ) → Type 0
+Performs c m picks (Ok done) old new = WritesAnswer (IsPerformed m picks c (string_bytes done.words)) done.status old new
+Performs c m picks (Err Write) old new = (words : List ℕ) × WritesPart (IsPerformed m picks c words) old new
 Performs c m picks (Err Memory) old new = Keeps old new

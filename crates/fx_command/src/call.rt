@@ -24,11 +24,14 @@ pub(crate) struct Call<'a> {
 }
 
 impl<'a> Call<'a> {
-    ghost use Rattle.std.specs.Prelude.{◌≡◌, ◌≢◌, None, IfSome, codes};
+    ghost use Rattle.std.specs.Prelude.{◌≡◌, ◌≢◌, IfSome, codes, map, option_map, string_bytes};
+    ghost use Rattle.fx_command.specs.Call.{view_call, call_with_script, call_with_names, call_of};
 
     /// The call that these words make, if they make one.
     pub(crate) fn of(words: &'a [String]) -> Option<Call<'a>>
-        ensures { IfSome result (λ call. IfSome call.schedule (λ name. name.now ≢ codes "-")) }
+        ensures call { option_map view_call result ≡ call_of (map string_bytes words.now) }
+        ensures file { IfSome result
+            (λ call. IfSome call.schedule (λ name. name.now ≢ codes "-")) }
     {
         let [word, names @ ..] = words else {
             return Some(Call {
@@ -38,7 +41,7 @@ impl<'a> Call<'a> {
             });
         };
         match word.as_str() {
-            "check" => Call::without_schedule(Command::Check, names),
+            "check" => Call::with_script(Command::Check, names),
             "replay" => Call::with_names(Command::Replay, names),
             "trace" => Call::with_names(Command::Trace, names),
             _ => None,
@@ -46,8 +49,11 @@ impl<'a> Call<'a> {
     }
 
     /// The call for a script of this name.
-    fn without_schedule(command: Command, names: &'a [String]) -> Option<Call<'a>>
-        ensures { IfSome result (λ call. call.schedule ≡ None) }
+    fn with_script(command: Command, names: &'a [String]) -> Option<Call<'a>>
+        ensures call { option_map view_call result
+            ≡ call_with_script command (map string_bytes names.now) }
+        ensures file { IfSome result
+            (λ call. IfSome call.schedule (λ name. name.now ≢ codes "-")) }
     {
         match names {
             [script] => Some(Call {
@@ -61,7 +67,10 @@ impl<'a> Call<'a> {
 
     /// The call for a script of this name, and a schedule if there is a second name. That is a file.
     fn with_names(command: Command, names: &'a [String]) -> Option<Call<'a>>
-        ensures { IfSome result (λ call. IfSome call.schedule (λ name. name.now ≢ codes "-")) }
+        ensures call { option_map view_call result
+            ≡ call_with_names command (map string_bytes names.now) }
+        ensures file { IfSome result
+            (λ call. IfSome call.schedule (λ name. name.now ≢ codes "-")) }
     {
         match names {
             [script, schedule] if schedule.as_str() != STANDARD_INPUT => Some(Call {
@@ -69,7 +78,7 @@ impl<'a> Call<'a> {
                 script: script.as_str(),
                 schedule: Some(schedule.as_str()),
             }),
-            _ => Call::without_schedule(command, names),
+            _ => Call::with_script(command, names),
         }
     }
 }

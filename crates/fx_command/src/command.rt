@@ -1,28 +1,35 @@
 //! Does what the words after the program's name ask for.
-ghost use Rattle.std.specs.Prelude.{◌≡◌, ◌≢◌, IfSome, IfOk, IfErr, codes, option_map, string_bytes, length};
+ghost use Rattle.std.specs.Prelude.{◌≡◌, ◌≢◌, IfSome, IfOk, IfErr, codes, map, option_map, string_bytes, length};
 ghost use Rattle.fx_text.specs.View.{meaning};
 ghost use Rattle.fx_command.specs.CommandFault.{IsUnread};
 ghost use Rattle.fx_command.specs.Fetched.{IsPrefixOf, FetchesScript, FetchesNoScript};
 ghost use Rattle.fx_command.specs.Fetched.{FetchesSchedule, FetchesNoSchedule, KeepsFiles};
 ghost use Rattle.fx_report.specs.Written.{WritesAnswer};
-ghost use Rattle.fx_command.specs.CommandAnswer.{known_schedule, AnswersTo, Leaves, TellsRefusal, Runs};
+ghost use Rattle.fx_command.specs.Call.{view_call};
+ghost use Rattle.fx_command.specs.CommandAnswer.{known_schedule, AnswersToCall, Leaves};
+ghost use Rattle.fx_command.specs.CommandAnswer.{TellsRefusal, TellsUnreadable, Runs};
+ghost use Rattle.fx_command.specs.Said.{Says};
 
 use crate::call::Call;
 use crate::command_fault::{CommandFault, Refusal};
 use crate::files::{FetchFault, Files};
-use crate::perform::perform;
+use crate::perform::{Performed, perform};
 use crate::texts::{picks_in, script_in};
 use fx_report::{AnswerFault, MOST_OF_SCRIPT, REFUSED, read_text, write_text};
 pub use fx_report::{FAULT, OTHER_WORDS, UNREADABLE};
-use fx_text::{Pick, Script};
+use fx_text::{MOST_SCHEDULE_BYTES, Pick, Script};
 use std::alloc::Global;
 use std::io::Write;
 
 const USAGE: &str =
-    "usage: fibers [check F | replay F [SCHEDULE] | trace F [SCHEDULE] | run F WORKERS]";
+    "usage: fibers [check F | replay F [SCHEDULE] | trace F [SCHEDULE] | run F WORKERS]\n";
+
+const MEMORY: &str = "fault memory\n";
+
+const WRITE: &str = "fault write\n";
 
 /// One byte more than a schedule may have, so that one that is too long is known to be.
-const MOST_OF_SCHEDULE: usize = 2_097_153;
+const MOST_OF_SCHEDULE: usize = MOST_SCHEDULE_BYTES + 1;
 
 /// The text of this name, or as many bytes of it as are wanted.
 fn fetched<'a, F: Files>(
@@ -33,7 +40,7 @@ fn fetched<'a, F: Files>(
 ) -> Result<Vec<u8>, CommandFault<'a>>
     ensures text { IfOk result
         (λ text. IsPrefixOf most (F.holds files.old name.now) text.items) }
-    ensures unread { IfErr result (λ fault. IsUnread fault) }
+    ensures unread { IfErr result (λ fault. IsUnread (λ n. n ≡ name.now) fault) }
     ensures kept { KeepsFiles (F.holds files.old) (F.holds files.new) }
 {
     let mut input = match files.fetch(name) {
@@ -58,7 +65,7 @@ fn script_of<'a, F: Files>(
         (λ s. FetchesScript (F.holds files.old name.now) (meaning s)) }
     ensures queues { IfOk result (λ s. s.code.queues ≡ length s.queues.items) }
     ensures none { IfErr result
-        (λ fault. FetchesNoScript (F.holds files.old name.now) fault) }
+        (λ fault. FetchesNoScript name.now (F.holds files.old name.now) fault) }
     ensures kept { KeepsFiles (F.holds files.old) (F.holds files.new) }
 {
     let text = fetched(alloc, files, name, MOST_OF_SCRIPT)?;
@@ -74,9 +81,9 @@ fn schedule_of<'a, F: Files>(
     ensures found { let known =
         known_schedule (F.holds files.old) (option_map (λ n. n.now) name.entry) in
         IfOk result (λ picks. FetchesSchedule known picks.items) }
-    ensures none { let known =
-        known_schedule (F.holds files.old) (option_map (λ n. n.now) name.entry) in
-        IfErr result (λ fault. FetchesNoSchedule known fault) }
+    ensures none { let named = option_map (λ n. n.now) name.entry in
+        IfErr result
+        (λ fault. FetchesNoSchedule named (known_schedule (F.holds files.old) named) fault) }
 {
     let Some(name) = name else {
         return Ok(Vec::new(alloc));
@@ -92,43 +99,58 @@ fn answer<'a, F: Files, W: Write>(
     call: Call<'a>,
     files: &mut F,
     out: &mut W,
-) -> Result<u8, CommandFault<'a>>
+) -> Result<Performed, CommandFault<'a>>
     requires { IfSome call.schedule (λ name. name.now ≢ codes "-") }
-    ensures answered { let held = F.holds files.old in
-        let schedule = option_map (λ n. n.now) call.entry.schedule in
-        IfOk result (λ status. WritesAnswer (AnswersTo call.entry.command
-        (held call.entry.script.now) (known_schedule held schedule)) status
+    ensures answered { IfOk result (λ performed. WritesAnswer
+        (AnswersToCall (F.holds files.old) (view_call call.entry) (string_bytes performed.words))
+        performed.status (W.contents out.old) (W.contents out.new)) }
+    ensures fault { IfErr result
+        (λ fault. Leaves (F.holds files.old) (view_call call.entry) fault
         (W.contents out.old) (W.contents out.new)) }
-    ensures fault { let held = F.holds files.old in
-        let schedule = option_map (λ n. n.now) call.entry.schedule in
-        IfErr result (λ fault. Leaves call.entry.command (held call.entry.script.now)
-        (known_schedule held schedule) fault (W.contents out.old) (W.contents out.new)) }
 {
     let script = script_of(alloc, files, call.script)?;
     let picks = schedule_of(alloc, files, call.schedule)?;
     Ok(perform(alloc, call.command, &script, &picks, out)?)
 }
 
-/// Says why nothing more is printed, and gives the status.
-fn tell<E: Write>(fault: &CommandFault, status: u8, err: &mut E) -> u8
-    ensures { result ≡ status }
+/// Says this on standard error. Nobody is left to tell where that takes nothing.
+fn say<E: Write>(text: &str, err: &mut E)
+    ensures { Says text.now (E.contents err.old) (E.contents err.new) }
 {
-    // Nobody is left to tell where standard error takes nothing.
-    let _ = writeln!(err, "{fault}");
-    status
+    let _ = write_text(err, text.as_bytes());
 }
 
-/// Prints that a text is refused, with words for people on standard error.
+/// Prints the line of a refusal, with words for people on standard error.
 fn tell_refusal<W: Write, E: Write>(refusal: &Refusal, out: &mut W, err: &mut E) -> u8
-    ensures { TellsRefusal (string_bytes refusal.now.line)
-        (W.contents out.old) (W.contents out.new) result }
+    ensures { TellsRefusal (string_bytes refusal.now.line) (string_bytes refusal.now.words)
+        (W.contents out.old) (W.contents out.new) (E.contents err.old) (E.contents err.new)
+        result }
 {
     match write_text(out, refusal.line.as_bytes()) {
         Ok(()) => {
-            let _ = write_text(err, refusal.words.as_bytes());
+            say(&refusal.words, err);
             REFUSED
         }
-        Err(_) => tell(&CommandFault::Write, FAULT, err),
+        Err(_) => {
+            say(WRITE, err);
+            FAULT
+        }
+    }
+}
+
+/// Says that the text of this name cannot be read.
+fn tell_unreadable<E: Write>(alloc: Global, name: &str, err: &mut E) -> u8
+    ensures { TellsUnreadable name.now (E.contents err.old) (E.contents err.new) result }
+{
+    match format!(in alloc; "cannot read {name}\n") {
+        Ok(line) => {
+            say(&line, err);
+            UNREADABLE
+        }
+        Err(_) => {
+            say(MEMORY, err);
+            FAULT
+        }
     }
 }
 
@@ -137,13 +159,14 @@ fn tell_refusal<W: Write, E: Write>(refusal: &Refusal, out: &mut W, err: &mut E)
 /// | status | when | what is printed |
 /// |---|---|---|
 /// | 0 | all fibers ended, or a check passed | the text, on `out` |
-/// | 1 | some fiber waits for good | the text, on `out` |
+/// | 1 | some fiber waits for good | the text, on `out`, and what each such fiber waits for, on `err` |
 /// | 2 | other words | the words that there are, on `err` |
 /// | 3 | a script or schedule is refused | one line on `out`, and why in words on `err` |
 /// | 4 | a text cannot be read | its name, on `err` |
 /// | 5 | want of memory, or `out` took not all | the fault, on `err` |
 ///
-/// Each text for `out` is whole before the first write, so at want of memory nothing is written there.
+/// The texts for `out` and for `err` are whole before the first write, so at want of memory nothing is
+/// written on `out`.
 pub fn command<F: Files, W: Write, E: Write>(
     alloc: Global,
     words: &[String],
@@ -151,19 +174,29 @@ pub fn command<F: Files, W: Write, E: Write>(
     out: &mut W,
     err: &mut E,
 ) -> u8
-    ensures { Runs (F.holds files.old) (W.contents out.old) (W.contents out.new) result }
+    ensures { Runs (map string_bytes words.now) (F.holds files.old) (W.contents out.old)
+        (W.contents out.new) (E.contents err.old) (E.contents err.new) result }
 {
     let Some(call) = Call::of(words) else {
-        let _ = writeln!(err, "{USAGE}");
+        say(USAGE, err);
         return OTHER_WORDS;
     };
     match answer(alloc, call, files, out) {
-        Ok(status) => status,
+        Ok(performed) => {
+            say(&performed.words, err);
+            performed.status
+        }
         Err(fault) => match &fault {
             CommandFault::Refused(refusal) => tell_refusal(refusal, out, err),
-            CommandFault::Unreadable(_) => tell(&fault, UNREADABLE, err),
-            CommandFault::Memory => tell(&fault, FAULT, err),
-            CommandFault::Write => tell(&fault, FAULT, err),
+            CommandFault::Unreadable(name) => tell_unreadable(alloc, name, err),
+            CommandFault::Memory => {
+                say(MEMORY, err);
+                FAULT
+            }
+            CommandFault::Write => {
+                say(WRITE, err);
+                FAULT
+            }
         },
     }
 }

@@ -3,29 +3,24 @@ ghost use Rattle.std.specs.Prelude.{◌≡◌};
 
 use fx_report::OutFault;
 use std::alloc::AllocError;
-use thiserror::Error;
 
 /// What is said of a text that is refused: the line of the refusal, and words for people.
-#[derive(Debug, Drop)]
+#[derive(Drop)]
 pub(crate) struct Refusal {
     pub(crate) line: String,
     pub(crate) words: String,
 }
 
 /// Why a command does not print what it was asked for.
-#[derive(Debug, Drop, Error)]
+#[derive(Drop)]
 pub(crate) enum CommandFault<'a> {
     /// The script or the schedule is refused.
-    #[error("the text is refused")]
     Refused(Refusal),
     /// The text of this name cannot be read.
-    #[error("cannot read {0}")]
     Unreadable(&'a str),
     /// Memory ran out. Nothing was printed.
-    #[error("fault memory")]
     Memory,
     /// What is printed was not taken whole.
-    #[error("fault write")]
     Write,
 }
 

@@ -6,8 +6,10 @@
 //! 3. `texts` reads the script and the schedule. A text that is refused has its line, which never
 //!    changes, and words for people: `explain` says where and shows the place, `script_words` and
 //!    `schedule_words` say what is wrong.
-//! 4. `perform` checks the script, or replays it and writes its report or its traces.
-//! 5. `command` goes through these in that order, and gives the status.
+//! 4. `perform` checks the script, or replays it and writes its report or its traces. It has words for
+//!    people about each fiber that is blocked.
+//! 5. `command` goes through these in that order, gives the status, and says on standard error those
+//!    words, or why nothing was printed.
 //!
 //! What is written on standard output is always a prefix of one text, which was whole before the
 //! first write. What never happens: a schedule that is read before its script is; a byte on standard

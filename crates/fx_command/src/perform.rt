@@ -5,11 +5,20 @@ ghost use Rattle.fx_command.specs.declared.call.Command.TheVariants as command;
 ghost use Rattle.fx_command.specs.Performed.{counts_text, check_text, Performs};
 
 use crate::call::Command;
-use fx_plain::replay;
-use fx_report::{ENDED, OutFault, status_after, write_report, write_text, write_trace};
+use fx_plain::replay_to_halt;
+use fx_report::{
+    ENDED, OutFault, format_waits, status_after, write_report, write_text, write_trace,
+};
 use fx_text::{Pick, Script};
 use std::alloc::{AllocError, Global};
 use std::io::Write;
+
+/// What was done with a script and printed: the status, and the words for people about it.
+#[derive(Drop)]
+pub(crate) struct Performed {
+    pub(crate) status: u8,
+    pub(crate) words: String,
+}
 
 /// The line of a check: how many fibers the script can have, and how many queues it has.
 fn format_counts(alloc: Global, fibers: u32, queues: usize) -> Result<String, AllocError>
@@ -29,13 +38,16 @@ fn check<W: Write>(
     script: &Script,
     picks: &[Pick],
     out: &mut W,
-) -> Result<u8, OutFault>
+) -> Result<Performed, OutFault>
     ensures { Performs command.Check (meaning script.now) picks.now result
         (W.contents out.old) (W.contents out.new) }
 {
     let line = format_check(alloc, script)?;
     write_text(out, line.as_bytes())?;
-    Ok(ENDED)
+    Ok(Performed {
+        status: ENDED,
+        words: String::new(alloc),
+    })
 }
 
 fn report<W: Write>(
@@ -43,14 +55,18 @@ fn report<W: Write>(
     script: &Script,
     picks: &[Pick],
     out: &mut W,
-) -> Result<u8, OutFault>
+) -> Result<Performed, OutFault>
     requires { script.now.code.queues ≤ length script.now.queues.items }
     ensures { Performs command.Replay (meaning script.now) picks.now result
         (W.contents out.old) (W.contents out.new) }
 {
-    let report = replay(alloc, script, picks)?;
-    write_report(alloc, script, &report, out)?;
-    Ok(status_after(&report))
+    let halt = replay_to_halt(alloc, script, picks)?;
+    let words = format_waits(alloc, script, &halt.waits)?;
+    write_report(alloc, script, &halt.report, out)?;
+    Ok(Performed {
+        status: status_after(&halt.report),
+        words,
+    })
 }
 
 fn trace<W: Write>(
@@ -58,26 +74,30 @@ fn trace<W: Write>(
     script: &Script,
     picks: &[Pick],
     out: &mut W,
-) -> Result<u8, OutFault>
+) -> Result<Performed, OutFault>
     requires { script.now.code.queues ≤ length script.now.queues.items }
     ensures { Performs command.Trace (meaning script.now) picks.now result
         (W.contents out.old) (W.contents out.new) }
 {
-    let report = replay(alloc, script, picks)?;
-    write_trace(alloc, script, &report, out)?;
-    Ok(status_after(&report))
+    let halt = replay_to_halt(alloc, script, picks)?;
+    let words = format_waits(alloc, script, &halt.waits)?;
+    write_trace(alloc, script, &halt.report, out)?;
+    Ok(Performed {
+        status: status_after(&halt.report),
+        words,
+    })
 }
 
 /// Does with the script and the picks what is asked, and prints it; the script's code names no queue that
-/// is not declared. The status is 0 where all fibers
-/// ended or are only counted, and 1 where one waits for good.
+/// is not declared. The status is 0 where all fibers ended or are only counted, and 1 where one waits for
+/// good: then the words are a line for each fiber that does, and else there are none.
 pub(crate) fn perform<W: Write>(
     alloc: Global,
     command: Command,
     script: &Script,
     picks: &[Pick],
     out: &mut W,
-) -> Result<u8, OutFault>
+) -> Result<Performed, OutFault>
     requires { script.now.code.queues ≤ length script.now.queues.items }
     ensures { Performs command (meaning script.now) picks.now result
         (W.contents out.old) (W.contents out.new) }

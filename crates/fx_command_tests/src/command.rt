@@ -15,6 +15,7 @@ mod script_words;
 mod scripts;
 mod streams;
 mod tour;
+mod waits;
 mod words;
 
 /// A text in memory. One that is broken answers an error at its end.

@@ -19,13 +19,18 @@ use Rattle.fx_fiber.specs.declared.machine.made.Made.TheVariants as made
 use Rattle.fx_fiber.specs.declared.machine.Machine.{Machine}
 use Rattle.fx_fiber.specs.Machine.{loop_of, inner, unwinding, progress_of}
 use Rattle.fx_fiber.specs.Sound.{IsSoundMachine}
-use Rattle.fx_fiber.specs.Methods.{IsSame, Makes, MakesRule, Interrupts, IsEvaluating, IsLeafNode, IsEntered, IsGoing, is_canceled_node}
-use Rattle.fx_fiber.specs.Methods.{is_open_machine, must_cancel_machine, IsInterrupted, ComesFirst, MakesCall, Advances}
+use Rattle.fx_fiber.specs.Leaves.{IsLeafNode, is_canceled_node}
+use Rattle.fx_fiber.specs.Places.{IsSame, IsEvaluating, IsEntered, IsGoing, is_open_machine, must_cancel_machine}
+use Rattle.fx_fiber.specs.Makes.{Makes, MakesRule}
+use Rattle.fx_fiber.specs.Interruption.{Interrupts, IsInterrupted, ComesFirst}
+use Rattle.fx_fiber.specs.MakesCall.{MakesCall}
+use Rattle.fx_fiber.specs.Advances.{Advances}
 use Rattle.fx_fiber.specs.Calls.{PortCalls}
+use Rattle.fx_fiber.specs.PortFacts.{Facts}
 use Rattle.fx_fiber.proofs.Leaves.{canceled_at}
 use Rattle.fx_fiber.proofs.Looks.{looks_first_before, none_due, not_due_after, due_where_open, asks_by_rule, rule_is_own}
 use Rattle.fx_fiber.proofs.Fibers.{await_unlooked}
-use Rattle.fx_fiber.proofs.Calls.{local_is_rule, told_nothing, agreed_nothing, counted_nothing}
+use Rattle.fx_fiber.proofs.Calls.{local_is_rule, told_nothing, agreed_nothing, framed_nothing}
 
 -- a fiber inside all contexts, at `canceled` or not
 pub record IsInside (nodes : List Node) (s : Machine) (at_canceled : Bool) : Type 0 where
@@ -65,10 +70,9 @@ same_here nodes s sound = record { sound = sound; progress = refl; counts = refl
 
 -- what is made of a fiber that has come no further is made of it
 makes_before : (nodes : List Node) (old s : Machine) (m : Made) (s' : Machine) → IsSame nodes old s → Makes nodes s m s' → Makes nodes old m s'
-makes_before nodes old s made.Waits s' same h =
+makes_before nodes old s (made.Waits w) s' same h =
     let known : s.known ≡ old.known = ap (λ (c : Counts). c.known) same.counts in
     record {
-      wait = h.wait;
       leaf = rw same.progress at h.leaf;
       free = rw (known, same.progress) at h.free;
       same = same_trans nodes old s s' same h.same;
@@ -79,7 +83,7 @@ makes_before nodes old s (made.Shows e) s' same h = rw (same.counts, same.progre
 makes_before nodes old s (made.Learns f o e) s' same h = rw (same.counts, same.progress) at h
 makes_before nodes old s (made.Starts x a b) s' same h = record { same = same_trans nodes old s s' same h.same; id = h.id; stands = h.stands }
 
-module _ {P S : Type 0} (calls : PortCalls P S) (agrees : P → List Deed → Type 0) (puts : P → ℕ) (nodes : List Node) (old s : Machine) (b : Bool)
+module _ {P S : Type 0} (calls : PortCalls P S) (agrees : P → List Deed → Type 0) (facts : P → Facts) (nodes : List Node) (old s : Machine) (b : Bool)
     (p p' : P) (sh sh' : S) (same : IsSame nodes old s) (inside : IsInside nodes s b) where
   -- what comes first interrupts the fiber
   pub is_interrupted : (i : Interruption) → ComesFirst calls (is_open_machine s) (is_open_machine s && (s.known || b)) (Some i) p sh p' sh'
@@ -91,9 +95,9 @@ module _ {P S : Type 0} (calls : PortCalls P S) (agrees : P → List Deed → Ty
 
   pub interrupted_advances : (i : Interruption) (m : Made) (s' : Machine)
       → ComesFirst calls (is_open_machine s) (is_open_machine s && (s.known || b)) (Some i) p sh p' sh'
-      → (Some i ≡ Some Request → (deeds : List Deed) → agrees p deeds → agrees p' (deeds ++ Saw ∷ [])) → puts p' ≡ puts p → Interrupts nodes s i m s'
-      → Advances calls agrees puts nodes old p sh m s' p' sh'
-  interrupted_advances Cancellation m s' first saw counted h =
+      → (Some i ≡ Some Request → (deeds : List Deed) → agrees p deeds → agrees p' (deeds ++ Saw ∷ [])) → facts p' ≡ facts p → Interrupts nodes s i m s'
+      → Advances calls agrees facts nodes old p sh m s' p' sh'
+  interrupted_advances Cancellation m s' first saw framed h =
       let due : looks_first old.known (progress_of nodes old) ≡ false = looks_first_before nodes old s same inside.sound inside.going inside.entered
       ∙ not_due_after _ _ (sym (due_is nodes s b inside) ∙ first.1) in
       rw h.shows
@@ -103,9 +107,9 @@ module _ {P S : Type 0} (calls : PortCalls P S) (agrees : P → List Deed → Ty
         own = tt;
         asks = (none_due calls _ _ _ due, (first.2, first.3));
         agreed = λ ds h. rw (append-nil, first.2) h;
-        counted = counted;
+        facts_are = framed;
       })
-  interrupted_advances Request m s' first saw counted h =
+  interrupted_advances Request m s' first saw framed h =
       rw h.shows
       (record {
         sound = h.sound;
@@ -113,7 +117,7 @@ module _ {P S : Type 0} (calls : PortCalls P S) (agrees : P → List Deed → Ty
         own = tt;
         asks = first.2;
         agreed = saw refl;
-        counted = counted;
+        facts_are = framed;
       })
 
   -- cancellation is not due where nothing comes first
@@ -122,7 +126,7 @@ module _ {P S : Type 0} (calls : PortCalls P S) (agrees : P → List Deed → Ty
 
   pub rule_advances : (m : Made) (s' : Machine) (p'' : P) (sh'' : S)
       → ComesFirst calls (is_open_machine s) (is_open_machine s && (s.known || b)) None p sh p' sh'
-      → MakesCall calls agrees puts nodes s p' sh' m s' p'' sh'' → Advances calls agrees puts nodes old p sh m s' p'' sh''
+      → MakesCall calls agrees facts nodes s p' sh' m s' p'' sh'' → Advances calls agrees facts nodes old p sh m s' p'' sh''
   rule_advances m s' p'' sh'' first made =
       let due : looks_first old.known (progress_of nodes old) ≡ is_open_machine s =
       looks_first_before nodes old s same inside.sound inside.going inside.entered ∙ due_where_open _ _ (is_free first) in
@@ -133,21 +137,21 @@ module _ {P S : Type 0} (calls : PortCalls P S) (agrees : P → List Deed → Ty
         asks = asks_by_rule calls _ (leaf_at (progress_of nodes old)) m p p'' sh sh'' made.own (rw due first.1)
             (rw (same.progress, first.2, first.3) at made.told);
         agreed = rw first.2 at made.agreed;
-        counted = rw first.2 at made.counted;
+        facts_are = rw first.2 at made.facts_are;
       }
 
 -- between two clean-ups nothing comes first
-pub unwinding_advances : {P S : Type 0} (calls : PortCalls P S) (agrees : P → List Deed → Type 0) (puts : P → ℕ) (nodes : List Node) (s : Machine)
+pub unwinding_advances : {P S : Type 0} (calls : PortCalls P S) (agrees : P → List Deed → Type 0) (facts : P → Facts) (nodes : List Node) (s : Machine)
     (m : Made) (s' : Machine) (p : P) (sh : S)
-    → s.focus ≡ Unwinding → MakesRule nodes s m s' → Advances calls agrees puts nodes s p sh m s' p sh
-unwinding_advances calls agrees puts nodes s m s' p sh e made = record {
+    → s.focus ≡ Unwinding → MakesRule nodes s m s' → Advances calls agrees facts nodes s p sh m s' p sh
+unwinding_advances calls agrees facts nodes s m s' p sh e made = record {
   sound = made.sound;
   rule = made.rule;
   own = rule_is_own m (local_is_rule m made.is_local);
   asks = asks_by_rule calls _ (leaf_at (progress_of nodes s)) m p p sh sh (local_is_rule m made.is_local) (none_due calls _ _ _ (rw e (by_left s.cleanups)))
       (told_nothing calls (leaf_at (progress_of nodes s)) m p p sh sh made.is_local refl refl);
   agreed = agreed_nothing agrees m p p made.is_local refl;
-  counted = counted_nothing puts m p p made.is_local refl;
+  facts_are = framed_nothing facts m p p made.is_local refl;
 }
   where
     by_left : (left : Option Unwound) → looks_first s.known (unwinding nodes s.registers left) ≡ false
@@ -155,14 +159,14 @@ unwinding_advances calls agrees puts nodes s m s' p sh e made = record {
     by_left (Some c) = refl
 
 -- a fiber that awaits one that it canceled is not interrupted
-pub await_advances : {P S : Type 0} (calls : PortCalls P S) (agrees : P → List Deed → Type 0) (puts : P → ℕ) (nodes : List Node) (s : Machine) (f : ℕ)
-    (m : Made) (s' : Machine) (p p' : P) (sh sh' : S) → IsSoundMachine nodes s → s.focus ≡ Await f → MakesCall calls agrees puts nodes s p sh m s' p' sh'
-    → Advances calls agrees puts nodes s p sh m s' p' sh'
-await_advances calls agrees puts nodes s f m s' p p' sh sh' sound here call = record {
+pub await_advances : {P S : Type 0} (calls : PortCalls P S) (agrees : P → List Deed → Type 0) (facts : P → Facts) (nodes : List Node) (s : Machine) (f : ℕ)
+    (m : Made) (s' : Machine) (p p' : P) (sh sh' : S) → IsSoundMachine nodes s → s.focus ≡ Await f → MakesCall calls agrees facts nodes s p sh m s' p' sh'
+    → Advances calls agrees facts nodes s p sh m s' p' sh'
+await_advances calls agrees facts nodes s f m s' p p' sh sh' sound here call = record {
   sound = call.sound;
   rule = call.rule;
   own = rule_is_own m call.own;
   asks = asks_by_rule calls _ (leaf_at (progress_of nodes s)) m p p' sh sh' call.own (none_due calls _ _ _ (await_unlooked nodes s f sound here)) call.told;
   agreed = call.agreed;
-  counted = call.counted;
+  facts_are = call.facts_are;
 }

@@ -32,7 +32,8 @@ use Rattle.fx_model.specs.Waiting.{wait_at}
 use Rattle.fx_model.specs.declared.source.Source.TheVariants as waiting_for
 use Rattle.fx_fiber.specs.Machine.{filled, waiting, within, running, progress_at, progress_of, counts_of}
 use Rattle.fx_fiber.specs.Sound.{closed_outside, IsNode, IsBound, AreClosedBy, IsSound, IsSoundMachine}
-use Rattle.fx_fiber.specs.Methods.{WaitsFor, IsSame, IsEvaluating, must_cancel_machine, joined_machine}
+use Rattle.fx_fiber.specs.Places.{IsSame, IsEvaluating, must_cancel_machine, joined_machine}
+use Rattle.fx_fiber.specs.Makes.{WaitsFor}
 use Rattle.fx_term.proofs.RegisterLaws.{with_again, length_with}
 use Rattle.fx_fiber.proofs.Contexts.{row_within, leaf_within, closed_within}
 use Rattle.fx_fiber.proofs.Nodes.{child_before, leaf_is_free}
@@ -120,15 +121,12 @@ module _ (nodes : List Node) (s : Machine) (id : NodeId) (f x : ℕ) (a : NodeId
         let here : option_and_then wait_at (leaf_at (progress_of nodes s)) ≡ Some (waiting_for.Outcome fiber) =
         ap (option_and_then wait_at) (leaf_here nodes s id (node.Join f x a e b d) at tt
         ∙ ap (λ (v : Arg). Some (Join v x (waiting nodes s.registers (Some x) a) e (waiting nodes s.registers (Some e) b) (filled nodes s.registers d)))
-        number) in (
-          record {
-            wait = waiting_for.Outcome fiber;
-            leaf = here;
-            free = leaf_is_free nodes s.registers s.frames s.masks s.cleanups s.focus id (node.Join f x a e b d) at.focus at.node at.sound tt s.known free;
-            same = join_stays 0 t is;
-          },
-          refl,
-        )
+        number) in
+        record {
+          leaf = here;
+          free = leaf_is_free nodes s.registers s.frames s.masks s.cleanups s.focus id (node.Join f x a e b d) at.focus at.node at.sound tt s.known free;
+          same = join_stays 0 t is;
+        }
 
 -- a fiber that stands at a cancel
 module _ (nodes : List Node) (s : Machine) (id : NodeId) (f : ℕ) (at : IsEvaluating nodes s id (node.Cancel f)) where
@@ -209,15 +207,11 @@ module _ (nodes : List Node) (s : Machine) (id : NodeId) (f g : ℕ) (at : IsEva
         (λ k h. first_right)
 
     pub first_waits : WaitsFor nodes s s (Either l r)
-    first_waits = (
-      record {
-        wait = Either l r;
-        leaf = ap (option_and_then wait_at) first_leaf;
-        free = leaf_is_free nodes s.registers s.frames s.masks s.cleanups s.focus id (node.First f g) at.focus at.node at.sound tt s.known free;
-        same = record { sound = at.sound; progress = refl; counts = refl };
-      },
-      refl,
-    )
+    first_waits = record {
+      leaf = ap (option_and_then wait_at) first_leaf;
+      free = leaf_is_free nodes s.registers s.frames s.masks s.cleanups s.focus id (node.First f g) at.focus at.node at.sound tt s.known free;
+      same = record { sound = at.sound; progress = refl; counts = refl };
+    }
 
 -- a fiber that awaits one that it canceled: its place is sealed, whatever its contexts close
 module _ (nodes : List Node) (s : Machine) (f : ℕ) (sound : IsSoundMachine nodes s) (here : s.focus ≡ focus.Await f) where
@@ -268,12 +262,8 @@ module _ (nodes : List Node) (s : Machine) (f : ℕ) (sound : IsSoundMachine nod
   }
 
   pub await_waits : WaitsFor nodes s s (waiting_for.Outcome f)
-  await_waits = (
-    record {
-      wait = waiting_for.Outcome f;
-      leaf = ap (option_and_then wait_at) await_leaf;
-      free = rw here (by_left s.cleanups sound.closed).0;
-      same = record { sound = sound; progress = refl; counts = refl };
-    },
-    refl,
-  )
+  await_waits = record {
+    leaf = ap (option_and_then wait_at) await_leaf;
+    free = rw here (by_left s.cleanups sound.closed).0;
+    same = record { sound = sound; progress = refl; counts = refl };
+  }

@@ -1,12 +1,11 @@
 -- A step keeps what a fiber's type says.
-use Rattle.std.proofs.Common.{◌≡◌, ℕ, ◌+◌, ◌^◌, ◌<◌, ◌≤◌, Bool, true, false, Option, List, [], ◌∷◌, ◌++◌, refl, sym, ◌∙◌, ap, arith, append_assoc, append-nil}
+use Rattle.std.proofs.Common.{◌≡◌, ℕ, ◌+◌, ◌^◌, ◌<◌, ◌≤◌, true, false, Option, List, [], ◌∷◌, ◌++◌, refl, sym, ◌∙◌, ap, arith, append_assoc, append-nil}
 use Rattle.fx_term.specs.declared.node.Node.{Node}
-use Rattle.fx_term.specs.declared.begin.Begin.{Begin}
 use Rattle.fx_term.specs.declared.event.Event.{Event}
 use Rattle.fx_term.specs.declared.event.Event.TheVariants as event
 use Rattle.fx_term.specs.declared.outcome.Outcome.{Outcome}
 use Rattle.fx_term.specs.Term.{Term}
-use Rattle.fx_model.specs.Row.{Counts, Range, range_of, Label, Shows}
+use Rattle.fx_model.specs.Row.{Counts, range_of, Label, Shows}
 use Rattle.fx_model.specs.Step.{Progress, Runs, has_ended, Step}
 use Rattle.fx_model.specs.Run.{events}
 use Rattle.fx_model.specs.Origin.{origin_of}
@@ -17,11 +16,15 @@ use Rattle.fx_fiber.specs.declared.stepped.Stepped.TheVariants.{Went}
 use Rattle.fx_fiber.specs.Deed.{Deed, Ended, AreDeedsOf, AreDeeds}
 use Rattle.fx_fiber.specs.Machine.{progress_of, counts_of}
 use Rattle.fx_fiber.specs.Sound.{IsSoundMachine}
-use Rattle.fx_fiber.specs.Bare.{IsFirstMachine}
+use Rattle.fx_fiber.specs.Body.{IsFirstMachine}
 use Rattle.fx_model.specs.Work.{work_left}
 use Rattle.fx_model.specs.PutsLeft.{puts_of, puts_with}
-use Rattle.fx_fiber.specs.Methods.{Steps, IsSame, label_of, deeds_made, Advances}
-use Rattle.fx_fiber.specs.Calls.{PortCalls, first_range}
+use Rattle.fx_fiber.specs.Made.{label_of, deeds_made}
+use Rattle.fx_fiber.specs.Places.{IsSame}
+use Rattle.fx_fiber.specs.Makes.{Steps}
+use Rattle.fx_fiber.specs.Advances.{Advances}
+use Rattle.fx_fiber.specs.Calls.{PortCalls}
+use Rattle.fx_fiber.specs.PortFacts.{Facts, first_facts}
 use Rattle.fx_fiber.specs.MakesStep.{Answers}
 use Rattle.fx_fiber.specs.Fiber.{is_fiber_number, IsKept}
 use Rattle.fx_model.proofs.Runs.{leads_on, events_append}
@@ -50,59 +53,58 @@ pub taken_fit : {c d : Counts} {p q : Progress} {l : Label} → Step c p l d q �
     → GivesTaken is_fiber_number c d
 taken_fit step room word f low high = let n = step_need step in lt-ltb f (2 ^ 32) (omega arith)
 
-module _ (nodes : List Node) (begin begin' : Begin) (agrees agrees' : List Deed → Type 0) (finished finished' : Bool) (rest rest' : Range)
-    (puts puts' : ℕ) (trace trace' : List Event) (s s' : Machine) (same_begin : begin' ≡ begin) where
-  -- a step whose event is added to the trace, and whose deeds are added to those of the port
-  pub kept_step : (l : Label) (es : List Deed) → AreDeedsOf nodes l es → IsKept nodes begin agrees finished rest puts trace s → Steps nodes s l s'
-      → IsSoundMachine nodes s' → trace' ≡ trace ++ events (l ∷ [])
-      → ((ds : List Deed) → agrees ds → agrees' (ds ++ es)) → finished' ≡ shows_end l → rest' ≡ range_of (counts_of s')
-      → puts' ≡ puts_with l puts
-      → IsKept nodes begin' agrees' finished' rest' puts' trace' s'
-  kept_step l es are k step sound t go f numbers counted = record {
-    sound = sound;
-    lawful = record {
-      labels = k.lawful.labels ++ l ∷ [];
-      run = rw same_begin (leads_on _ _ k.lawful.labels _ _ l _ _ k.lawful.run step);
-      traced = events_append k.lawful.labels (l ∷ []) ∙ ap (λ (es : List Event). es ++ events (l ∷ [])) k.lawful.traced ∙ sym t;
-      deeds = k.lawful.deeds ++ es;
-      are_deeds = deeds_more nodes k.lawful.labels k.lawful.deeds l es k.lawful.are_deeds are;
-      agreed = go k.lawful.deeds k.lawful.agreed;
-    };
-    countable = let p = step_work step in let q = k.countable in let r = counted ∙ puts_more l puts in omega arith;
-    scoped = (step_over is_fiber_number step (taken_fit step k.room k.word) k.scoped).0;
-    room = let n = step_need step in let e = (step_tells step).end in let r = k.room in omega arith;
-    word = let e = (step_tells step).end in let w = k.word in omega arith;
-    ended = f ∙ sym (ended_after step);
-    numbers = numbers;
-  }
+-- one more step, after which the port has these facts
+pub kept_step : (nodes : List Node) (total : ℕ) (facts facts' : Facts) (agrees agrees' : List Deed → Type 0) (trace trace' : List Event) (s s' : Machine)
+    (l : Label) (es : List Deed) → AreDeedsOf nodes l es → IsKept nodes total facts agrees trace s → Steps nodes s l s' → IsSoundMachine nodes s'
+    → trace' ≡ trace ++ events (l ∷ []) → ((ds : List Deed) → agrees ds → agrees' (ds ++ es)) → facts'.beginning ≡ facts.beginning
+    → facts'.has_finished ≡ shows_end l → facts'.rest ≡ range_of (counts_of s') → facts'.puts ≡ puts_with l facts.puts
+    → IsKept nodes total facts' agrees' trace' s'
+kept_step nodes total facts facts' agrees agrees' trace trace' s s' l es are k step sound t go same_begin f numbers counted = record {
+  sound = sound;
+  lawful = record {
+    labels = k.lawful.labels ++ l ∷ [];
+    run = rw same_begin (leads_on _ _ k.lawful.labels _ _ l _ _ k.lawful.run step);
+    traced = events_append k.lawful.labels (l ∷ []) ∙ ap (λ (es : List Event). es ++ events (l ∷ [])) k.lawful.traced ∙ sym t;
+    deeds = k.lawful.deeds ++ es;
+    are_deeds = deeds_more nodes k.lawful.labels k.lawful.deeds l es k.lawful.are_deeds are;
+    agreed = go k.lawful.deeds k.lawful.agreed;
+  };
+  countable = let p = step_work step in let q = k.countable in let r = counted ∙ puts_more l facts.puts in omega arith;
+  scoped = (step_over is_fiber_number step (taken_fit step k.room k.word) k.scoped).0;
+  room = let n = step_need step in let e = (step_tells step).end in let r = k.room in omega arith;
+  word = let e = (step_tells step).end in let w = k.word in omega arith;
+  within = let e = (step_tells step).end in let w = k.within in omega arith;
+  ended = f ∙ sym (ended_after step);
+  numbers = numbers;
+}
 
-  -- a fiber that has come no further
-  pub kept_same : IsKept nodes begin agrees finished rest puts trace s → IsSame nodes s s' → IsSoundMachine nodes s' → trace' ≡ trace
-      → ((ds : List Deed) → agrees ds → agrees' ds) → finished' ≡ finished → rest' ≡ rest → puts' ≡ puts
-      → IsKept nodes begin' agrees' finished' rest' puts' trace' s'
-  kept_same k same sound t go f r counted = record {
-    sound = sound;
-    lawful = record {
-      labels = k.lawful.labels;
-      run = rw (same.counts, same.progress, same_begin) k.lawful.run;
-      traced = k.lawful.traced ∙ sym t;
-      deeds = k.lawful.deeds;
-      are_deeds = k.lawful.are_deeds;
-      agreed = go k.lawful.deeds k.lawful.agreed;
-    };
-    countable =
-        let masks : s'.masks.entries ≡ s.masks.entries = ap (λ (c : Counts). c.masks) same.counts in
-        let acquired : s'.acquired ≡ s.acquired = ap (λ (c : Counts). c.acquired) same.counts in
-        rw (masks, acquired, counted, same.progress) k.countable;
-    scoped = rw same.progress k.scoped;
-    room =
-        let next : s'.next ≡ s.next = ap (λ (c : Counts). c.next) same.counts in
-        let end : s'.end ≡ s.end = ap (λ (c : Counts). c.end) same.counts in
-        rw (next, end, same.progress) k.room;
-    word = let end : s'.end ≡ s.end = ap (λ (c : Counts). c.end) same.counts in rw end k.word;
-    ended = rw same.progress (f ∙ k.ended);
-    numbers = r ∙ k.numbers ∙ sym (ap range_of same.counts);
-  }
+-- a fiber that has come no further
+pub kept_same : (nodes : List Node) (total : ℕ) (facts : Facts) (agrees : List Deed → Type 0) (trace trace' : List Event) (s s' : Machine)
+    → IsKept nodes total facts agrees trace s → IsSame nodes s s' → trace' ≡ trace → IsKept nodes total facts agrees trace' s'
+kept_same nodes total facts agrees trace trace' s s' k same t = record {
+  sound = same.sound;
+  lawful = record {
+    labels = k.lawful.labels;
+    run = rw (same.counts, same.progress) k.lawful.run;
+    traced = k.lawful.traced ∙ sym t;
+    deeds = k.lawful.deeds;
+    are_deeds = k.lawful.are_deeds;
+    agreed = k.lawful.agreed;
+  };
+  countable =
+      let masks : s'.masks.entries ≡ s.masks.entries = ap (λ (c : Counts). c.masks) same.counts in
+      let acquired : s'.acquired ≡ s.acquired = ap (λ (c : Counts). c.acquired) same.counts in
+      rw (masks, acquired, same.progress) k.countable;
+  scoped = rw same.progress k.scoped;
+  room =
+      let next : s'.next ≡ s.next = ap (λ (c : Counts). c.next) same.counts in
+      let end : s'.end ≡ s.end = ap (λ (c : Counts). c.end) same.counts in
+      rw (next, end, same.progress) k.room;
+  word = let end : s'.end ≡ s.end = ap (λ (c : Counts). c.end) same.counts in rw end k.word;
+  within = let end : s'.end ≡ s.end = ap (λ (c : Counts). c.end) same.counts in rw end k.within;
+  ended = rw same.progress k.ended;
+  numbers = k.numbers ∙ sym (ap range_of same.counts);
+}
 
 pub are_deeds_made : (nodes : List Node) (m : Made) → shows_end (label_of m) ≡ false → AreDeedsOf nodes (label_of m) (deeds_made m)
 are_deeds_made nodes (made.Shows (event.Ended o)) on = absurd (let no : true ≡ false = on in cc)
@@ -111,11 +113,11 @@ are_deeds_made nodes (made.Learns f o e) on = refl
 are_deeds_made nodes _ on = refl
 
 -- a fiber before its first step
-pub kept_at_first : (nodes : List Node) (begin : Begin) (agrees : List Deed → Type 0) (finished : Bool) (rest : Range) (puts : ℕ) (trace : List Event)
-    (s : Machine) → work_left (Runs (origin_of nodes begin).term) < 2 ^ 63 → IsScopedOver is_fiber_number (origin_of nodes begin).term
-    → HasRoom (origin_of nodes begin) → begin.end < 2 ^ 32 → agrees [] → finished ≡ false → rest ≡ first_range begin → puts ≡ 0 → trace ≡ []
-    → IsFirstMachine nodes begin s → IsKept nodes begin agrees finished rest puts trace s
-kept_at_first nodes begin agrees finished rest puts trace s few over room word a f r none t first = record {
+pub kept_at_first : (nodes : List Node) (total : ℕ) (facts : Facts) (agrees : List Deed → Type 0) (trace : List Event) (s : Machine)
+    → work_left (Runs (origin_of nodes facts.beginning).term) < 2 ^ 63 → IsScopedOver is_fiber_number (origin_of nodes facts.beginning).term
+    → HasRoom (origin_of nodes facts.beginning) → facts.beginning.end < 2 ^ 32 → facts.beginning.end ≤ total → agrees []
+    → facts ≡ first_facts facts.number facts.beginning → trace ≡ [] → IsFirstMachine nodes facts.beginning s → IsKept nodes total facts agrees trace s
+kept_at_first nodes total facts agrees trace s few over room word within a fresh t first = record {
   sound = first.sound;
   lawful = record {
     labels = [];
@@ -128,15 +130,17 @@ kept_at_first nodes begin agrees finished rest puts trace s few over room word a
   countable =
       let masks : s.masks.entries ≡ 0 = ap (λ (c : Counts). c.masks) first.counts in
       let acquired : s.acquired ≡ 0 = ap (λ (c : Counts). c.acquired) first.counts in
-      rw (masks, acquired, none, first.progress) (omega arith);
+      let puts : facts.puts ≡ 0 = ap (λ (f : Facts). f.puts) fresh in
+      rw (masks, acquired, puts, first.progress) (omega arith);
   scoped = rw first.progress over;
   room =
-      let next : s.next ≡ begin.next = ap (λ (c : Counts). c.next) first.counts in
-      let end : s.end ≡ begin.end = ap (λ (c : Counts). c.end) first.counts in
+      let next : s.next ≡ facts.beginning.next = ap (λ (c : Counts). c.next) first.counts in
+      let end : s.end ≡ facts.beginning.end = ap (λ (c : Counts). c.end) first.counts in
       rw (next, end, first.progress) room;
-  word = let end : s.end ≡ begin.end = ap (λ (c : Counts). c.end) first.counts in rw end word;
-  ended = f ∙ rw first.progress refl;
-  numbers = r ∙ sym (ap range_of first.counts);
+  word = let end : s.end ≡ facts.beginning.end = ap (λ (c : Counts). c.end) first.counts in rw end word;
+  within = let end : s.end ≡ facts.beginning.end = ap (λ (c : Counts). c.end) first.counts in rw end within;
+  ended = ap (λ (f : Facts). f.has_finished) fresh ∙ rw first.progress refl;
+  numbers = ap (λ (f : Facts). f.rest) fresh ∙ sym (ap range_of first.counts);
 }
 
 -- what is made by a machine starts no fiber
@@ -145,31 +149,30 @@ made_keeps_range (made.Shows e) step = step_keeps_range step refl
 made_keeps_range (made.Learns f o e) step = step_keeps_range step refl
 made_keeps_range made.Silent step = step_keeps_range step refl
 made_keeps_range made.Yielded step = step_keeps_range step refl
-made_keeps_range made.Waits step = step_keeps_range step refl
+made_keeps_range (made.Waits w) step = step_keeps_range step refl
 made_keeps_range (made.Starts h a b) step = step_keeps_range step refl
 
-module _ {P S : Type 0} (nodes : List Node) (begin begin' : Begin) (calls : PortCalls P S) (agrees : P → List Deed → Type 0) (puts : P → ℕ) (p p' : P)
-    (sh sh' : S) (finished finished' : Bool) (rest rest' : Range) (trace trace' : List Event) (s s' : Machine) where
+module _ {P S : Type 0} (nodes : List Node) (total : ℕ) (calls : PortCalls P S) (agrees : P → List Deed → Type 0) (facts : P → Facts)
+    (p p' : P) (sh sh' : S) (trace trace' : List Event) (s s' : Machine) (kept : IsKept nodes total (facts p) (agrees p) trace s) where
   -- a step that was not the last keeps the fiber
-  pub kept_going : (m : Made) → begin' ≡ begin → IsKept nodes begin (agrees p) finished rest (puts p) trace s → has_ended (progress_of nodes s) ≡ false
-      → Advances calls agrees puts nodes s p sh m s' p' sh' → Steps nodes s (label_of m) s'
-      → finished' ≡ finished → rest' ≡ rest → shows_end (label_of m) ≡ false → trace' ≡ trace ++ events (label_of m ∷ [])
-      → IsKept nodes begin' (agrees p') finished' rest' (puts p') trace' s'
-  kept_going m b kept going a step f r on t =
-      kept_step nodes begin begin' (agrees p) (agrees p') finished finished' rest rest' (puts p) (puts p') trace trace' s s' b (label_of m) (deeds_made m)
-      (are_deeds_made nodes m on) kept step a.sound t a.agreed (f ∙ kept.ended ∙ going ∙ sym on) (r ∙ kept.numbers ∙ sym (made_keeps_range m step))
-      a.counted
+  pub kept_going : (m : Made) → has_ended (progress_of nodes s) ≡ false → Advances calls agrees facts nodes s p sh m s' p' sh' → Steps nodes s (label_of m) s'
+      → shows_end (label_of m) ≡ false → trace' ≡ trace ++ events (label_of m ∷ []) → IsKept nodes total (facts p') (agrees p') trace' s'
+  kept_going m going a step on t =
+      kept_step nodes total (facts p) (facts p') (agrees p) (agrees p') trace trace' s s' (label_of m) (deeds_made m) (are_deeds_made nodes m on)
+      kept step a.sound t a.agreed (ap (λ (f : Facts). f.beginning) a.facts_are)
+      (ap (λ (f : Facts). f.has_finished) a.facts_are ∙ kept.ended ∙ going ∙ sym on)
+      (ap (λ (f : Facts). f.rest) a.facts_are ∙ kept.numbers ∙ sym (made_keeps_range m step)) (ap (λ (f : Facts). f.puts) a.facts_are)
 
   -- so does the last one
-  pub kept_ended : (o : Outcome) (p'' : P) → begin' ≡ begin → IsKept nodes begin (agrees p) finished rest (puts p) trace s
-      → Advances calls agrees puts nodes s p sh (made.Shows (event.Ended o)) s' p' sh' → finished' ≡ true → rest' ≡ rest → puts p'' ≡ puts p'
-      → ((ds : List Deed) → agrees p' ds → agrees p'' (ds ++ Ended o ∷ [])) → trace' ≡ trace ++ event.Ended o ∷ []
-      → IsKept nodes begin' (agrees p'') finished' rest' (puts p'') trace' s'
-  kept_ended o p'' b kept a f r counted tells t =
-      kept_step nodes begin begin' (agrees p) (agrees p'') finished finished' rest rest' (puts p) (puts p'') trace trace' s s' b (Shows (event.Ended o))
-      (Ended o ∷ []) refl kept a.rule a.sound t
-      (λ ds h. tells ds (rw a.asks.1.0 h)) f (r ∙ kept.numbers ∙ sym (made_keeps_range (made.Shows (event.Ended o)) a.rule))
-      (counted ∙ a.counted)
+  pub kept_ended : (o : Outcome) (p'' : P) → Advances calls agrees facts nodes s p sh (made.Shows (event.Ended o)) s' p' sh'
+      → facts p'' ≡ record (facts p') { has_finished = true } → ((ds : List Deed) → agrees p' ds → agrees p'' (ds ++ Ended o ∷ []))
+      → trace' ≡ trace ++ event.Ended o ∷ [] → IsKept nodes total (facts p'') (agrees p'') trace' s'
+  kept_ended o p'' a told tells t =
+      kept_step nodes total (facts p) (facts p'') (agrees p) (agrees p'') trace trace' s s' (Shows (event.Ended o)) (Ended o ∷ []) refl
+      kept a.rule a.sound t (λ ds h. tells ds (rw a.asks.1.0 h))
+      (ap (λ (f : Facts). f.beginning) told ∙ ap (λ (f : Facts). f.beginning) a.facts_are) (ap (λ (f : Facts). f.has_finished) told)
+      (ap (λ (f : Facts). f.rest) told ∙ ap (λ (f : Facts). f.rest) a.facts_are ∙ kept.numbers ∙ sym (made_keeps_range (made.Shows (event.Ended o)) a.rule))
+      (ap (λ (f : Facts). f.puts) told ∙ ap (λ (f : Facts). f.puts) a.facts_are)
 
 -- the trace after one more event
 pub one_more : (old room new : List Event) (e : Event) → room ≡ old → new ≡ room ++ e ∷ [] → new ≡ old ++ e ∷ []

@@ -24,7 +24,9 @@ use Rattle.fx_fiber.specs.declared.machine.focus.Focus.TheVariants.{Eval}
 use Rattle.fx_fiber.specs.declared.machine.Machine.{Machine}
 use Rattle.fx_fiber.specs.Machine.{filled, waiting, inner, closed_again, within, running, progress_at, progress_of, counts_of}
 use Rattle.fx_fiber.specs.Sound.{taken_off, left_of, IsNode, IsBound, IsClosedBy, IsSound}
-use Rattle.fx_fiber.specs.Methods.{WaitsFor, IsSame, IsEvaluating, IsLeafNode, is_canceled_node, must_cancel_machine, is_open_machine}
+use Rattle.fx_fiber.specs.Leaves.{IsLeafNode, is_canceled_node}
+use Rattle.fx_fiber.specs.Places.{IsSame, IsEvaluating, must_cancel_machine, is_open_machine}
+use Rattle.fx_fiber.specs.Makes.{WaitsFor}
 use Rattle.fx_fiber.specs.MakesStep.{is_yielding}
 use Rattle.fx_model.specs.declared.source.Source.TheVariants.{Nothing}
 use Rattle.fx_model.specs.Waiting.{wait_at}
@@ -85,15 +87,11 @@ leaf_at_cede nodes s id at = leaf_here nodes s id node.Cede at tt
 -- where the fiber waits
 pub never_waits : (nodes : List Node) (s : Machine) (id : NodeId) → IsEvaluating nodes s id node.Never → must_cancel_machine nodes s ≡ false
     → WaitsFor nodes s s Nothing
-never_waits nodes s id at free = (
-  record {
-    wait = Nothing;
-    leaf = ap (option_and_then wait_at) (leaf_here nodes s id node.Never at tt);
-    free = leaf_is_free nodes s.registers s.frames s.masks s.cleanups s.focus id node.Never at.focus at.node at.sound tt s.known free;
-    same = record { sound = at.sound; progress = refl; counts = refl };
-  },
-  refl,
-)
+never_waits nodes s id at free = record {
+  leaf = ap (option_and_then wait_at) (leaf_here nodes s id node.Never at tt);
+  free = leaf_is_free nodes s.registers s.frames s.masks s.cleanups s.focus id node.Never at.focus at.node at.sound tt s.known free;
+  same = record { sound = at.sound; progress = refl; counts = refl };
+}
 
 -- where `canceled` does not cancel, the place is closed
 pub closed_at_canceled : (nodes : List Node) (s : Machine) (id : NodeId) → IsEvaluating nodes s id node.Canceled → must_cancel_machine nodes s ≡ false

@@ -21,7 +21,8 @@ use Rattle.fx_fiber.specs.declared.machine.unwound.Unwound.{Unwound}
 use Rattle.fx_fiber.specs.declared.machine.Machine.{Machine}
 use Rattle.fx_fiber.specs.Machine.{masks_inside, loop_of, within, running, unwinding, counts_of, progress_of}
 use Rattle.fx_fiber.specs.Sound.{closed_outside, AreClosedBy, IsLoopIn, IsSoundMachine}
-use Rattle.fx_fiber.specs.Methods.{IsEntryOf, IsEvaluating}
+use Rattle.fx_fiber.specs.Leaves.{IsEntryOf}
+use Rattle.fx_fiber.specs.Places.{IsEvaluating}
 use Rattle.fx_fiber.specs.Fiber.{is_fiber_number}
 use Rattle.fx_model.specs.Scopes.{IsClosedTerm, IsProgressScopedOver}
 use Rattle.fx_fiber.specs.LeafBelow.{IsDownTo, is_open_inside, IsLeafBelow, term_at}

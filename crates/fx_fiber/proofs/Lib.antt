@@ -17,3 +17,4 @@ pub mod Telling
 pub mod Starts
 pub mod LeavesBelow
 pub mod WaitsBelow
+pub mod Turns

@@ -21,7 +21,7 @@ use Rattle.fx_fiber.specs.declared.machine.focus.Focus.TheVariants.{Eval, Return
 use Rattle.fx_fiber.specs.declared.machine.Machine.{Machine}
 use Rattle.fx_fiber.specs.Machine.{waiting, loop_at, within, running, progress_at, progress_of, counts_of}
 use Rattle.fx_fiber.specs.Sound.{IsLoopIn, IsBound, IsSound}
-use Rattle.fx_fiber.specs.Methods.{IsSame, IsEvaluating, IsBeforeTurn, must_cancel_machine}
+use Rattle.fx_fiber.specs.Places.{IsSame, IsEvaluating, IsBeforeTurn, must_cancel_machine}
 use Rattle.fx_fiber.proofs.Contexts.{row_within}
 use Rattle.fx_fiber.proofs.Numbers.{loop_same, running_same, running_named}
 use Rattle.fx_fiber.proofs.Rules.{IsLeafTerm, row_step, leaf_of_running}

@@ -24,7 +24,8 @@ use Rattle.fx_fiber.specs.declared.machine.focus.Focus.{Focus}
 use Rattle.fx_fiber.specs.declared.machine.focus.Focus.TheVariants.{Eval, Return, Turn, Await, Unwinding, Ended}
 use Rattle.fx_fiber.specs.Machine.{filled, loop_of, inner, outside_frame, masks_inside, within, running, progress_at}
 use Rattle.fx_fiber.specs.Sound.{taken_off, IsNode, IsBound, IsLoopIn, IsBracketIn, IsFrameIn, IsClosedBy, IsSound}
-use Rattle.fx_fiber.specs.Methods.{IsLeafNode, IsEntered, IsEntryOf}
+use Rattle.fx_fiber.specs.Leaves.{IsLeafNode, IsEntryOf}
+use Rattle.fx_fiber.specs.Places.{IsEntered}
 use Rattle.fx_fiber.proofs.Rules.{IsLeafTerm, result_term, row_step, leaf_of_running, free_running}
 
 pub arg_in_registers : (d e : ℕ) (a : Arg) → IsArgBelow d a → d ≤ e → IsArgBelow e a

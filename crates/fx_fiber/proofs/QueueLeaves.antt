@@ -25,7 +25,9 @@ use Rattle.fx_model.specs.Waiting.{wait_at}
 use Rattle.fx_fiber.specs.MakesStep.{value_offered}
 use Rattle.fx_fiber.specs.Machine.{filled, waiting, progress_at, progress_of, counts_of}
 use Rattle.fx_fiber.specs.Sound.{IsNode, IsBound, IsSound, IsSoundMachine}
-use Rattle.fx_fiber.specs.Methods.{WaitsFor, IsSame, IsEvaluating, IsLeafNode, must_cancel_machine}
+use Rattle.fx_fiber.specs.Leaves.{IsLeafNode}
+use Rattle.fx_fiber.specs.Places.{IsSame, IsEvaluating, must_cancel_machine}
+use Rattle.fx_fiber.specs.Makes.{WaitsFor}
 use Rattle.fx_fiber.proofs.Nodes.{child_before, leaf_is_free}
 use Rattle.fx_fiber.proofs.Leaves.{levels, child, arg_within, row_at, leaf_here, name_reaches, register_stays, beside_sound, beside_is, named_sound, named_is}
 
@@ -47,15 +49,11 @@ module _ (nodes : List Node) (s : Machine) (id : NodeId) (n : Node) (at : IsEval
   -- it waits there for what its leaf waits for
   waits_here : IsLeafNode (Some n) → must_cancel_machine nodes s ≡ false → (w : Source) → option_and_then wait_at (leaf_at (progress_of nodes s)) ≡ Some w
       → WaitsFor nodes s s w
-  waits_here leaf free w waits = (
-    record {
-      wait = w;
-      leaf = waits;
-      free = leaf_is_free nodes s.registers s.frames s.masks s.cleanups s.focus id n at.focus at.node at.sound leaf s.known free;
-      same = record { sound = at.sound; progress = refl; counts = refl };
-    },
-    refl,
-  )
+  waits_here leaf free w waits = record {
+    leaf = waits;
+    free = leaf_is_free nodes s.registers s.frames s.masks s.cleanups s.focus id n at.focus at.node at.sound leaf s.known free;
+    same = record { sound = at.sound; progress = refl; counts = refl };
+  }
 
 -- a fiber that stands at an offer
 module _ (nodes : List Node) (s : Machine) (id : NodeId) (q : ℕ) (v : Arg) (at : IsEvaluating nodes s id (node.Offer q v)) where

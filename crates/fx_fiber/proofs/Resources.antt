@@ -16,7 +16,7 @@ use Rattle.fx_fiber.specs.declared.machine.focus.Focus.TheVariants.{Eval}
 use Rattle.fx_fiber.specs.declared.machine.Machine.{Machine}
 use Rattle.fx_fiber.specs.Machine.{filled, waiting, bracket_of, all_but_innermost, within, running, progress_at, progress_of, counts_of}
 use Rattle.fx_fiber.specs.Sound.{closed_outside, left_of, AreClosedBy, AreFramesIn, IsBound, IsSound}
-use Rattle.fx_fiber.specs.Methods.{ReturnsInto, IsBracketAt}
+use Rattle.fx_fiber.specs.Places.{ReturnsInto, IsBracketAt}
 use Rattle.fx_fiber.proofs.Numbers.{frames_up, part_named, running_named, fits_named, under_above}
 use Rattle.fx_fiber.proofs.Results.{closed_in, frames_in, given_step}
 

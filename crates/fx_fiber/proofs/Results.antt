@@ -16,7 +16,7 @@ use Rattle.fx_fiber.specs.declared.machine.Machine.{Machine}
 use Rattle.fx_fiber.specs.Machine.{filled, waiting, outside_frame, in_frame, within, running, progress_of, counts_of}
 use Rattle.fx_fiber.specs.Sound.{closed_outside, left_of, taken_off, AreClosedBy, AreFramesIn, IsFrameIn, IsBound, IsClosedBy, IsSound}
 use Rattle.fx_model.specs.Path.{must_cancel}
-use Rattle.fx_fiber.specs.Methods.{ReturnsInto, IsReturning}
+use Rattle.fx_fiber.specs.Places.{ReturnsInto, IsReturning}
 use Rattle.fx_fiber.specs.MakesStep.{is_yielding}
 use Rattle.fx_fiber.proofs.Contexts.{row_within}
 use Rattle.fx_fiber.proofs.Numbers.{frames_up, running_named, fits_named, under_above}

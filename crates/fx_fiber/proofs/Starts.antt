@@ -24,7 +24,8 @@ use Rattle.fx_fiber.specs.Machine.{filled, progress_at, progress_of, counts_of}
 use Rattle.fx_fiber.specs.Sound.{IsNode, IsBound, IsSoundMachine, IsSoundBegin}
 use Rattle.fx_fiber.specs.Calls.{range_after}
 use Rattle.fx_fiber.specs.MakesStart.{child_begin}
-use Rattle.fx_fiber.specs.Methods.{Steps, IsSame, IsEvaluating, must_cancel_machine}
+use Rattle.fx_fiber.specs.Places.{IsSame, IsEvaluating, must_cancel_machine}
+use Rattle.fx_fiber.specs.Makes.{Steps}
 use Rattle.fx_model.proofs.AllWork.{step_leaves_less, unknown_small}
 use Rattle.fx_fiber.proofs.Keeping.{taken_fit}
 use Rattle.fx_fiber.proofs.Leaves.{levels, child, row_at, name_reaches, register_stays, named_sound, named_is}

@@ -21,7 +21,7 @@ use Rattle.fx_fiber.specs.declared.machine.focus.Focus.TheVariants.{Eval, Return
 use Rattle.fx_fiber.specs.declared.machine.Machine.{Machine}
 use Rattle.fx_fiber.specs.Machine.{inner, within, cleanup_terms_of, running, progress_at}
 use Rattle.fx_fiber.specs.Sound.{closed_outside, AreCleanupsIn, AreFramesIn, AreClosedBy, IsNode, IsSound}
-use Rattle.fx_fiber.specs.Methods.{IsEntered, IsGoing, ReturnsOut}
+use Rattle.fx_fiber.specs.Places.{IsEntered, IsGoing, ReturnsOut}
 use Rattle.fx_fiber.proofs.Contexts.{clean_up_is_closed}
 use Rattle.fx_fiber.proofs.Numbers.{cleanups_in}
 use Rattle.fx_fiber.proofs.Rules.{cancelled_step, seen_step}

@@ -5,6 +5,7 @@ use Rattle.fx_term.specs.declared.outcome.Outcome.{Outcome}
 use Rattle.fx_term.specs.declared.offered.Offered.{Offered}
 use Rattle.fx_term.specs.declared.offered.Offered.TheVariants.{Done, Full}
 use Rattle.fx_model.specs.Row.{Range}
+use Rattle.fx_model.specs.declared.source.Source.{Source}
 
 -- for each call the port and the outside before it, what it is given, its answer, and both after it; the answer of a start is the port of the child
 pub record PortCalls (P S : Type 0) : Type 1 where
@@ -15,6 +16,9 @@ pub record PortCalls (P S : Type 0) : Type 1 where
   pub takes : P → S → ℕ → Option ℕ → P → S → Type 0
   pub starts : P → S → ℕ → Begin → P → P → S → Type 0
   pub finishes : P → S → Outcome → P → S → Type 0
+  pub outsides : P → S → ℕ → P → S → Type 0
+  pub waits : P → S → Source → P → S → Type 0
+  pub wakes : S → Option ℕ → S → Type 0
 
 -- the fiber numbers that a fiber begins with
 abbrev pub first_range : Begin → Range

@@ -1,11 +1,11 @@
 -- What a fiber names, and what it keeps.
-use Rattle.std.specs.Prelude.{◌≡◌, ℕ, ◌+◌, ◌^◌, ◌<◌, ◌≤◌, nat_lt, Bool, Option, List, []}
+use Rattle.std.specs.Prelude.{◌≡◌, ℕ, ◌+◌, ◌^◌, ◌<◌, ◌≤◌, nat_lt, Bool, Option, None, List, []}
 use Rattle.fx_term.specs.declared.node.Node.{Node}
 use Rattle.fx_term.specs.declared.begin.Begin.{Begin}
 use Rattle.fx_term.specs.declared.event.Event.{Event}
 use Rattle.fx_mask.specs.Closing.{Closing}
 use Rattle.fx_frames.specs.declared.frame.Frame.{Frame}
-use Rattle.fx_model.specs.Row.{Counts, Range, range_of, Label}
+use Rattle.fx_model.specs.Row.{Counts, range_of, Label}
 use Rattle.fx_model.specs.Step.{Progress, Runs, has_ended}
 use Rattle.fx_model.specs.Run.{first_counts, IsRun, events}
 use Rattle.fx_model.specs.Origin.{Origin, origin_of}
@@ -13,13 +13,15 @@ use Rattle.fx_fiber.specs.Deed.{Deed, AreDeeds}
 use Rattle.fx_model.specs.Work.{work_left}
 use Rattle.fx_model.specs.Scopes.{IsProgressScopedOver}
 use Rattle.fx_model.specs.NeedLeft.{need_left}
+use Rattle.fx_model.specs.declared.source.Source.{Source}
 use Rattle.fx_fiber.specs.declared.machine.focus.Focus.{Focus}
 use Rattle.fx_fiber.specs.declared.machine.unwound.Unwound.{Unwound}
 use Rattle.fx_fiber.specs.declared.machine.Machine.{Machine}
 use Rattle.fx_fiber.specs.Machine.{counts_of, progress_at, progress_of}
 use Rattle.fx_fiber.specs.Sound.{IsSoundMachine}
+use Rattle.fx_fiber.specs.PortFacts.{Facts}
 
--- a fiber: its port, its trace, what it keeps beside its term, and where it stands
+-- a fiber: its port, its trace, what it keeps beside its term, where it stands, and what it last registered for and has not yielded since
 pub record FiberView (P : Type 0) : Type 0 where
   pub port : P
   pub trace : List Event
@@ -29,10 +31,11 @@ pub record FiberView (P : Type 0) : Type 0 where
   pub closed : List Closing
   pub cleanups : Option Unwound
   pub focus : Focus
+  pub source : Option Source
 
--- the fiber with this port, trace and machine
-abbrev pub fiber_at : {P : Type 0} → P → List Event → Machine → FiberView P
-fiber_at p trace s = record {
+-- the fiber with this port, trace and machine, which last registered for that
+abbrev pub fiber_at : {P : Type 0} → P → List Event → Machine → Option Source → FiberView P
+fiber_at p trace s source = record {
   port = p;
   trace = trace;
   counts = counts_of s;
@@ -41,6 +44,7 @@ fiber_at p trace s = record {
   closed = s.masks.regions;
   cleanups = s.cleanups;
   focus = s.focus;
+  source = source;
 }
 
 -- how far it is
@@ -59,6 +63,7 @@ pub record IsAtFirst {P : Type 0} (nodes : List Node) (b : Origin) (f : FiberVie
   pub trace : f.trace ≡ []
   pub counts : f.counts ≡ first_counts b
   pub progress_is : progress nodes f ≡ Runs b.term
+  pub source : f.source ≡ None
 
 -- the trace is that of a run from what the fiber began with, which leads to where it is, and the port agrees with the deeds of that run
 pub record IsLawful (nodes : List Node) (begin : Begin) (agrees : List Deed → Type 0) (trace : List Event) (counts : Counts)
@@ -75,14 +80,15 @@ abbrev pub is_fiber_number : ℕ → Bool
 is_fiber_number f = nat_lt f (2 ^ 32)
 
 -- what a fiber's parts keep: they are sound, lawful, its masks, resources and puts can be counted, its names are bound and those of fibers stand for numbers of
--- fibers, its range has room for all that it can start, and its port knows whether it has ended, and the numbers that are left
-pub record IsKept (nodes : List Node) (begin : Begin) (agrees : List Deed → Type 0) (finished : Bool) (rest : Range) (puts : ℕ)
-    (trace : List Event) (s : Machine) : Type 0 where
+-- fibers, its range has room for all that it can start and holds no number from the total on, and its port knows whether it has ended, and the numbers that
+-- are left
+pub record IsKept (nodes : List Node) (total : ℕ) (facts : Facts) (agrees : List Deed → Type 0) (trace : List Event) (s : Machine) : Type 0 where
   pub sound : IsSoundMachine nodes s
-  pub lawful : IsLawful nodes begin agrees trace (counts_of s) (progress_of nodes s)
-  pub countable : s.masks.entries + s.acquired + puts + work_left (progress_of nodes s) < 2 ^ 63
+  pub lawful : IsLawful nodes facts.beginning agrees trace (counts_of s) (progress_of nodes s)
+  pub countable : s.masks.entries + s.acquired + facts.puts + work_left (progress_of nodes s) < 2 ^ 63
   pub scoped : IsProgressScopedOver is_fiber_number (progress_of nodes s)
   pub room : s.next + need_left (progress_of nodes s) ≤ s.end
   pub word : s.end < 2 ^ 32
-  pub ended : finished ≡ has_ended (progress_of nodes s)
-  pub numbers : rest ≡ range_of (counts_of s)
+  pub within : s.end ≤ total
+  pub ended : facts.has_finished ≡ has_ended (progress_of nodes s)
+  pub numbers : facts.rest ≡ range_of (counts_of s)

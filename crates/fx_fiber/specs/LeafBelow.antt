@@ -7,7 +7,8 @@ use Rattle.fx_term.specs.Fill.{fill}
 use Rattle.fx_term.specs.Meaning.{assemble, term_of}
 use Rattle.fx_frames.specs.declared.frame.Frame.{Frame}
 use Rattle.fx_frames.specs.declared.frame.Frame.TheVariants as frame
-use Rattle.fx_fiber.specs.Methods.{IsSame, IsLeafNode, is_open_machine}
+use Rattle.fx_fiber.specs.Leaves.{IsLeafNode}
+use Rattle.fx_fiber.specs.Places.{IsSame, is_open_machine}
 use Rattle.fx_fiber.specs.declared.machine.Machine.{Machine}
 use Rattle.fx_fiber.specs.declared.machine.focus.Focus.TheVariants.{Eval}
 use Rattle.fx_fiber.specs.declared.machine.leaf_below.LeafBelow.{LeafBelow}

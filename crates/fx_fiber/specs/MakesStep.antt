@@ -10,6 +10,7 @@ use Rattle.fx_model.specs.Step.{leaf_at, must_cancel_at, looks_first, Step}
 use Rattle.fx_model.specs.Run.{events}
 use Rattle.fx_model.specs.Origin.{Origin, origin_of}
 use Rattle.fx_fiber.specs.Calls.{PortCalls}
+use Rattle.fx_fiber.specs.PortFacts.{Facts, first_facts}
 use Rattle.fx_model.specs.declared.source.Source.{Source}
 use Rattle.fx_model.specs.declared.source.Source.TheVariants.{Nothing, Outcome, Either, Room, Element}
 use Rattle.fx_model.specs.Waiting.{wait_at}
@@ -59,11 +60,30 @@ module _ {P S : Type 0} (calls : PortCalls P S) where
   PeeksLeft (Learns f o (event.First (suc n))) (Some (First (Number left) right)) p s = calls.peeks p s left None p s
   PeeksLeft _ leaf p s = Unit {0}
 
-  -- the call that starts fiber f, which begins so, over the port of the child
+  -- the refusals that a fiber had which waits so and offers this: none of what never comes, no outcome of a fiber that it asked for, no room, no element
+  abbrev pub IsRefused : ℕ → Source → P → S → Type 0
+  IsRefused n Nothing p s = Unit {0}
+  IsRefused n (Outcome f) p s = calls.peeks p s f None p s
+  IsRefused n (Either f g) p s = calls.peeks p s f None p s × calls.peeks p s g None p s
+  IsRefused n (Room q) p s = calls.offers p s q n Full p s
+  IsRefused n (Element q) p s = calls.takes p s q None p s
+
+  -- no rule, since the fiber waits for that: a look in vain, where one is due, the refusals that this stands for, and nothing has changed
+  pub record OnlyWaits (nodes : List Node) (old : FiberView P) (shared : S) (wait : Source) (new : FiberView P) (shared' : S) : Type 0 where
+    pub waits : option_and_then wait_at (leaf_at (progress nodes old)) ≡ Some wait
+    pub free : must_cancel_at old.counts.known (progress nodes old) ≡ false
+    pub looked : LooksInVain (looks_first old.counts.known (progress nodes old)) old.port shared
+    pub refused : IsRefused (value_offered (leaf_at (progress nodes old))) wait old.port shared
+    pub unchanged : IsUnchanged nodes old new
+    pub shared_is : shared' ≡ shared
+
+module _ {P S : Type 0} (calls : PortCalls P S) (facts : P → Facts) where
+  -- the call that starts fiber f, which begins so, over the port of the child, which is new, of that number and that beginning
   pub record StartsChild (nodes : List Node) (f : ℕ) (b : Origin) (child p : P) (s : S) (p' : P) (s' : S) : Type 0 where
     pub begin : Begin
     pub begins : origin_of nodes begin ≡ b
     pub told : calls.starts p s f begin child p' s'
+    pub facts_are : facts child ≡ first_facts f begin
 
   -- the call that a step at this leaf with this label and answer tells of
   abbrev pub Tells : List Node → Option Term → Label → Stepped P S → P → S → P → S → Type 0
@@ -82,8 +102,8 @@ module _ {P S : Type 0} (calls : PortCalls P S) where
   -- the calls of a step: the look that is due, what it asked for in vain, and the call that it tells of
   pub record Calls (nodes : List Node) (due : Bool) (leaf : Option Term) (label : Label) (answer : Stepped P S) (p : P) (s : S) (p' : P) (s' : S)
       : Type 0 where
-    pub looked : LooksBefore due label p s
-    pub left_first : PeeksLeft label leaf p s
+    pub looked : LooksBefore calls due label p s
+    pub left_first : PeeksLeft calls label leaf p s
     pub told : Tells nodes leaf label answer p s p' s'
 
   -- exactly one rule, with its event in the trace, its answer, and its calls
@@ -94,25 +114,7 @@ module _ {P S : Type 0} (calls : PortCalls P S) where
     pub answers : Answers nodes (leaf_at (progress nodes old)) label answer
     pub calls_are : Calls nodes (looks_first old.counts.known (progress nodes old)) (leaf_at (progress nodes old)) label answer old.port shared new.port shared'
 
-  -- the refusals that a fiber had which waits so and offers this: none of what never comes, no outcome of a fiber that it asked for, no room, no element
-  abbrev pub IsRefused : ℕ → Source → P → S → Type 0
-  IsRefused n Nothing p s = Unit {0}
-  IsRefused n (Outcome f) p s = calls.peeks p s f None p s
-  IsRefused n (Either f g) p s = calls.peeks p s f None p s × calls.peeks p s g None p s
-  IsRefused n (Room q) p s = calls.offers p s q n Full p s
-  IsRefused n (Element q) p s = calls.takes p s q None p s
-
-  -- no rule, since the fiber waits: a look in vain, where one is due, the refusals that it waits for, and nothing has changed
-  pub record OnlyWaits (nodes : List Node) (old : FiberView P) (shared : S) (new : FiberView P) (shared' : S) : Type 0 where
-    pub wait : Source
-    pub waits : option_and_then wait_at (leaf_at (progress nodes old)) ≡ Some wait
-    pub free : must_cancel_at old.counts.known (progress nodes old) ≡ false
-    pub looked : LooksInVain (looks_first old.counts.known (progress nodes old)) old.port shared
-    pub refused : IsRefused (value_offered (leaf_at (progress nodes old))) wait old.port shared
-    pub unchanged : IsUnchanged nodes old new
-    pub shared_is : shared' ≡ shared
-
   -- what a step does that answers so
   abbrev pub DoesStep : List Node → FiberView P → S → Stepped P S → FiberView P → S → Type 0
-  DoesStep nodes old shared Waits new shared' = OnlyWaits nodes old shared new shared'
+  DoesStep nodes old shared (Waits wait) new shared' = OnlyWaits calls nodes old shared wait new shared'
   DoesStep nodes old shared answer new shared' = MakesStep nodes old shared answer new shared'

@@ -1,9 +1,10 @@
 -- How what was made in a step is told: its event to the trace, and the end of the fiber to its port.
-use Rattle.std.specs.Prelude.{◌≡◌, Bool, true, List, [], ◌∷◌, ◌++◌}
+use Rattle.std.specs.Prelude.{◌≡◌, true, List, [], ◌∷◌, ◌++◌}
 use Rattle.fx_term.specs.declared.event.Event.TheVariants as event
 use Rattle.fx_term.specs.declared.outcome.Outcome.{Outcome}
 use Rattle.fx_fiber.specs.Deed.{Deed, Ended}
 use Rattle.fx_fiber.specs.Calls.{PortCalls}
+use Rattle.fx_fiber.specs.PortFacts.{Facts}
 use Rattle.fx_fiber.specs.declared.machine.made.Made.{Made}
 use Rattle.fx_fiber.specs.declared.machine.made.Made.TheVariants as made
 use Rattle.fx_fiber.specs.declared.stepped.Stepped.{Stepped}
@@ -17,15 +18,15 @@ IsMade _ = Unit {0}
 -- the answer of a step that made this
 abbrev pub answer_to : {P S : Type 0} → Made → Stepped P S
 answer_to made.Yielded = stepped.Gave
-answer_to made.Waits = stepped.Waits
+answer_to (made.Waits w) = stepped.Waits w
 answer_to (made.Shows (event.Ended o)) = stepped.Ended
 answer_to _ = stepped.Went
 
-module _ {P S : Type 0} (calls : PortCalls P S) (agrees : P → List Deed → Type 0) (finished : P → Bool) where
+module _ {P S : Type 0} (calls : PortCalls P S) (agrees : P → List Deed → Type 0) (facts : P → Facts) where
   -- the end of the fiber was told to its port
   pub record TellsEnd (o : Outcome) (p : P) (s : S) (p' : P) (s' : S) : Type 0 where
     pub told : calls.finishes p s o p' s'
-    pub finished_is : finished p' ≡ true
+    pub facts_are : facts p' ≡ record (facts p) { has_finished = true }
     pub agreed : (deeds : List Deed) → agrees p deeds → agrees p' (deeds ++ Ended o ∷ [])
 
   -- that, where this is the end, and else nothing

@@ -1,6 +1,7 @@
 //! A fiber over a port.
-ghost use Rattle.std.specs.Prelude.{◌≡◌, ◌<◌, ◌^◌, [], false, IfOk, OnErr};
+ghost use Rattle.std.specs.Prelude.{◌≡◌, ◌<◌, ◌≤◌, ◌^◌, [], true, false, Some, None, IfOk, OnErr};
 
+use crate::bare::Bare;
 use crate::begin::main_begin;
 use crate::machine::focus::Focus;
 use crate::port::Port;
@@ -11,13 +12,13 @@ use std::alloc::Global;
 use std::marker::Model;
 
 mod advance;
-mod bare;
+pub(crate) mod body;
 mod child;
 mod start;
 mod step;
 mod tell;
 
-use bare::Bare;
+use body::Body;
 use step::step;
 
 /// A fiber: a running term, what it keeps beside it, its trace, and its port. By its type the trace
@@ -26,30 +27,33 @@ use step::step;
 #[derive(Drop)]
 pub struct Fiber<P: Port> {
     port: P,
-    bare: Box<Bare>,
+    body: Box<Body>,
 }
 
 impl<P: Port> Model for Fiber<P> {
-    ghost use Rattle.std.specs.Prelude.{◌≡◌};
+    ghost use Rattle.std.specs.Prelude.{◌≡◌, ◌<◌};
     ghost use Rattle.fx_fiber.specs.Fiber.{FiberView, fiber_at, IsKept};
 
     ghost Value = { FiberView P };
 
-    ghost view = { λ f. fiber_at f.port f.bare.value.trace.items f.bare.value.machine };
+    ghost view = { λ f. fiber_at f.port f.body.value.trace.items f.body.value.machine
+        f.body.value.source };
 
-    ghost invariant = { λ f. (P.number f.port ≡ f.bare.value.id)
-        × IsKept P.code (P.beginning f.port) (P.agrees f.port) (P.has_finished f.port)
-        (P.rest f.port) (P.puts f.port) f.bare.value.trace.items f.bare.value.machine };
+    ghost invariant = { λ f. ((P.facts f.port).number ≡ f.body.value.id)
+        × IsKept P.code P.total (P.facts f.port) (P.agrees f.port) f.body.value.trace.items
+        f.body.value.machine
+        × ((P.facts f.port).number < P.total) };
 }
 
 impl<P: Port> Fiber<P> {
     ghost use Rattle.fx_term.specs.Meaning.{root_term};
     ghost use Rattle.fx_model.specs.Origin.{origin_of, main_origin, main_begin_of};
     ghost use Rattle.fx_model.specs.Run.{first_counts};
-    ghost use Rattle.fx_fiber.specs.Calls.{first_range};
+    ghost use Rattle.fx_fiber.specs.PortFacts.{first_facts};
     ghost use Rattle.fx_model.specs.Work.{work_left};
-    ghost use Rattle.fx_fiber.specs.Bare.{IsFirstBare};
+    ghost use Rattle.fx_fiber.specs.Body.{IsFirstBody};
     ghost use Rattle.fx_model.specs.Scopes.{IsScopedOver};
+    ghost use Rattle.fx_fiber.specs.Bare.{bare_of, reached};
     ghost use Rattle.fx_model.specs.NeedLeft.{HasRoom};
     ghost use Rattle.fx_fiber.specs.Fiber.{is_fiber_number, IsAtFirst, IsLawful, IsUnchanged, progress};
     ghost use Rattle.fx_fiber.specs.MakesStep.{DoesStep};
@@ -64,11 +68,8 @@ impl<P: Port> Fiber<P> {
     where
         P: Drop,
         requires code { code.now.nodes ≡ P.code }
-        requires number { P.number port ≡ 0 }
-        requires beginning { P.beginning port ≡ main_begin_of code.now.nodes }
-        requires rest { P.rest port ≡ first_range (main_begin_of code.now.nodes) }
-        requires going { P.has_finished port ≡ false }
-        requires puts { P.puts port ≡ 0 }
+        requires facts { P.facts port ≡ first_facts 0 (main_begin_of code.now.nodes) }
+        requires total { (main_begin_of code.now.nodes).end ≤ P.total }
         requires fresh { P.agrees port [] }
         ensures port { IfOk result (λ fiber. fiber.port ≡ port) }
         ensures trace { IfOk result (λ fiber. fiber.trace ≡ []) }
@@ -76,34 +77,36 @@ impl<P: Port> Fiber<P> {
             (λ fiber. fiber.counts ≡ first_counts (main_origin (root_term code.now.nodes))) }
         ensures progress { IfOk result
             (λ fiber. progress code.now.nodes fiber ≡ Runs (root_term code.now.nodes)) }
+        ensures source { IfOk result (λ fiber. fiber.source ≡ None) }
     {
         let begin = main_begin(alloc, code);
-        let bare = Bare::beginning(alloc, 0, &begin)?;
-        Ok(Fiber::beginning(port, bare))
+        let body = Body::beginning(alloc, 0, &begin)?;
+        Ok(Fiber::beginning(port, body))
     }
 
     /// The fiber over this port before its first step.
-    pub(crate) fn beginning(port: P, bare: Box<Bare>) -> Fiber<P>
-        requires bare { IsFirstBare P.code (P.number port) (P.beginning port) bare.value }
-        requires countable { work_left (Runs (origin_of P.code (P.beginning port)).term) < 2 ^ 63 }
-        requires scoped { IsScopedOver is_fiber_number (origin_of P.code (P.beginning port)).term }
-        requires room { HasRoom (origin_of P.code (P.beginning port)) }
-        requires word { (P.beginning port).end < 2 ^ 32 }
-        requires rest { P.rest port ≡ first_range (P.beginning port) }
-        requires going { P.has_finished port ≡ false }
-        requires puts { P.puts port ≡ 0 }
+    pub(crate) fn beginning(port: P, body: Box<Body>) -> Fiber<P>
+        requires body { IsFirstBody P.code (P.facts port).number (P.facts port).beginning body.value }
+        requires countable { work_left (Runs (origin_of P.code (P.facts port).beginning).term) < 2 ^ 63 }
+        requires scoped { IsScopedOver is_fiber_number (origin_of P.code (P.facts port).beginning).term }
+        requires room { HasRoom (origin_of P.code (P.facts port).beginning) }
+        requires word { (P.facts port).beginning.end < 2 ^ 32 }
+        requires within { (P.facts port).beginning.end ≤ P.total }
+        requires below { (P.facts port).number < P.total }
+        requires facts { P.facts port ≡ first_facts (P.facts port).number (P.facts port).beginning }
         requires fresh { P.agrees port [] }
         ensures port { result.port ≡ port }
-        ensures first { IsAtFirst P.code (origin_of P.code (P.beginning port)) result }
+        ensures first { IsAtFirst P.code (origin_of P.code (P.facts port).beginning) result }
     {
-        Fiber { port, bare }
+        Fiber { port, body }
     }
 
     /// The fiber's number.
     pub fn id(&self) -> u32
-        ensures { result ≡ P.number self.now.port }
+        ensures is { result ≡ (P.facts self.now.port).number }
+        ensures below { result < P.total }
     {
-        self.bare.id
+        self.body.id
     }
 
     /// The events so far, the first one first, where the fiber is not needed any more.
@@ -112,43 +115,90 @@ impl<P: Port> Fiber<P> {
         P: Drop,
         ensures { result.items ≡ self.trace }
     {
-        Box::into_inner(self.bare).trace
+        Box::into_inner(self.body).trace
     }
 
     /// The events so far, the first one first.
     pub fn trace(&self) -> &[Event]
         ensures events { result.now ≡ self.now.trace }
-        ensures lawful { IsLawful P.code (P.beginning self.now.port) (P.agrees self.now.port)
+        ensures lawful { IsLawful P.code (P.facts self.now.port).beginning (P.agrees self.now.port)
             self.now.trace self.now.counts (progress P.code self.now) }
     {
-        &self.bare.trace
+        &self.body.trace
     }
 
     /// Whether the fiber has ended.
     pub fn has_ended(&self) -> bool
         ensures ended { result ≡ has_ended (progress P.code self.now) }
-        ensures finished { result ≡ P.has_finished self.now.port }
+        ensures finished { result ≡ (P.facts self.now.port).has_finished }
     {
-        matches!(self.bare.machine.focus, Focus::Ended(_))
+        matches!(self.body.machine.focus, Focus::Ended(_))
     }
 
     /// Whether the fiber can step where the outside is as a run left it: it has not ended, and is due to
     /// be canceled, or has a request to see, or what its leaf waits for is there. It makes no step.
     pub fn can_step(&self, code: &Code, closed: &Closed) -> bool
         requires code { code.now.nodes ≡ P.code }
-        ensures { result ≡ can_step (outside_of closed.now) (P.number self.now.port)
+        ensures { result ≡ can_step (outside_of closed.now) (P.facts self.now.port).number
             self.now.counts (progress P.code self.now) }
     {
-        self.bare.machine.can_step(code, self.id(), closed)
+        self.body.machine.can_step(code, self.id(), closed)
     }
 
-    /// What the fiber waits for where it stands, if that is a place where a fiber can wait. After a step
-    /// that answered that it waits, it is that for which it does.
+    /// What the fiber waits for where it stands, if that is a place where a fiber can wait. A step that
+    /// answers that the fiber waits answers this too.
     pub fn waits_for(&self, code: &Code) -> Option<Source>
         requires code { code.now.nodes ≡ P.code }
         ensures { result ≡ option_and_then wait_at (leaf_at (progress P.code self.now)) }
     {
-        self.bare.machine.waits_for(code)
+        self.body.machine.waits_for(code)
+    }
+
+    /// What the fiber last registered for, if it has not yielded since.
+    pub fn source(&self) -> Option<Source>
+        ensures { result ≡ self.now.source }
+    {
+        self.body.source
+    }
+
+    /// Registers the fiber with what it waits for, by its port.
+    pub fn wait_on(&mut self, shared: &mut P::Shared, source: Source)
+        ensures told { P.calls.waits self.old.port shared.old source self.new.port shared.new }
+        ensures same { self.new ≡ record self.old { port = self.new.port; source = Some source } }
+        ensures facts { P.facts self.new.port ≡ P.facts self.old.port }
+    {
+        self.port.wait_on(shared, source);
+        self.body.source = Some(source);
+    }
+
+    /// Notes that the fiber yielded, so that it counts as registered for nothing.
+    pub fn yields(&mut self)
+        ensures { self.new ≡ record self.old { source = None } }
+    {
+        self.body.source = None;
+    }
+
+    /// Requests the cancellation of a fiber from outside, by this fiber's port, and changes nothing else.
+    pub fn outside(&mut self, shared: &mut P::Shared, id: u32)
+        requires may { P.may id ≡ true }
+        ensures told { P.calls.outsides self.old.port shared.old id self.new.port shared.new }
+        ensures same { self.new ≡ record self.old { port = self.new.port } }
+        ensures facts { P.facts self.new.port ≡ P.facts self.old.port }
+    {
+        self.port.outside(shared, id);
+    }
+
+    /// The fiber without its port, and the port.
+    pub fn part(self, code: &Code) -> (Bare, P)
+        requires code { code.now.nodes ≡ P.code }
+        ensures port { result.1 ≡ self.port }
+        ensures bare { result.0 ≡ bare_of P.code (P.facts self.port).number self }
+        ensures lawful { IsLawful P.code (P.facts result.1).beginning (P.agrees result.1)
+            result.0.trace result.0.counts (reached result.0) }
+        ensures finished { (P.facts result.1).has_finished ≡ has_ended (reached result.0) }
+    {
+        let Fiber { port, body } = self;
+        (Bare::new(body, code), port)
     }
 
     /// Makes exactly one rule; or answers that the fiber waits, and has changed nothing. Room for what
@@ -157,13 +207,14 @@ impl<P: Port> Fiber<P> {
     pub fn step(&mut self, code: &Code, shared: &mut P::Shared) -> Result<Stepped<P>, Memory>
         requires code { code.now.nodes ≡ P.code }
         requires going { has_ended (progress P.code self.old) ≡ false }
-        ensures ok { IfOk result (λ answer. DoesStep P.calls P.code
+        ensures ok { IfOk result (λ answer. DoesStep P.calls P.facts P.code
             self.old shared.old answer self.new shared.new) }
         ensures err { OnErr result
             (IsUnchanged P.code self.old self.new × (shared.new ≡ shared.old)) }
-        ensures number { P.number self.new.port ≡ P.number self.old.port }
-        ensures beginning { P.beginning self.new.port ≡ P.beginning self.old.port }
+        ensures number { (P.facts self.new.port).number ≡ (P.facts self.old.port).number }
+        ensures beginning { (P.facts self.new.port).beginning ≡ (P.facts self.old.port).beginning }
+        ensures source { self.new.source ≡ self.old.source }
     {
-        step(&mut self.port, &mut self.bare, code, shared)
+        step(&mut self.port, &mut self.body, code, shared)
     }
 }

@@ -44,9 +44,23 @@
 //! the machine, since it makes a fiber over a port of its own.
 //!
 //! The answer of a step is [`Stepped::Gave`] exactly where its rule is `cede`, [`Stepped::Waits`]
-//! exactly where it made none, and [`Stepped::Child`] where it started a fiber. A fiber that waits at an
-//! open place looks in each step, so a request is seen there; where something closes the place only
-//! what it waits for lets it go on.
+//! exactly where it made none, with what the fiber waits for, and [`Stepped::Child`] where it started
+//! one. A fiber that waits at an open place looks in each step, so a request is seen there; where
+//! something closes the place only what it waits for lets it go on.
+//!
+//! A [`Turn`] is a future, of which one poll steps the fiber until one of these comes first:
+//!
+//! | a step answers | the poll is |
+//! |---|---|
+//! | it started a fiber | ready, with that fiber |
+//! | the fiber has ended | ready |
+//! | memory was refused | ready; the fiber stands as after its last step |
+//! | it gave way (`cede`) | pending, a yield |
+//! | it waits, and waited in the step before, after which it was registered | pending, a wait |
+//! | none of these in 64 steps | pending, a yield |
+//!
+//! Where a step waits for the first time the fiber is registered with what it waits for, and steps once
+//! more, so that what came in between is not missed. [`Fiber::source`] tells a wait from a yield.
 //!
 //! Whether a fiber could step is told without a step too, by the lists that a run left ([`Closed`]).
 //!
@@ -55,17 +69,23 @@
 //!
 //! What never happens: a row of the table at an open place before a look in that step; an event that
 //! is made and not in the trace; a change where memory runs out or the fiber waits; a call to the
-//! depth of a term.
+//! depth of a term; a yield without a step; a step after `cede` in the same poll.
 #![tactic(auto)]
 
+mod bare;
 mod begin;
 mod fiber;
 mod machine;
 mod port;
 mod stepped;
+mod turn;
+mod turned;
 
+pub use bare::Bare;
 pub use begin::main_begin;
 pub use fiber::Fiber;
 pub use fx_model::{Closed, FiberReport, Report, Source, State, laws};
 pub use port::Port;
 pub use stepped::Stepped;
+pub use turn::Turn;
+pub use turned::Turned;

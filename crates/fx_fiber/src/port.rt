@@ -3,19 +3,99 @@ ghost use Rattle.std.specs.Prelude.{◌≡◌, ℕ, ◌<◌, ◌^◌, Bool, true
 ghost use Rattle.std.specs.Prelude.{IfSome, IfOk, IfNone, OnErr};
 ghost use Rattle.std.specs.Bool.{OnTrue, OnFalse};
 ghost use Rattle.fx_term.specs.declared.node.Node.{Node};
-ghost use Rattle.fx_term.specs.declared.begin.Begin.{Begin};
 ghost use Rattle.fx_fiber.specs.Deed.{Deed, Started, Requested, Saw, Got, FoundEmpty, FoundEnded, Ended};
 ghost use Rattle.fx_fiber.specs.Deed.{deed_of_offer};
-ghost use Rattle.fx_fiber.specs.Calls.{PortCalls, HasRange, first_range, range_after};
-ghost use Rattle.fx_model.specs.Row.{Range};
-ghost use Rattle.fx_fiber.specs.Calls.{puts_after, OnFull};
+ghost use Rattle.fx_fiber.specs.Calls.{PortCalls, HasRange, range_after, puts_after, OnFull};
+ghost use Rattle.fx_fiber.specs.PortFacts.{Facts, first_facts};
 
+use fx_model::Source;
 use fx_term::{Begin, Memory, Offered, Outcome};
 
 /// The port of one fiber: the calls by which the fiber reaches the outside. Its type names
 /// the one code that its fibers run. Contracts know a call by its relation, and by the deed that it
 /// adds to those that the port agrees with; the deeds are stored nowhere. A call that answers false,
 /// none, full or want of memory has changed neither the port nor what is shared.
+///
+/// # To write a port
+///
+/// The ghost members say what contracts know of a port. `code`, `total`, `may` and `calls` are of its type,
+/// the others of a value:
+///
+/// | member | what it is |
+/// |---|---|
+/// | `code` | the nodes of the code, mostly `J.nodes` of a type `J` that names it |
+/// | `total` | a number above that of each fiber, as the end of the main fiber's range |
+/// | `may` | which numbers `outside` may be called with: some at least, since the checker takes no contract that no call can meet |
+/// | `facts` | whose port it is, and how far its fiber has come by it: a record of the five below |
+/// | `agrees` | what the port says of its fiber's deeds: of none at first, and of one more with each deed; `Unit {0}` where the calls say all |
+/// | `calls` | what each call does, by port and shared before it, what is given and answered, and both after it; a caller knows no more |
+///
+/// The facts of a port, which are `first_facts` at first:
+///
+/// | fact | what it is |
+/// |---|---|
+/// | `number`, `beginning` | the fiber's number, and what it began with; no call changes them |
+/// | `rest` | the numbers left for the fibers that it starts: at first the range of `beginning`; a start takes a child's number and range |
+/// | `has_finished` | false at first, and true from `finish` on |
+/// | `puts` | 0 at first, and one more with each `offer` that is done |
+///
+/// Each call owes that it does what `calls` says of it, that the facts are as before but where this table
+/// says otherwise, and its deed:
+///
+/// | call | its deed | what else it owes |
+/// |---|---|---|
+/// | `look` | `Saw`, where true | nothing has changed where false |
+/// | `request` | `Requested` | |
+/// | `peek` | `FoundEnded`, where there is an outcome | nothing has changed where there is none |
+/// | `offer` | `Put`, or `FoundFull` | `puts` is one more where done; nothing has changed where full, or where memory ran out |
+/// | `take` | `Got`, or `FoundEmpty` | nothing has changed where there is no element |
+/// | `start` | `Started` | a new port for the child; `rest` begins after the child's range; nothing has changed where memory ran out |
+/// | `finish` | `Ended` | `has_finished` |
+/// | `outside`, `wait_on` | none | `agrees` holds of the deeds as before |
+/// | `woken` | none, since it is no fiber's | its answer is below `total` |
+///
+/// A new port, the child's or the main fiber's, has the first facts of the number and the beginning that are
+/// asked for, and agrees with no deed.
+///
+/// The port of a fiber that is alone: nobody requests it, no other takes a step, and there is no queue.
+///
+/// ```text
+/// impl<J: CodeBrand> Port for Alone<J> {
+///     type Shared = Global;
+///
+///     ghost code = { J.nodes };
+///     ghost total = { 2 ^ 32 };
+///     ghost facts = { λ p. record {
+///       number = p.id;
+///       beginning = p.begin;
+///       rest = record { next = p.next; end = p.begin.end };
+///       has_finished = p.has_ended;
+///       puts = 0;
+///     } };
+///     ghost agrees = { λ p deeds. Unit {0} };
+///     ghost may = { λ id. true };
+///     ghost calls = { record {
+///       looks = λ p s found p' s'. (found ≡ false) × (p' ≡ p) × (s' ≡ s);
+///       requests = λ p s id p' s'. (p' ≡ p) × (s' ≡ s);
+///       starts = λ p s id begin child p' s'. (p' ≡ record p { next = begin.end }) × (s' ≡ s);
+///       ..
+///     } };
+///
+///     fn look(&mut self, _alloc: &mut Global) -> bool {
+///         false
+///     }
+///
+///     fn request(&mut self, _alloc: &mut Global, _id: u32) {}
+///
+///     fn start(&mut self, alloc: &mut Global, id: u32, begin: &Begin) -> Result<Alone<J>, Memory> {
+///         let child = Alone::new(id, begin.copied(*alloc)?);
+///         self.next = begin.end;
+///         Ok(child)
+///     }
+///
+///     ..
+/// }
+/// ```
 pub trait Port: Sized {
     /// What the ports of one place have in common, lent to each call.
     type Shared;
@@ -23,24 +103,18 @@ pub trait Port: Sized {
     // the nodes of the code
     ghost code: { List Node };
 
-    // the fiber's number
-    ghost number: { Self → ℕ };
+    // above the number of each fiber
+    ghost total: { ℕ };
 
-    // what the fiber began with
-    ghost beginning: { Self → Begin };
-
-    // the end was told
-    ghost has_finished: { Self → Bool };
-
-    // the numbers that are left for the fibers that it starts
-    ghost rest: { Self → Range };
-
-    // how many elements the fiber has put into queues
-    ghost puts: { Self → ℕ };
+    // whose port it is, and how far its fiber has come by it
+    ghost facts: { Self → Facts };
 
     // what the port says of the deeds of its fiber: that of no deed is asked where a fiber is made,
     // and each call keeps it by its deed
     ghost agrees: { Self → List Deed → Type 0 };
+
+    // the numbers of the fibers that may be requested from outside
+    ghost may: { ℕ → Bool };
 
     // what each call does
     ghost calls: { PortCalls Self Self.Shared };
@@ -48,11 +122,7 @@ pub trait Port: Sized {
     /// Whether the fiber's cancellation is requested.
     fn look(&mut self, shared: &mut Self::Shared) -> bool
         ensures told { calls.looks self.old shared.old result self.new shared.new }
-        ensures number { number self.new ≡ number self.old }
-        ensures beginning { beginning self.new ≡ beginning self.old }
-        ensures rest { rest self.new ≡ rest self.old }
-        ensures finished { has_finished self.new ≡ has_finished self.old }
-        ensures puts { puts self.new ≡ puts self.old }
+        ensures facts { facts self.new ≡ facts self.old }
         ensures deed { OnTrue result ((deeds : List Deed)
             → agrees self.old deeds → agrees self.new (deeds ++ Saw ∷ [])) }
         ensures unchanged { OnFalse result ((self.new ≡ self.old) × (shared.new ≡ shared.old)) };
@@ -60,22 +130,14 @@ pub trait Port: Sized {
     /// Requests the cancellation of a fiber, whatever its number is.
     fn request(&mut self, shared: &mut Self::Shared, id: u32)
         ensures told { calls.requests self.old shared.old id self.new shared.new }
-        ensures number { number self.new ≡ number self.old }
-        ensures beginning { beginning self.new ≡ beginning self.old }
-        ensures rest { rest self.new ≡ rest self.old }
-        ensures finished { has_finished self.new ≡ has_finished self.old }
-        ensures puts { puts self.new ≡ puts self.old }
+        ensures facts { facts self.new ≡ facts self.old }
         ensures deed { (deeds : List Deed)
             → agrees self.old deeds → agrees self.new (deeds ++ Requested id ∷ []) };
 
     /// The outcome of a fiber, if it has ended, whatever its number is.
     fn peek(&mut self, shared: &mut Self::Shared, id: u32) -> Option<Outcome>
         ensures told { calls.peeks self.old shared.old id result self.new shared.new }
-        ensures number { number self.new ≡ number self.old }
-        ensures beginning { beginning self.new ≡ beginning self.old }
-        ensures rest { rest self.new ≡ rest self.old }
-        ensures finished { has_finished self.new ≡ has_finished self.old }
-        ensures puts { puts self.new ≡ puts self.old }
+        ensures facts { facts self.new ≡ facts self.old }
         ensures deed { IfSome result (λ outcome. (deeds : List Deed)
             → agrees self.old deeds → agrees self.new (deeds ++ FoundEnded id outcome ∷ [])) }
         ensures unchanged { IfNone result ((self.new ≡ self.old) × (shared.new ≡ shared.old)) };
@@ -83,14 +145,11 @@ pub trait Port: Sized {
     /// Puts this value at the back of a queue, where it has room (`tryOffer`). A queue that there is
     /// not has none.
     fn offer(&mut self, shared: &mut Self::Shared, queue: u8, value: u64) -> Result<Offered, Memory>
-        requires countable { puts self.old < 2 ^ 63 }
+        requires countable { (facts self.old).puts < 2 ^ 63 }
         ensures told { IfOk result (λ answer.
             calls.offers self.old shared.old queue value answer self.new shared.new) }
-        ensures number { number self.new ≡ number self.old }
-        ensures beginning { beginning self.new ≡ beginning self.old }
-        ensures rest { rest self.new ≡ rest self.old }
-        ensures finished { has_finished self.new ≡ has_finished self.old }
-        ensures puts { IfOk result (λ answer. puts self.new ≡ puts_after answer (puts self.old)) }
+        ensures facts { IfOk result (λ answer. facts self.new
+            ≡ record (facts self.old) { puts = puts_after answer (facts self.old).puts }) }
         ensures deed { IfOk result (λ answer. (deeds : List Deed) → agrees self.old deeds
             → agrees self.new (deeds ++ deed_of_offer queue value answer ∷ [])) }
         ensures full { IfOk result (λ answer. OnFull answer
@@ -100,11 +159,7 @@ pub trait Port: Sized {
     /// Takes the front of a queue, if it has one (`tryTake`). A queue that there is not has none.
     fn take(&mut self, shared: &mut Self::Shared, queue: u8) -> Option<u64>
         ensures told { calls.takes self.old shared.old queue result self.new shared.new }
-        ensures number { number self.new ≡ number self.old }
-        ensures beginning { beginning self.new ≡ beginning self.old }
-        ensures rest { rest self.new ≡ rest self.old }
-        ensures finished { has_finished self.new ≡ has_finished self.old }
-        ensures puts { puts self.new ≡ puts self.old }
+        ensures facts { facts self.new ≡ facts self.old }
         ensures deed { IfSome result (λ value. (deeds : List Deed)
             → agrees self.old deeds → agrees self.new (deeds ++ Got queue value ∷ [])) }
         ensures empty { IfNone result ((deeds : List Deed)
@@ -114,35 +169,43 @@ pub trait Port: Sized {
     /// The port of a child that begins so. The child has the first number that is left, and its range
     /// follows that; what comes after its range is left for other children.
     fn start(&mut self, shared: &mut Self::Shared, id: u32, begin: &Begin) -> Result<Self, Memory>
-        requires range { HasRange (rest self.old) id begin.now }
-        requires going { has_finished self.old ≡ false }
+        requires range { HasRange (facts self.old).rest id begin.now }
+        requires going { (facts self.old).has_finished ≡ false }
         ensures told { IfOk result (λ child.
             calls.starts self.old shared.old id begin.now child self.new shared.new) }
-        ensures child_number { IfOk result (λ child. number child ≡ id) }
-        ensures child_beginning { IfOk result (λ child. beginning child ≡ begin.now) }
-        ensures child_rest { IfOk result (λ child. rest child ≡ first_range begin.now) }
-        ensures child_finished { IfOk result (λ child. has_finished child ≡ false) }
-        ensures child_puts { IfOk result (λ child. puts child ≡ 0) }
+        ensures child_facts { IfOk result (λ child. facts child ≡ first_facts id begin.now) }
         ensures child_fresh { IfOk result (λ child. agrees child []) }
-        ensures number { number self.new ≡ number self.old }
-        ensures beginning { beginning self.new ≡ beginning self.old }
-        ensures rest { IfOk result
-            (λ child. rest self.new ≡ range_after begin.now (rest self.old)) }
-        ensures finished { has_finished self.new ≡ has_finished self.old }
-        ensures puts { puts self.new ≡ puts self.old }
+        ensures facts { IfOk result (λ child. facts self.new
+            ≡ record (facts self.old) { rest = range_after begin.now (facts self.old).rest }) }
         ensures deed { IfOk result (λ child. (deeds : List Deed)
             → agrees self.old deeds → agrees self.new (deeds ++ Started id begin.now ∷ [])) }
         ensures unchanged { OnErr result ((self.new ≡ self.old) × (shared.new ≡ shared.old)) };
 
     /// Tells the outside how the fiber ended.
     fn finish(&mut self, shared: &mut Self::Shared, outcome: Outcome)
-        requires going { has_finished self.old ≡ false }
+        requires going { (facts self.old).has_finished ≡ false }
         ensures told { calls.finishes self.old shared.old outcome self.new shared.new }
-        ensures number { number self.new ≡ number self.old }
-        ensures beginning { beginning self.new ≡ beginning self.old }
-        ensures rest { rest self.new ≡ rest self.old }
-        ensures finished { has_finished self.new ≡ true }
-        ensures puts { puts self.new ≡ puts self.old }
+        ensures facts { facts self.new ≡ record (facts self.old) { has_finished = true } }
         ensures deed { (deeds : List Deed)
             → agrees self.old deeds → agrees self.new (deeds ++ Ended outcome ∷ []) };
+
+    /// Requests the cancellation of a fiber from outside, whatever its number is. It is no deed of this
+    /// port's fiber.
+    fn outside(&mut self, shared: &mut Self::Shared, id: u32)
+        requires may { may id ≡ true }
+        ensures told { calls.outsides self.old shared.old id self.new shared.new }
+        ensures facts { facts self.new ≡ facts self.old }
+        ensures deed { (deeds : List Deed) → agrees self.old deeds → agrees self.new deeds };
+
+    /// Registers the fiber with what it waits for, so that it is woken once that may have come. It is no
+    /// deed.
+    fn wait_on(&mut self, shared: &mut Self::Shared, source: Source)
+        ensures told { calls.waits self.old shared.old source self.new shared.new }
+        ensures facts { facts self.new ≡ facts self.old }
+        ensures deed { (deeds : List Deed) → agrees self.old deeds → agrees self.new deeds };
+
+    /// Takes out the number of a fiber that is to be woken, if one is noted.
+    fn woken(shared: &mut Self::Shared) -> Option<u32>
+        ensures told { calls.wakes shared.old result shared.new }
+        ensures below { IfSome result (λ id. id < total) };
 }

@@ -2,6 +2,7 @@
 
 use crate::fiber::Fiber;
 use crate::port::Port;
+use fx_model::Source;
 
 /// What a step of a fiber did.
 #[derive(Drop)]
@@ -10,8 +11,8 @@ pub enum Stepped<P: Port> {
     Went,
     /// It started this fiber, and goes on.
     Child(Fiber<P>),
-    /// It made no rule, since the fiber waits; nothing has changed.
-    Waits,
+    /// It made no rule, since the fiber waits for that; nothing has changed.
+    Waits(Source),
     /// It made the rule of `cede`: the fiber goes on, after others.
     Gave,
     /// It made the last rule: the fiber has ended.

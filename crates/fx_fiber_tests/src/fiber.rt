@@ -1,9 +1,9 @@
 //! Runs of one fiber over a port that is requested at some look, and their traces, counted by hand from
 //! the table.
-ghost use Rattle.std.specs.Prelude.{◌≡◌, Some, None, is_some, ◌||◌, List};
+ghost use Rattle.std.specs.Prelude.{◌≡◌, ◌^◌, true, Some, None, is_some, ◌||◌, List};
 ghost use Rattle.fx_term.specs.declared.node.Node.{Node};
 
-use fx_fiber::{Closed, Fiber, Port, Stepped, main_begin};
+use fx_fiber::{Closed, Fiber, Port, Source, Stepped, main_begin};
 use fx_term::{Arg, Begin, Code, CodeBrand, Event, Memory, Node, NodeId, Offered, Outcome};
 use std::alloc::Global;
 use std::cell::Cell;
@@ -53,16 +53,19 @@ mod fibers;
 mod leaves;
 mod loops;
 mod masking;
+mod parting;
 mod queues;
 mod resources;
 mod unwinding;
 
-/// How many looks there were, at which the fiber is requested, from 1 on, and the end that was told.
+/// How many looks there were, at which the fiber is requested, from 1 on, the end that was told, and what
+/// was last registered for.
 #[derive(Drop)]
 struct Looks {
     made: Cell<u32>,
     request: Option<u32>,
     told: Cell<Option<Outcome>>,
+    registered: Cell<Option<Source>>,
 }
 
 impl Looks {
@@ -72,13 +75,14 @@ impl Looks {
             made: Cell::new(0),
             request,
             told: Cell::new(None),
+            registered: Cell::new(None),
         }
     }
 }
 
 /// A port that answers one look at most with a request, and keeps the end that it was told. No other
-/// fiber takes a step, so none has ended, and none sees what is requested of it. Queue 0 has room for
-/// one element; there is no other, so each other one is full, and empty.
+/// fiber takes a step, so none has ended, none sees what is requested of it, and none is woken. Queue 0 has
+/// room for one element; there is no other, so each other one is full, and empty.
 #[derive(Drop)]
 struct TestPort<J: CodeBrand> {
     alloc: Global,
@@ -119,13 +123,19 @@ impl<J: CodeBrand> Port for TestPort<J> {
 
     ghost code = { J.nodes };
 
-    ghost number = { λ p. p.id };
+    ghost total = { 2 ^ 32 };
 
-    ghost beginning = { λ p. p.begin };
-
-    ghost has_finished = { λ p. is_some p.told };
+    ghost facts = { λ p. record {
+      number = p.id;
+      beginning = p.begin;
+      rest = record { next = p.rest; end = p.begin.end };
+      has_finished = is_some p.told;
+      puts = p.puts;
+    } };
 
     ghost agrees = { λ p deeds. Unit {0} };
+
+    ghost may = { λ id. true };
 
     ghost calls = { record {
       looks = λ p s answer p' s'. (p' ≡ record p { saw = answer || p.saw }) × (s' ≡ s);
@@ -135,11 +145,10 @@ impl<J: CodeBrand> Port for TestPort<J> {
       takes = λ p s queue answer p' s'. Unit {0};
       starts = λ p s id begin child p' s'. (child.begin ≡ begin) × (p' ≡ record p { rest = begin.end }) × (s' ≡ s);
       finishes = λ p s outcome p' s'. (p' ≡ record p { told = Some outcome }) × (s' ≡ s);
+      outsides = λ p s id p' s'. p' ≡ p;
+      waits = λ p s source p' s'. (p' ≡ p) × (s' ≡ s);
+      wakes = λ s woken s'. (woken ≡ None) × (s' ≡ s);
     } };
-
-    ghost rest = { λ p. record { next = p.rest; end = p.begin.end } };
-
-    ghost puts = { λ p. p.puts };
 
     fn look(&mut self, looks: &mut Looks) -> bool {
         let number = looks.made.get().saturating_add(1);
@@ -185,6 +194,20 @@ impl<J: CodeBrand> Port for TestPort<J> {
         self.told = Some(outcome);
         looks.told.set(Some(outcome));
     }
+
+    fn outside(&mut self, looks: &mut Looks, id: u32) {
+        if id == self.id {
+            looks.request = Some(0);
+        }
+    }
+
+    fn wait_on(&mut self, looks: &mut Looks, source: Source) {
+        looks.registered.set(Some(source));
+    }
+
+    fn woken(_looks: &mut Looks) -> Option<u32> {
+        None
+    }
 }
 
 /// What a step answered, without the fiber that it started.
@@ -201,7 +224,7 @@ fn answer_of<P: Port>(stepped: &Stepped<P>) -> Answer {
     match stepped {
         Stepped::Went => Answer::Went,
         Stepped::Child(_) => Answer::Child,
-        Stepped::Waits => Answer::Waits,
+        Stepped::Waits(_) => Answer::Waits,
         Stepped::Gave => Answer::Gave,
         Stepped::Ended => Answer::Ended,
     }

@@ -6,32 +6,12 @@ use Rattle.std.proofs.lemmas.List.Elements.{filter_map-append}
 use Rattle.std.proofs.lemmas.Map.Keys.{IsDistinct-cons}
 use Rattle.fx_term.specs.Term.{Term}
 use Rattle.fx_model.specs.Origin.{Origin}
-use Rattle.fx_model.specs.Row.{Counts, Label, Row}
-use Rattle.fx_model.specs.Row as row
-use Rattle.fx_model.specs.Step.{Progress, Step}
-use Rattle.fx_model.specs.Step as step
+use Rattle.fx_model.specs.Row.{Counts, Label}
+use Rattle.fx_model.specs.Step.{Progress}
 use Rattle.fx_model.specs.Run.{first_counts, Leads, IsRun, events}
 use Rattle.fx_model.specs.Balanced.{acquired_number, acquired_numbers}
 use Rattle.fx_model.proofs.Runs.{events_append}
-
--- the labels acquire the numbers from the one count to below the other
-record IsNumbered (ls : List Label) (c d : Counts) : Type 0 where
-  pub count : ℕ
-  pub after : d.acquired ≡ c.acquired + count
-  pub numbers : acquired_numbers (events ls) ≡ range_with_len c.acquired count
-
-none_acquired : {ls : List Label} {c d : Counts} → d.acquired ≡ c.acquired → acquired_numbers (events ls) ≡ [] → IsNumbered ls c d
-none_acquired same none = record { count = 0; after = omega arith; numbers = none }
-
-row_numbers : {k : Bool} {c d : Counts} {l : Label} {t t' : Term} → Row k c t l d t' → IsNumbered (l ∷ []) c d
-row_numbers row.acquired = record { count = 1; after = refl; numbers = refl }
-row_numbers (row.inside f e g r) = row_numbers r
-row_numbers _ = none_acquired refl refl
-
-step_numbers : {c d : Counts} {p q : Progress} {l : Label} → Step c p l d q → IsNumbered (l ∷ []) c d
-step_numbers (step.row m r) = row_numbers r
-step_numbers (step.cleans r) = row_numbers r
-step_numbers _ = none_acquired refl refl
+use Rattle.fx_model.proofs.StepLabels.{IsNumbered, none_acquired, step_tells}
 
 range_append : (a b n m : ℕ) → b ≡ a + n → range_with_len a n ++ range_with_len b m ≡ range_with_len a (n + m)
 range_append a b zero m e = let p : b ≡ a = omega arith in let q : 0 + m ≡ m = omega arith in rw (p, q) refl
@@ -54,7 +34,7 @@ numbered_append ls ms c e d first rest =
 
 leads_numbers : (c d : Counts) (p q : Progress) (ls : List Label) → Leads c p ls d q → IsNumbered ls c d
 leads_numbers c d p q [] r = rw r.0 (none_acquired refl refl)
-leads_numbers c d p q (l ∷ ls) r = numbered_append (l ∷ []) ls c r.0 d (step_numbers r.2) (leads_numbers r.0 d r.1 q ls r.3)
+leads_numbers c d p q (l ∷ ls) r = numbered_append (l ∷ []) ls c r.0 d (step_tells r.2).numbered (leads_numbers r.0 d r.1 q ls r.3)
 
 -- a fiber's resources have the numbers 0, 1, 2 and so on, as many as it acquired
 pub acquired_in_order : (b : Origin) (ls : List Label) (d : Counts) (q : Progress) → IsRun b ls d q → acquired_numbers (events ls) ≡ range_with_len 0 d.acquired

@@ -9,6 +9,7 @@ use Rattle.fx_model.specs.Row as row
 use Rattle.fx_model.specs.Step.{Progress, Runs, Step}
 use Rattle.fx_model.specs.Step as step
 use Rattle.fx_model.specs.Work.{work, work_left}
+use Rattle.fx_model.proofs.StepLabels.{row_tells}
 use Rattle.fx_model.proofs.Work.{work_put, work_plug, row_lowers, step_lowers}
 
 -- a request that is not known can be seen once
@@ -29,15 +30,9 @@ pub unknown_small : (b : Bool) → unknown b ≤ 1
 unknown_small true = omega arith
 unknown_small false = omega arith
 
-known_lowers : (b : Bool) → unknown true ≤ unknown b
-known_lowers true = omega arith
-known_lowers false = omega arith
-
--- no row of the table forgets a request
-row_known : {k : Bool} {c d : Counts} {l : Label} {t t' : Term} → Row k c t l d t' → unknown d.known ≤ unknown c.known
-row_known {c = c} (row.self_request h) = known_lowers c.known
-row_known (row.inside f e g r) = row_known r
-row_known {c = c} _ = le_refl (unknown c.known)
+known_lowers : (b b' : Bool) → (b ≡ true → b' ≡ true) → unknown b' ≤ unknown b
+known_lowers true b' stays = rw (stays refl) (le_refl 0)
+known_lowers false b' stays = unknown_small b'
 
 -- a row that starts a fiber
 start_lowers : {k : Bool} {c d : Counts} {f : ℕ} {b : Origin} {t t' : Term} → Row k c t (Starts f b) d t' → 2 + work b.term + work t' < work t
@@ -64,6 +59,12 @@ seen_lowers known t m o = let e : unknown known ≡ 1 = ap unknown (not_known kn
 pub step_leaves_less : {c d : Counts} {p q : Progress} {l : Label} → Step c p l d q → work_started l + work_of d q < work_of c p
 step_leaves_less {c = c} {d = d} {l = l} (step.cancelled {t = t} m) = let e = step_lowers c d l _ _ (λ h. cc) (step.cancelled {t = t} m) in omega arith
 step_leaves_less {c = c} (step.seen {t = t} m o) = let e = seen_lowers c.known t m o in omega arith
-step_leaves_less {c = c} {d = d} {l = l} (step.row {t = t} {t' = t'} m r) = let a = row_leaves _ c d l t t' r in let e = row_known r in omega arith
-step_leaves_less {c = c} {d = d} {l = l} (step.cleans {t = t} {t' = t'} r) = let a = row_leaves _ c d l t t' r in let e = row_known r in omega arith
+step_leaves_less {c = c} {d = d} {l = l} (step.row {t = t} {t' = t'} m r) =
+    let a = row_leaves _ c d l t t' r in
+    let e = known_lowers c.known d.known (row_tells r).known in
+    omega arith
+step_leaves_less {c = c} {d = d} {l = l} (step.cleans {t = t} {t' = t'} r) =
+    let a = row_leaves _ c d l t t' r in
+    let e = known_lowers c.known d.known (row_tells r).known in
+    omega arith
 step_leaves_less _ = omega arith

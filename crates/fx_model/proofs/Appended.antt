@@ -17,6 +17,11 @@ module _ {A : Type 0} where
   stood_at (z ∷ xs) ys zero x lt e = e
   stood_at (z ∷ xs) ys (suc i) x lt e = stood_at xs ys i x (omega arith) e
 
+  -- the last element
+  pub at_seam : (xs : List A) (x : A) → slice_get (xs ++ x ∷ []) (length xs) ≡ Some x
+  at_seam [] x = refl
+  at_seam (y ∷ xs) x = at_seam xs x
+
   one_at : (ys : List A) (i : ℕ) (x : A) → length ys ≤ 1 → slice_get ys i ≡ Some x → (i ≡ 0) × (ys ≡ x ∷ [])
   one_at [] i x few e = absurd (none-some x e)
   one_at (y ∷ []) zero x few e = (refl, ap (λ (z : A). z ∷ []) (same_Some y x e))

@@ -12,9 +12,9 @@ use Rattle.fx_model.specs.Row as row
 use Rattle.fx_model.specs.Origin.{Origin}
 use Rattle.fx_model.specs.Step.{Progress, Step}
 use Rattle.fx_model.specs.Step as step
-use Rattle.fx_model.specs.Run.{Leads, events}
-use Rattle.fx_model.specs.Causes.{shown, IsLearning}
-use Rattle.fx_model.proofs.StepLabels.{IsProper}
+use Rattle.fx_model.specs.Run.{Leads, events, shown}
+use Rattle.fx_model.specs.Causes.{IsLearning}
+use Rattle.fx_model.proofs.StepLabels.{IsProper, step_tells}
 
 -- the label that shows an event
 pub record ShownBy (ls : List Label) (i : ℕ) (e : Event) : Type 0 where
@@ -32,32 +32,17 @@ shown_by (Learns g o v ∷ ls) (suc i) e at = let h = shown_by ls i e at in reco
 shown_by (Starts g b ∷ ls) zero e at = record { label = Starts g b; at = refl; shows = ap (λ (w : Event). w ∷ []) (same_Some (event.Start g) e at) }
 shown_by (Starts g b ∷ ls) (suc i) e at = let h = shown_by ls i e at in record { label = h.label; at = h.at; shows = h.shows }
 
--- what learns of an end is shown with the end that it needs
-abbrev pub TellsItsEnd : Label → Type 0
-TellsItsEnd (Shows (event.Joined g o)) = ⊥
-TellsItsEnd (Shows (event.Awaited g)) = ⊥
-TellsItsEnd (Shows (event.First n)) = ⊥
-TellsItsEnd _ = Unit {0}
-
-row_tells_end : {k : Bool} {c d : Counts} {l : Label} {t t' : Term} → Row k c t l d t' → TellsItsEnd l
-row_tells_end (row.inside f e g r) = row_tells_end r
-row_tells_end _ = tt
-
-step_tells_end : {c d : Counts} {p q : Progress} {l : Label} → Step c p l d q → TellsItsEnd l
-step_tells_end (step.row m r) = row_tells_end r
-step_tells_end (step.cleans r) = row_tells_end r
-step_tells_end _ = tt
-
-pub run_tells_ends : (c d : Counts) (p q : Progress) (ls : List Label) → Leads c p ls d q → All TellsItsEnd ls
-run_tells_ends c d p q [] h = All-nil TellsItsEnd
-run_tells_ends c d p q (l ∷ ls) h = All-cons TellsItsEnd l ls (step_tells_end h.2) (run_tells_ends h.0 d h.1 q ls h.3)
+-- each label of a run is shown by what its event stands for
+pub run_is_proper : (c d : Counts) (p q : Progress) (ls : List Label) → Leads c p ls d q → All IsProper ls
+run_is_proper c d p q [] h = All-nil IsProper
+run_is_proper c d p q (l ∷ ls) h = All-cons IsProper l ls (step_tells h.2).proper (run_is_proper h.0 d h.1 q ls h.3)
 
 -- the label of such an event
-pub learning_label : (l : Label) (e : Event) → TellsItsEnd l → events (l ∷ []) ≡ e ∷ [] → IsLearning e → (g : ℕ) × (o : Outcome) × (l ≡ Learns g o e)
+pub learning_label : (l : Label) (e : Event) → IsProper l → events (l ∷ []) ≡ e ∷ [] → IsLearning e → (g : ℕ) × (o : Outcome) × (l ≡ Learns g o e)
 learning_label Silent e tells is learning = absurd cc
 learning_label (Shows v) e tells is learning = absurd (by_event v tells (subst IsLearning (let same : e ≡ v = cc in same) learning))
   where
-    by_event : (v : Event) → TellsItsEnd (Shows v) → IsLearning v → ⊥
+    by_event : (v : Event) → IsProper (Shows v) → IsLearning v → ⊥
     by_event (event.Joined g o) h k = h
     by_event (event.Awaited g) h k = h
     by_event (event.First n) h k = h

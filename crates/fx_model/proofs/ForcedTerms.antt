@@ -7,8 +7,8 @@ use Rattle.fx_term.specs.Term.{Term, Pure, Let, Handle, Finished}
 use Rattle.fx_model.specs.Path.{Context, LetIn, HandleIn, plug, is_open, must_cancel}
 use Rattle.fx_model.specs.Row.{Counts, Label, Silent, Row, pure, let_value, handle_value, inside}
 use Rattle.fx_model.specs.Step.{Progress, Runs, Step, cancelled, seen, row, succeeds, errs}
-use Rattle.fx_model.specs.Run.{Leads}
-use Rattle.fx_model.specs.MaskLaws.{shown, CanShow, BeginsWithSeen, ShowsAllOf, ShowTheSameUnlessSeenFirst, forced_after}
+use Rattle.fx_model.specs.Run.{Leads, shown}
+use Rattle.fx_model.specs.MaskLaws.{CanShow, BeginsWithSeen, ShowsAllOf, ShowTheSameUnlessSeenFirst, forced_after}
 use Rattle.fx_model.proofs.MaskEntering.{counts_at}
 use Rattle.fx_model.proofs.Paths.{no_context, part_row, row_plug, result_has_no_row}
 use Rattle.fx_model.proofs.ShownRuns.{Reaches, rests, steps, and_then, HasRun, can_show, before}

@@ -1,4 +1,4 @@
--- A lawful report whose fibers have all ended has what is promised.
+-- A lawful report has what is promised.
 use Rattle.std.proofs.Common.{◌≡◌, ℕ, zero, suc, ◌<◌, Bool, true, Some, List, ◌++◌, All, refl, sym, ◌∙◌, ap, subst, arith, inl, inr}
 use Rattle.std.proofs.lemmas.Bool.{eq-eqb, cases_eq}
 use Rattle.std.proofs.lemmas.List.Elements.{All-contains}
@@ -14,9 +14,9 @@ use Rattle.fx_model.proofs.CancelledSteps.{cancels_where_opened}
 use Rattle.fx_term.specs.declared.item.Item.{Item}
 use Rattle.fx_term.specs.Script.{ScriptView}
 use Rattle.fx_term.specs.Queue.{items_of, items_taken, accepted_offers}
-use Rattle.fx_model.specs.Report.{FiberReportView, ReportView, fiber_in, parent_in, trace_in}
+use Rattle.fx_model.specs.Report.{FiberReportView, ReportView, fiber_in, parent_in, trace_in, capacity_of}
 use Rattle.fx_model.specs.LawfulReport.{starts_of, HasStarters, BeginsAs, HasRuns, HasOrigins, HasHistory, IsLawfulReport}
-use Rattle.fx_model.specs.Headline.{EachOfferOnce, EndsBalanced, AllEnded, HoldsWhatIsPromised}
+use Rattle.fx_model.specs.Headline.{EachOfferOnce, EndsBalanced, HoldsWhatIsPromised}
 use Rattle.fx_term.proofs.QueueLaws.{takes_then_rest}
 use Rattle.fx_model.proofs.OutcomeLaws.{run_stops}
 use Rattle.fx_model.proofs.StartLaws.{StartsRightly, IsStartRight, run_starts, StartsSo, run_starts_core, HasStart, start_of_trace}
@@ -115,20 +115,19 @@ offers_told r q capacity h = record {
 
 module _ (s : ScriptView) (may : ℕ → Bool) (r : ReportView) (core : IsCore s.term) (lawful : IsLawfulReport s may r) where
   -- a fiber that has ended, whatever the others do
-  pub ended_fiber_holds : (f : ℕ) (x : FiberReportView) → fiber_in r f ≡ Some x → x.has_ended ≡ true → EndsBalanced x.trace
+  ended_fiber_holds : (f : ℕ) (x : FiberReportView) → fiber_in r f ≡ Some x → x.has_ended ≡ true → EndsBalanced x.trace
   ended_fiber_holds f x at ended =
       let runs = lawful.runs in
       let h = runs.run f x at in
       let b_core = begins_at_core s r lawful.starters runs lawful.origins core f x at in
       subst EndsBalanced h.trace (trace_ends (runs.origin f) (runs.labels f) (runs.counts f) (runs.progress f) b_core h.run (h.state ∙ ended))
 
-  -- all fibers have ended
-  pub ended_report_holds : AllEnded r → HoldsWhatIsPromised s r lawful.runs
-  ended_report_holds ended =
+  pub lawful_report_holds : HoldsWhatIsPromised s r lawful.runs
+  lawful_report_holds =
       let runs = lawful.runs in
       record {
-        queues = λ q capacity at. offers_told r q capacity (lawful.histories q capacity at);
-        ends = λ f x at. ended_fiber_holds f x at (ended f x at);
+        queues = λ q. offers_told r q (capacity_of s q) (lawful.histories q);
+        ends = ended_fiber_holds;
         opened = λ f x at.
             let b = runs.origin f in
             cancels_where_opened (first_counts b) (Runs b.term) (runs.labels f) (runs.counts f) (runs.progress f) (runs.run f x at).run;

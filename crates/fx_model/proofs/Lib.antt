@@ -2,6 +2,7 @@ pub mod Paths
 pub mod RowLabels
 pub mod Cleanups
 pub mod Runs
+pub mod Measures
 pub mod Work
 pub mod WorkOfCode
 pub mod Reports

@@ -11,8 +11,8 @@ use Rattle.fx_mask.specs.Closing.{Closing, Region, without_region}
 use Rattle.fx_model.specs.Row.{Counts, Label, Silent, Shows, known_canceled, mask}
 use Rattle.fx_model.specs.Row as rule
 use Rattle.fx_model.specs.Step.{Progress, Runs, Step, cancelled, seen, row}
-use Rattle.fx_model.specs.Run.{Leads}
-use Rattle.fx_model.specs.MaskLaws.{shown, CanShow, BeginsWithSeen, ShowsAllOf, ShowTheSame, ShowTheSameUnlessSeenFirst, IsPlain, IsScopedWithout}
+use Rattle.fx_model.specs.Run.{Leads, shown}
+use Rattle.fx_model.specs.MaskLaws.{CanShow, BeginsWithSeen, ShowsAllOf, ShowTheSame, ShowTheSameUnlessSeenFirst, IsPlain, IsScopedWithout}
 use Rattle.fx_term.proofs.NameUses.{put_other_poll, name_is}
 use Rattle.fx_model.proofs.Alike.{next_regions, Alike, plain_alike}
 use Rattle.fx_model.proofs.Wrapped.{Wrap, Closes, Opens, Cleans, wrapped}

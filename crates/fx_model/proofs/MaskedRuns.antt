@@ -8,8 +8,7 @@ use Rattle.fx_model.specs.Path.{CleanupTerm, cleanup_terms, is_open, must_cancel
 use Rattle.fx_model.specs.Row.{Counts, Label, Silent, known_canceled, Row}
 use Rattle.fx_model.specs.Step.{Progress, Runs, Unwinds, CleansUp, HasEnded, Step}
 use Rattle.fx_model.specs.Step as step
-use Rattle.fx_model.specs.Run.{Leads}
-use Rattle.fx_model.specs.MaskLaws.{shown}
+use Rattle.fx_model.specs.Run.{Leads, shown}
 use Rattle.fx_model.proofs.Alike.{IsSameRegion, Alike, finished}
 use Rattle.fx_model.proofs.AlikeRows.{with_masks, row_alike}
 use Rattle.fx_model.proofs.AlikePaths.{AreCleanupTerms, none, finalizer, release}

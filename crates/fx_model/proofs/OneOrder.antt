@@ -1,15 +1,19 @@
 -- One order of all events goes on when a fiber shows one event more.
-use Rattle.std.proofs.Common.{◌≡◌, ℕ, ◌+◌, ◌<◌, ◌≤◌, Some, List, [], ◌∷◌, ◌++◌, length, sym, ◌∙◌, ap, subst, arith, ◌⊎◌, inl, inr}
-use Rattle.std.specs.Prelude.{slice_get, take}
-use Rattle.std.proofs.lemmas.Bool.{cases_eq}
+use Rattle.std.proofs.Common.{◌≡◌, ℕ, ◌+◌, ◌<◌, ◌≤◌, Some, List, [], ◌∷◌, ◌++◌, length, refl, sym, append-nil, ◌∙◌, ap, subst, arith, ◌⊎◌, inl, inr}
+use Rattle.std.specs.Prelude.{map, slice_get, take}
+use Rattle.std.proofs.lemmas.Bool.{cases_eq, eq-eqb, ne_eqb}
 use Rattle.std.proofs.lemmas.Option.{slice_get_within}
-use Rattle.std.proofs.lemmas.List.{length-append, take-append-le}
+use Rattle.std.proofs.lemmas.List.{length-append, length-map, take-append-le}
+use Rattle.std.proofs.lemmas.List.Elements.{filter_map-append}
+use Rattle.std.specs.List.{cons_option}
 use Rattle.fx_term.specs.declared.event.Event.{Event}
 use Rattle.fx_term.specs.declared.event.Event.TheVariants as event
-use Rattle.fx_term.specs.Queue.{QueueState}
+use Rattle.fx_term.specs.declared.queue_event.QueueEvent.{QueueEvent}
+use Rattle.fx_term.specs.Queue.{QueueState, queue_event, queue_events}
 use Rattle.fx_model.specs.Row.{Label}
 use Rattle.fx_model.specs.Causes.{Needs, taken_element, end_of_other, start, IsRequestedBefore, IsOneOrder}
-use Rattle.fx_model.proofs.Appended.{still_at, stood_or_new}
+use Rattle.fx_model.specs.Happenings.{Happening, event_of, events_of, history_of, IsListed}
+use Rattle.fx_model.proofs.Appended.{still_at, at_seam, stood_or_new}
 
 -- lists by number, of which that of f has grown, by one element at most
 pub record GrowsAt {A : Type 0} (before after : ℕ → List A) (f : ℕ) (more : List A) : Type 0 where
@@ -21,6 +25,13 @@ pub record GrowsAt {A : Type 0} (before after : ℕ → List A) (f : ℕ) (more 
 pub data Stands {A : Type 0} (before : ℕ → List A) (f : ℕ) (more : List A) (g i : ℕ) (x : A) : Type 0 where
   stood : slice_get (before g) i ≡ Some x → Stands before f more g i x
   comes : g ≡ f → i ≡ length (before f) → more ≡ x ∷ [] → Stands before f more g i x
+
+-- where there was a place already, the element stood there
+pub stood_within : {A : Type 0} (before : ℕ → List A) (f : ℕ) (more : List A) (g i : ℕ) (x : A) → i < length (before g) → Stands before f more g i x
+    → slice_get (before g) i ≡ Some x
+stood_within before f more g i x lt (stood at) = at
+stood_within before f more g i x lt (comes same place is) =
+    absurd (let here : length (before g) ≡ length (before f) = ap (λ (k : ℕ). length (before k)) same in omega arith)
 
 module _ {A : Type 0} (before after : ℕ → List A) (f : ℕ) (more : List A) (grows : GrowsAt before after f more) where
   pub stands : (g i : ℕ) (x : A) → slice_get (after g) i ≡ Some x → Stands before f more g i x
@@ -80,25 +91,27 @@ order_told trace labels IsLeft IsLeft' IsFromOutside IsFromOutside' moment left 
     needs : (f i g j : ℕ) → Needs trace labels IsLeft' f i g j → Needs trace labels IsLeft f i g j
     needs f i g j (taken_element t) = taken_element (record {
       queue = t.queue;
-      got_value = t.got_value;
+      value = t.value;
       got = t.got;
       state = t.state;
       left = left t.queue t.state t.left;
       taking = t.taking;
       taken = t.taken;
       fiber = t.fiber;
-      put_value = t.put_value;
+      of_value = t.of_value;
       put = t.put;
       nth = t.nth;
     })
-    needs f i g j (end_of_other t) = end_of_other (record { outcome = t.outcome; learning = t.learning; learns = t.learns; ended = t.ended })
+    needs f i g j (end_of_other t) = end_of_other (record { outcome = t.outcome; learning = t.learning; learns = t.learns; tells = t.tells; ended = t.ended })
     needs f i g j (start z e) = start z e
 
--- One order of the events of a run so far: all of them are past
-pub record HasOrder (trace : ℕ → List Event) (labels : ℕ → List Label) (IsLeft : ℕ → QueueState → Type 0) (IsFromOutside : ℕ → Type 0) : Type 0 where
+-- One order of the events of a run so far, in one list: all of them are past
+pub record HasOrder (trace : ℕ → List Event) (history : ℕ → List QueueEvent) (labels : ℕ → List Label) (IsLeft : ℕ → QueueState → Type 0)
+    (IsFromOutside : ℕ → Type 0) : Type 0 where
   pub moment : ℕ → ℕ → ℕ
-  pub now : ℕ
-  pub past : (f i : ℕ) → i < length (trace f) → moment f i < now
+  pub list : List Happening
+  pub listed : IsListed trace history moment list
+  pub past : (f i : ℕ) → i < length (trace f) → moment f i < length list
   pub in_order : IsOneOrder trace labels IsLeft IsFromOutside moment
 
 -- a cause stood before its effect came: both stood before, or the effect is the event that came
@@ -116,16 +129,39 @@ pub data SeenAfter (trace : ℕ → List Event) (IsFromOutside : ℕ → Type 0)
   seen : slice_get (trace a) i ≡ Some event.Seen → (IsFromOutside a → ⊥) → SeenAfter trace IsFromOutside f a i
   sees : a ≡ f → i ≡ length (trace f) → IsRequestedIn trace a → SeenAfter trace IsFromOutside f a i
 
-module _ (trace trace' : ℕ → List Event) (labels labels' : ℕ → List Label) (IsLeft IsLeft' : ℕ → QueueState → Type 0)
+abbrev happening : ℕ → Event → Happening
+happening f e = record { fiber = f; event = e }
+
+-- events of one fiber as they happen are its own, and no other's
+own_events : (f g : ℕ) (es : List Event) → g ≡ f → events_of g (map (happening f) es) ≡ es
+own_events f g [] same = refl
+own_events f g (e ∷ es) same = rw (eq-eqb f g (sym same)) (ap (λ (xs : List Event). e ∷ xs) (own_events f g es same))
+
+no_events : (f g : ℕ) (es : List Event) → (g ≡ f → ⊥) → events_of g (map (happening f) es) ≡ []
+no_events f g [] ne = refl
+no_events f g (e ∷ es) ne = rw (ne_eqb f g (λ same. ne (sym same))) (no_events f g es ne)
+
+-- to a queue they are what the fiber does there
+history_of_own : (q f : ℕ) (es : List Event) → history_of q (map (happening f) es) ≡ queue_events q f es
+history_of_own q f [] = refl
+history_of_own q f (e ∷ es) = ap (cons_option (queue_event q f e)) (history_of_own q f es)
+
+module _ (trace trace' : ℕ → List Event) (history history' : ℕ → List QueueEvent) (labels labels' : ℕ → List Label) (IsLeft IsLeft' : ℕ → QueueState → Type 0)
     (IsFromOutside IsFromOutside' : ℕ → Type 0) (f : ℕ) (more : List Event) (grows : GrowsAt trace trace' f more)
-    (o : HasOrder trace labels IsLeft IsFromOutside) (moment' : ℕ → ℕ → ℕ)
-    (kept : (g i : ℕ) → i < length (trace g) → moment' g i ≡ o.moment g i) (is_now : moment' f (length (trace f)) ≡ o.now) where
+    (goes_on : (q : ℕ) → history' q ≡ history q ++ queue_events q f more) (o : HasOrder trace history labels IsLeft IsFromOutside) (moment' : ℕ → ℕ → ℕ)
+    (kept : (g i : ℕ) → i < length (trace g) → moment' g i ≡ o.moment g i) (is_now : moment' f (length (trace f)) ≡ length o.list) where
   -- the moment of an event is the one that it had, or now
   abbrev Old : ℕ → ℕ → Type 0
-  Old g i = (i < length (trace g)) × (moment' g i ≡ o.moment g i) × (o.moment g i < o.now)
+  Old g i = (i < length (trace g)) × (moment' g i ≡ o.moment g i) × (o.moment g i < length o.list)
 
   abbrev New : ℕ → ℕ → Type 0
-  New g i = (g ≡ f) × (i ≡ length (trace f)) × (moment' g i ≡ o.now)
+  New g i = (g ≡ f) × (i ≡ length (trace f)) × (moment' g i ≡ length o.list)
+
+  abbrev list' : List Happening
+  list' = o.list ++ map (happening f) more
+
+  longer : length list' ≡ length o.list + length more
+  longer = length-append o.list (map (happening f) more) ∙ ap (λ (k : ℕ). length o.list + k) (length-map more (happening f))
 
   old : (g i : ℕ) → i < length (trace g) → Old g i
   old g i lt = (lt, kept g i lt, o.past g i lt)
@@ -136,11 +172,42 @@ module _ (trace trace' : ℕ → List Event) (labels labels' : ℕ → List Labe
   which : (g i : ℕ) → i < length (trace' g) → Old g i ⊎ New g i
   which g i lt = elim (old_or_new trace trace' f more grows g i lt) [ inl here ↦ inl (old g i here) | inr came ↦ inr (new g i came.0 came.1) ]
 
-  past_after : (g i : ℕ) → i < length (trace' g) → moment' g i < o.now + 1
+  past_after : (g i : ℕ) → i < length (trace' g) → moment' g i < length list'
   past_after g i lt = elim (which g i lt) [
-    | inl h ↦ (let e = h.1 in let before = h.2 in omega arith)
-    | inr h ↦ (let e = h.2 in omega arith)
+    | inl h ↦ (let e = h.1 in let before = h.2 in let long = longer in omega arith)
+    | inr h ↦
+        (let at = h.1 in let e = h.2 in let long = longer in
+        let grown : length (trace' g) ≡ length (trace f) + length more =
+        ap (λ (k : ℕ). length (trace' k)) h.0 ∙ ap length grows.own ∙ length-append (trace f) more in
+        omega arith)
   ]
+
+  traces_after : (g : ℕ) → events_of g list' ≡ trace' g
+  traces_after g = filter_map-append (event_of g) o.list (map (happening f) more) ∙ by_fiber
+    where
+      by_fiber : events_of g o.list ++ events_of g (map (happening f) more) ≡ trace' g
+      by_fiber = elim (cases_eq g f) [
+        | inl same ↦
+            rw (own_events f g more same, o.listed.traces g)
+            (ap (λ (k : ℕ). trace k ++ more) same ∙ sym grows.own ∙ ap trace' (sym same))
+        | inr ne ↦ rw (no_events f g more ne, o.listed.traces g) (append-nil (trace g) ∙ sym (grows.other g ne))
+      ]
+
+  histories_after : (q : ℕ) → history_of q list' ≡ history' q
+  histories_after q =
+      filter_map-append (λ (h : Happening). queue_event q h.fiber h.event) o.list (map (happening f) more)
+      ∙ rw (o.listed.histories q, history_of_own q f more) (sym (goes_on q))
+
+  moments_after : (g i : ℕ) (e : Event) → slice_get (trace' g) i ≡ Some e → slice_get list' (moment' g i) ≡ Some (record { fiber = g; event = e })
+  moments_after g i e at = by_place (stands trace trace' f more grows g i e at)
+    where
+      by_place : Stands trace f more g i e → slice_get list' (moment' g i) ≡ Some (record { fiber = g; event = e })
+      by_place (stood is) =
+          ap (λ (k : ℕ). slice_get list' k) (kept g i (slice_get_within (trace g) i e is))
+          ∙ still_at o.list (map (happening f) more) (o.moment g i) (happening g e) (o.listed.moments g i e is)
+      by_place (comes same place is) =
+          ap (λ (k : ℕ). slice_get list' k) ((new g i same place).2) ∙ ap (λ (es : List Event). slice_get (o.list ++ map (happening f) es) (length o.list)) is
+          ∙ at_seam o.list (happening f e) ∙ ap (λ (k : ℕ). Some (happening k e)) (sym same)
 
   distinct_after : (a i b j : ℕ) → i < length (trace' a) → j < length (trace' b) → moment' a i ≡ moment' b j → (a ≡ b) × (i ≡ j)
   distinct_after a i b j lt lt' e = elim (which a i lt) [
@@ -189,10 +256,11 @@ module _ (trace trace' : ℕ → List Event) (labels labels' : ℕ → List Labe
   pub order_grows : ((a i b j : ℕ) → i < length (trace' a) → j < length (trace' b) → Needs trace' labels' IsLeft' a i b j
       → StoodBefore trace labels IsLeft f a i b j)
       → ((a i : ℕ) → slice_get (trace' a) i ≡ Some event.Seen → (IsFromOutside' a → ⊥) → SeenAfter trace IsFromOutside f a i)
-      → HasOrder trace' labels' IsLeft' IsFromOutside'
+      → HasOrder trace' history' labels' IsLeft' IsFromOutside'
   order_grows causes requests = record {
     moment = moment';
-    now = o.now + 1;
+    list = list';
+    listed = record { traces = traces_after; histories = histories_after; moments = moments_after };
     past = past_after;
     in_order = record {
       distinct = distinct_after;

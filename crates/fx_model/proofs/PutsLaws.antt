@@ -1,12 +1,9 @@
 -- What a fiber has put and what it can still put are never more together than its term has.
-use Rattle.std.proofs.Common.{◌≡◌, ℕ, suc, ◌+◌, ◌-◌, ◌*◌, ◌≤◌, max, Bool, Option, Some, None, List, [], ◌∷◌, ◌++◌, refl, arith}
-use Rattle.fx_term.specs.declared.outcome.Outcome.{Outcome}
-use Rattle.fx_term.specs.declared.outcome.Outcome.TheVariants as outcome
+use Rattle.std.proofs.Common.{◌≡◌, ℕ, ◌+◌, ◌-◌, ◌≤◌, Bool, List, [], ◌∷◌, refl, arith}
 use Rattle.fx_term.specs.Term.{Finished, Term, Let, Handle, If, For, Mask, Poll, OnCancel, Bracket, Start, Join, TryTake, Masked, Opened, InUse, InRelease}
 use Rattle.fx_term.specs.Term.{Loop, put}
-use Rattle.fx_term.specs.Term.{put_named}
-use Rattle.fx_model.specs.Path.{Context, LetIn, OnCancelIn, InUseIn, plug, CleanupTerm, Finalizer, Release, cleanup_terms}
-use Rattle.fx_model.proofs.Paths.{along_path}
+use Rattle.fx_model.specs.Path.{Context, LetIn, plug, cleanup_terms}
+use Rattle.fx_model.proofs.Measures.{kept_by_name, branch_within, one_turn, cleanups_within}
 use Rattle.fx_term.specs.declared.done.Done.TheVariants.{Val}
 use Rattle.fx_model.specs.Row.{Counts, Label, part_after, Row}
 use Rattle.fx_model.specs.Origin.{Origin}
@@ -36,20 +33,6 @@ put_puts x n (InRelease k a v) = let p = put_puts x n a in cc
 put_puts x n (Loop y k c a) = let p = put_puts x n a in cc
 put_puts x n _ = refl
 
-put_named_puts : (x : Option ℕ) (n : ℕ) (t : Term) → puts (put_named x n t) ≡ puts t
-put_named_puts None n t = refl
-put_named_puts (Some x) n t = put_puts x n t
-
--- a turn of a loop takes one from those that are left
-turn_puts : (m left w : ℕ) → left ≡ suc m → w + m * w ≡ left * w
-turn_puts m left w e = rw e (grind arith)
-
--- the branch that is chosen
-branch_puts : (o : Outcome) (x e : ℕ) (a b c : Term) → puts (part_after o x a e b c) ≤ max (puts a) (max (puts b) (puts c))
-branch_puts (outcome.Succeeded n) x e a b c = let p = put_puts x n a in omega arith
-branch_puts (outcome.Errored n) x e a b c = let p = put_puts e n b in omega arith
-branch_puts outcome.Canceled x e a b c = omega arith
-
 -- a context has its own puts beside those of its part
 puts_plug : (f : Context) (a : Term) → puts (plug f a) ≡ puts a + puts (plug f (Finished (Val 0)))
 puts_plug (LetIn x b) a = omega arith
@@ -59,31 +42,23 @@ puts_plug _ a = omega arith
 row_puts : {k : Bool} {c d : Counts} {l : Label} {t t' : Term} → Row k c t l d t' → puts_of l + puts t' ≤ puts t
 row_puts (row.for_begins {n = n}) = let e : n - 0 ≡ n = omega arith in rw e (omega arith)
 row_puts (row.loop_turns {i = i} {k = j} {n = n} {t = a} h) =
-    let p = put_puts i j a in let q = turn_puts (n - (j + 1)) (n - j) (puts a) (omega arith) in omega arith
-row_puts (row.let_value {x = x} {n = n} {b = b}) = let p = put_named_puts x n b in omega arith
-row_puts (row.handle_error {x = x} {e = e} {b = b}) = let p = put_named_puts x e b in omega arith
+    let p = put_puts i j a in let q = one_turn (n - (j + 1)) (n - j) (puts a) (omega arith) in omega arith
+row_puts (row.let_value {x = x} {n = n} {b = b}) = let p = kept_by_name puts put_puts x n b in omega arith
+row_puts (row.handle_error {x = x} {e = e} {b = b}) = let p = kept_by_name puts put_puts x e b in omega arith
 row_puts {c = c} (row.mask {p = p} {t = a}) = let q = put_puts p c.masks a in omega arith
-row_puts (row.acquired {x = x} {n = n} {u = u} {r = r}) = let p = put_named_puts x n u in let q = put_named_puts x n r in omega arith
+row_puts (row.acquired {x = x} {n = n} {u = u} {r = r}) = let p = kept_by_name puts put_puts x n u in let q = kept_by_name puts put_puts x n r in omega arith
 row_puts {c = c} (row.start {h = h} {b = b}) = let p = put_puts h c.next b in omega arith
-row_puts (row.joined {x = x} {e = e} {a = a} {b = b} {d = g} {o = o}) = let p = branch_puts o x e a b g in omega arith
+row_puts (row.joined {x = x} {e = e} {a = a} {b = b} {d = g} {o = o}) = let p = branch_within puts put_puts o x e a b g in omega arith
 row_puts (row.tried_take {n = n} {x = x} {a = a}) = let p = put_puts x n a in omega arith
 row_puts (row.inside f {a = a} {a' = a'} e g r) =
     let here = row_puts r in let before = puts_plug f a in let after = puts_plug f a' in rw (e, g) (omega arith)
 row_puts _ = omega arith
 
-clean_up_puts-append : (xs ys : List CleanupTerm) → clean_up_puts (xs ++ ys) ≡ clean_up_puts xs + clean_up_puts ys
-clean_up_puts-append [] ys = omega arith
-clean_up_puts-append (Finalizer f ∷ xs) ys = let p = clean_up_puts-append xs ys in omega arith
-clean_up_puts-append (Release k r ∷ xs) ys = let p = clean_up_puts-append xs ys in omega arith
-
-context_puts : (f : Context) (a : Term) → clean_up_puts (cleanup_terms a) ≤ puts a → clean_up_puts (cleanup_terms (plug f a)) ≤ puts (plug f a)
-context_puts (OnCancelIn f) a h = let p = clean_up_puts-append (cleanup_terms a) (Finalizer f ∷ []) in omega arith
-context_puts (InUseIn k r) a h = let p = clean_up_puts-append (cleanup_terms a) (Release k r ∷ []) in omega arith
-context_puts _ a h = omega arith
-
 -- the clean-ups of a path are a part of the term
 clean_ups_puts : (t : Term) → clean_up_puts (cleanup_terms t) ≤ puts t
-clean_ups_puts = along_path (λ t. clean_up_puts (cleanup_terms t) ≤ puts t) context_puts (λ t bare. rw bare (omega arith))
+clean_ups_puts t =
+    let within = cleanups_within puts 0 0 (λ t. omega arith) (λ a f. omega arith) (λ k a r. omega arith) (λ f a. let p = puts_plug f a in omega arith) t in
+    omega arith
 
 -- each step of a fiber
 step_puts : {c d : Counts} {p q : Progress} {l : Label} → Step c p l d q → puts_of l + puts_left q ≤ puts_left p

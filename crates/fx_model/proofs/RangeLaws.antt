@@ -1,13 +1,10 @@
 -- A fiber's range has room for all that its term can start.
-use Rattle.std.proofs.Common.{◌≡◌, ℕ, suc, ◌+◌, ◌-◌, ◌*◌, ◌≤◌, max, Bool, Option, Some, None, List, [], ◌∷◌, ◌++◌, refl, arith}
-use Rattle.fx_term.specs.declared.outcome.Outcome.{Outcome}
-use Rattle.fx_term.specs.declared.outcome.Outcome.TheVariants as outcome
+use Rattle.std.proofs.Common.{◌≡◌, ℕ, ◌+◌, ◌-◌, ◌≤◌, Bool, List, [], ◌∷◌, refl, arith}
 use Rattle.fx_term.specs.Term.{Finished, Term, Let, Handle, If, For, Mask, Poll, OnCancel, Bracket, Start, Join, TryTake, Masked, Opened, InUse, InRelease}
 use Rattle.fx_term.specs.Term.{Loop, put}
-use Rattle.fx_term.specs.Term.{put_named}
 use Rattle.fx_term.specs.Need.{need}
-use Rattle.fx_model.specs.Path.{Context, LetIn, OnCancelIn, InUseIn, plug, CleanupTerm, Finalizer, Release, cleanup_terms}
-use Rattle.fx_model.proofs.Paths.{along_path}
+use Rattle.fx_model.specs.Path.{Context, LetIn, plug, cleanup_terms}
+use Rattle.fx_model.proofs.Measures.{kept_by_name, branch_within, one_turn, cleanups_within}
 use Rattle.fx_term.specs.declared.done.Done.TheVariants.{Val}
 use Rattle.fx_model.specs.Row.{Counts, Label, Starts, part_after, Row}
 use Rattle.fx_model.specs.Origin.{Origin}
@@ -38,18 +35,6 @@ put_need x n (InRelease k a v) = let p = put_need x n a in cc
 put_need x n (Loop y k c a) = let p = put_need x n a in cc
 put_need x n _ = refl
 
-put_named_need : (x : Option ℕ) (n : ℕ) (t : Term) → need (put_named x n t) ≡ need t
-put_named_need None n t = refl
-put_named_need (Some x) n t = put_need x n t
-
-turn_need : (m left w : ℕ) → left ≡ suc m → w + m * w ≡ left * w
-turn_need m left w e = rw e (grind arith)
-
-branch_need : (o : Outcome) (x e : ℕ) (a b c : Term) → need (part_after o x a e b c) ≤ max (need a) (max (need b) (need c))
-branch_need (outcome.Succeeded n) x e a b c = let p = put_need x n a in omega arith
-branch_need (outcome.Errored n) x e a b c = let p = put_need e n b in omega arith
-branch_need outcome.Canceled x e a b c = omega arith
-
 -- a context has its own need beside that of its part
 need_plug : (f : Context) (a : Term) → need (plug f a) ≡ need a + need (plug f (Finished (Val 0)))
 need_plug (LetIn x b) a = omega arith
@@ -59,31 +44,23 @@ need_plug _ a = omega arith
 row_need : {k : Bool} {c d : Counts} {l : Label} {t t' : Term} → Row k c t l d t' → d.next + need t' ≤ c.next + need t
 row_need (row.for_begins {n = n}) = let e : n - 0 ≡ n = omega arith in rw e (omega arith)
 row_need (row.loop_turns {i = i} {k = j} {n = n} {t = a} h) =
-    let p = put_need i j a in let q = turn_need (n - (j + 1)) (n - j) (need a) (omega arith) in omega arith
-row_need (row.let_value {x = x} {n = n} {b = b}) = let p = put_named_need x n b in omega arith
-row_need (row.handle_error {x = x} {e = e} {b = b}) = let p = put_named_need x e b in omega arith
+    let p = put_need i j a in let q = one_turn (n - (j + 1)) (n - j) (need a) (omega arith) in omega arith
+row_need (row.let_value {x = x} {n = n} {b = b}) = let p = kept_by_name need put_need x n b in omega arith
+row_need (row.handle_error {x = x} {e = e} {b = b}) = let p = kept_by_name need put_need x e b in omega arith
 row_need {c = c} (row.mask {p = p} {t = a}) = let q = put_need p c.masks a in omega arith
-row_need (row.acquired {x = x} {n = n} {u = u} {r = r}) = let p = put_named_need x n u in let q = put_named_need x n r in omega arith
+row_need (row.acquired {x = x} {n = n} {u = u} {r = r}) = let p = kept_by_name need put_need x n u in let q = kept_by_name need put_need x n r in omega arith
 row_need {c = c} (row.start {h = h} {b = b}) = let p = put_need h c.next b in omega arith
-row_need (row.joined {x = x} {e = e} {a = a} {b = b} {d = g} {o = o}) = let p = branch_need o x e a b g in omega arith
+row_need (row.joined {x = x} {e = e} {a = a} {b = b} {d = g} {o = o}) = let p = branch_within need put_need o x e a b g in omega arith
 row_need (row.tried_take {n = n} {x = x} {a = a}) = let p = put_need x n a in omega arith
 row_need (row.inside f {a = a} {a' = a'} e g r) =
     let here = row_need r in let before = need_plug f a in let after = need_plug f a' in rw (e, g) (omega arith)
 row_need _ = omega arith
 
-clean_up_need-append : (xs ys : List CleanupTerm) → clean_up_need (xs ++ ys) ≡ clean_up_need xs + clean_up_need ys
-clean_up_need-append [] ys = omega arith
-clean_up_need-append (Finalizer f ∷ xs) ys = let p = clean_up_need-append xs ys in omega arith
-clean_up_need-append (Release k r ∷ xs) ys = let p = clean_up_need-append xs ys in omega arith
-
-context_need : (f : Context) (a : Term) → clean_up_need (cleanup_terms a) ≤ need a → clean_up_need (cleanup_terms (plug f a)) ≤ need (plug f a)
-context_need (OnCancelIn f) a h = let p = clean_up_need-append (cleanup_terms a) (Finalizer f ∷ []) in omega arith
-context_need (InUseIn k r) a h = let p = clean_up_need-append (cleanup_terms a) (Release k r ∷ []) in omega arith
-context_need _ a h = omega arith
-
 -- the clean-ups of a path are a part of the term
 clean_ups_need : (t : Term) → clean_up_need (cleanup_terms t) ≤ need t
-clean_ups_need = along_path (λ t. clean_up_need (cleanup_terms t) ≤ need t) context_need (λ t bare. rw bare (omega arith))
+clean_ups_need t =
+    let within = cleanups_within need 0 0 (λ t. omega arith) (λ a f. omega arith) (λ k a r. omega arith) (λ f a. let p = need_plug f a in omega arith) t in
+    omega arith
 
 pub step_need : {c d : Counts} {p q : Progress} {l : Label} → Step c p l d q → d.next + need_left q ≤ c.next + need_left p
 step_need (step.cancelled {t = t} m) = let e = clean_ups_need t in omega arith

@@ -4,8 +4,7 @@ use Rattle.std.specs.Prelude.{◌&&◌}
 use Rattle.std.specs.Bool.{OnTrue}
 use Rattle.std.specs.List.{find, list_all}
 use Rattle.std.proofs.lemmas.Option.{none-some, same_Some}
-use Rattle.fx_model.specs.Report.{FiberReportView, ReportView}
-use Rattle.fx_model.specs.Headline.{AllEnded}
+use Rattle.fx_model.specs.Report.{FiberReportView, ReportView, AllEnded}
 
 ended_there : (xs : List FiberReportView) (f : ℕ) (x : FiberReportView) → list_all (λ (y : FiberReportView). y.has_ended) xs ≡ true
     → find (λ (y : FiberReportView). y.id == f) xs ≡ Some x → x.has_ended ≡ true

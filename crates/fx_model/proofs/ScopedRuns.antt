@@ -18,17 +18,9 @@ use Rattle.fx_model.specs.Scopes.{UsesGiven, IsScopedOver, IsProgressScopedOver,
 use Rattle.fx_term.proofs.NameUses.{scoped_name_used}
 use Rattle.fx_model.proofs.Cleanups.{all_on_path}
 use Rattle.fx_model.proofs.PutScopes.{put_scoped, put_given}
+use Rattle.fx_model.proofs.StepLabels.{step_next}
 
 -- a fiber takes numbers of its range, and gives none back
-row_next : {k : Bool} {c d : Counts} {l : Label} {t t' : Term} → Row k c t l d t' → c.next ≤ d.next
-row_next (row.inside f e g r) = row_next r
-row_next _ = omega arith
-
-step_next : {c d : Counts} {p q : Progress} {l : Label} → Step c p l d q → c.next ≤ d.next
-step_next (step.row m r) = row_next r
-step_next (step.cleans r) = row_next r
-step_next _ = omega arith
-
 leads_next : (c d : Counts) (p q : Progress) (ls : List Label) → Leads c p ls d q → c.next ≤ d.next
 leads_next c d p q [] r = rw r.0 (omega arith)
 leads_next c d p q (l ∷ ls) r = let here = step_next r.2 in let rest = leads_next r.0 d r.1 q ls r.3 in omega arith

@@ -4,8 +4,7 @@ use Rattle.std.specs.Prelude.{slice_get}
 use Rattle.std.proofs.lemmas.Option.{slice_get_within, get_or_from_slice_get}
 use Rattle.std.proofs.lemmas.List.Elements.{All-nil, All-cons, All-head, All-tail}
 use Rattle.fx_model.specs.Row.{Label, Silent, Shows, Learns, Starts}
-use Rattle.fx_model.specs.Run.{events}
-use Rattle.fx_model.specs.Causes.{shown}
+use Rattle.fx_model.specs.Run.{events, shown}
 
 -- they show the same events
 pub shown_events : (ls : List Label) → events (shown ls) ≡ events ls

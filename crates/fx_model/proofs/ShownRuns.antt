@@ -4,8 +4,8 @@ use Rattle.fx_term.specs.Term.{Term}
 use Rattle.fx_model.specs.Path.{is_open, must_cancel}
 use Rattle.fx_model.specs.Row.{Counts, Label, Silent, Shows, Learns, Starts, Row}
 use Rattle.fx_model.specs.Step.{Progress, Runs, Step, row}
-use Rattle.fx_model.specs.Run.{first_counts, Leads}
-use Rattle.fx_model.specs.MaskLaws.{shown, CanShow}
+use Rattle.fx_model.specs.Run.{first_counts, Leads, shown}
+use Rattle.fx_model.specs.MaskLaws.{CanShow}
 
 pub leads_append : (c : Counts) (p : Progress) (ls ms : List Label) (d e : Counts) (q r : Progress) → Leads c p ls d q → Leads d q ms e r
     → Leads c p (ls ++ ms) e r

@@ -1,13 +1,11 @@
 -- A fiber comes to an end: each of its steps, but for a request that is seen, leaves less work.
-use Rattle.std.proofs.Common.{◌≤◌, length, All, ◌≡◌, ◌≢◌, ℕ, suc, ◌+◌, ◌-◌, ◌*◌, ◌<◌, Bool, Option, Some, None, List, [], ◌∷◌, ◌++◌, refl, arith}
+use Rattle.std.proofs.Common.{◌≤◌, length, All, ◌≡◌, ◌≢◌, ℕ, suc, ◌+◌, ◌-◌, ◌*◌, ◌<◌, Bool, List, [], ◌∷◌, refl, arith}
 use Rattle.std.proofs.lemmas.List.Elements.{All-head, All-tail}
 use Rattle.fx_term.specs.declared.done.Done.TheVariants.{Val}
-use Rattle.fx_term.specs.declared.outcome.Outcome.{Outcome}
-use Rattle.fx_term.specs.declared.outcome.Outcome.TheVariants as outcome
 use Rattle.fx_term.specs.declared.event.Event.TheVariants as event
 use Rattle.fx_term.specs.Term.{Term, Never, Let, Handle, If, For, Mask, Poll, OnCancel, Bracket, Start, Join, TryTake, Finished, Masked, Opened, InUse}
-use Rattle.fx_term.specs.Term.{InRelease, Loop, put, put_named}
-use Rattle.fx_model.specs.Path.{Context, LetIn, OnCancelIn, InUseIn, plug, CleanupTerm, Finalizer, Release, cleanup_terms}
+use Rattle.fx_term.specs.Term.{InRelease, Loop, put}
+use Rattle.fx_model.specs.Path.{Context, LetIn, plug, cleanup_terms}
 use Rattle.fx_model.specs.Row.{Counts, Label, Shows, part_after, Row}
 use Rattle.fx_model.specs.Row as row
 use Rattle.fx_model.specs.Step.{Progress, Runs, Unwinds, CleansUp, HasEnded, Step}
@@ -15,7 +13,8 @@ use Rattle.fx_model.specs.Step as step
 use Rattle.fx_model.specs.Run.{IsUnrequested, Leads}
 use Rattle.fx_model.specs.PutsLeft.{puts_of}
 use Rattle.fx_model.specs.Work.{work, clean_up_work, work_left}
-use Rattle.fx_model.proofs.Paths.{along_path}
+use Rattle.fx_model.proofs.Measures.{kept_by_name, branch_within, cleanups_within}
+use Rattle.fx_model.proofs.StepLabels.{row_tells}
 
 -- a number for a name is no work
 pub work_put : (x n : ℕ) (t : Term) → work (put x n t) ≡ work t
@@ -37,19 +36,9 @@ work_put x n (InRelease k a v) = let p = work_put x n a in cc
 work_put x n (Loop y k c a) = let p = work_put x n a in cc
 work_put x n _ = refl
 
-pub work_put_named : (x : Option ℕ) (n : ℕ) (t : Term) → work (put_named x n t) ≡ work t
-work_put_named None n t = refl
-work_put_named (Some x) n t = work_put x n t
-
 -- a turn of a loop takes one from those that are left
 turn_lowers : (m left w : ℕ) → left ≡ suc m → 1 + w + (2 + m * (2 + w)) < 2 + left * (2 + w)
 turn_lowers m left w e = grind arith
-
--- the branch that is chosen is a part of the work
-part_lowers : (o : Outcome) (x e : ℕ) (a b c : Term) → work (part_after o x a e b c) < 1 + work a + work b + work c
-part_lowers (outcome.Succeeded n) x e a b c = let p = work_put x n a in omega arith
-part_lowers (outcome.Errored n) x e a b c = let p = work_put e n b in omega arith
-part_lowers outcome.Canceled x e a b c = omega arith
 
 -- a context has its own work beside that of its part
 pub work_plug : (f : Context) (a : Term) → 1 + work (plug f a) ≡ work a + work (plug f (Finished (Val 0)))
@@ -60,34 +49,29 @@ work_plug _ a = omega arith
 pub row_lowers : (k : Bool) (c d : Counts) (l : Label) (t t' : Term) → Row k c t l d t' → work t' < work t
 row_lowers k c d l t t' (row.for_begins {n = n}) = let e : n - 0 ≡ n = omega arith in rw e (omega arith)
 row_lowers k c d l t t' (row.loop_turns {i = i} {k = j} {n = n} {t = a} h) = rw (work_put i j a) (turn_lowers (n - (j + 1)) (n - j) (work a) (omega arith))
-row_lowers k c d l t t' (row.let_value {x = x} {n = n} {b = b}) = let p = work_put_named x n b in omega arith
-row_lowers k c d l t t' (row.handle_error {x = x} {e = e} {b = b}) = let p = work_put_named x e b in omega arith
+row_lowers k c d l t t' (row.let_value {x = x} {n = n} {b = b}) = let p = kept_by_name work work_put x n b in omega arith
+row_lowers k c d l t t' (row.handle_error {x = x} {e = e} {b = b}) = let p = kept_by_name work work_put x e b in omega arith
 row_lowers k c d l t t' (row.mask {p = p} {t = a}) = let q = work_put p c.masks a in omega arith
-row_lowers k c d l t t' (row.acquired {x = x} {n = n} {u = u} {r = r}) = let p = work_put_named x n u in let q = work_put_named x n r in omega arith
+row_lowers k c d l t t' (row.acquired {x = x} {n = n} {u = u} {r = r}) =
+    let p = kept_by_name work work_put x n u in let q = kept_by_name work work_put x n r in omega arith
 row_lowers k c d l t t' (row.start {h = h} {b = b}) = let p = work_put h c.next b in omega arith
-row_lowers k c d l t t' (row.joined {x = x} {e = e} {a = a} {b = b} {d = g} {o = o}) = part_lowers o x e a b g
+row_lowers k c d l t t' (row.joined {x = x} {e = e} {a = a} {b = b} {d = g} {o = o}) =
+    let p = branch_within work work_put o x e a b g in omega arith
 row_lowers k c d l t t' (row.tried_take {n = n} {x = x} {a = a}) = let p = work_put x n a in omega arith
 row_lowers k c d l t t' (row.inside f {a = a} {a' = a'} e g r) =
     let here = row_lowers k c d l a a' r in let before = work_plug f a in let after = work_plug f a' in rw (e, g) (omega arith)
 row_lowers k c d l t t' _ = omega arith
 
-clean_up_work-append : (xs ys : List CleanupTerm) → clean_up_work (xs ++ ys) ≡ clean_up_work xs + clean_up_work ys
-clean_up_work-append [] ys = omega arith
-clean_up_work-append (Finalizer f ∷ xs) ys = let p = clean_up_work-append xs ys in omega arith
-clean_up_work-append (Release k r ∷ xs) ys = let p = clean_up_work-append xs ys in omega arith
-
-context_work : (f : Context) (a : Term) → clean_up_work (cleanup_terms a) < work a → clean_up_work (cleanup_terms (plug f a)) < work (plug f a)
-context_work (OnCancelIn f) a h = let p = clean_up_work-append (cleanup_terms a) (Finalizer f ∷ []) in omega arith
-context_work (InUseIn k r) a h = let p = clean_up_work-append (cleanup_terms a) (Release k r ∷ []) in omega arith
-context_work _ a h = omega arith
-
-some_work : (t : Term) → 0 < work t
+some_work : (t : Term) → 1 ≤ work t
 some_work Never = omega arith
 some_work _ = omega arith
 
 -- the clean-ups of a path are a part of its work
 clean_ups_lower : (t : Term) → clean_up_work (cleanup_terms t) < work t
-clean_ups_lower = along_path (λ t. clean_up_work (cleanup_terms t) < work t) context_work (λ t bare. rw bare (some_work t))
+clean_ups_lower t =
+    let within = cleanups_within work 2 1 some_work (λ a f. omega arith) (λ k a r. omega arith)
+    (λ f a. let p = work_plug f a in let q = some_work (plug f (Finished (Val 0))) in omega arith) t in
+    omega arith
 
 -- each step leaves less work, but for a request that is seen
 pub step_lowers : (c d : Counts) (l : Label) (p q : Progress) → l ≢ Shows event.Seen → Step c p l d q → work_left q < work_left p
@@ -106,13 +90,9 @@ leads_lower c d p q (l ∷ ls) r u =
     omega arith
 
 -- a step enters one mask, acquires one resource or puts one element at most, so these together and the work that is left are never more than before
-row_counts : {k : Bool} {c d : Counts} {l : Label} {t t' : Term} → Row k c t l d t' → d.masks + d.acquired + puts_of l ≤ 1 + c.masks + c.acquired
-row_counts (row.inside f e g r) = row_counts r
-row_counts _ = omega arith
-
 pub step_work : {c d : Counts} {p q : Progress} {l : Label} → Step c p l d q
     → d.masks + d.acquired + puts_of l + work_left q ≤ c.masks + c.acquired + work_left p
 step_work (step.cancelled {t = t} m) = let e = clean_ups_lower t in omega arith
-step_work {c} {d} {l = l} (step.row {t = t} {t' = t'} m r) = let e = row_lowers _ c d l t t' r in let f = row_counts r in omega arith
-step_work {c} {d} {l = l} (step.cleans {t = t} {t' = t'} r) = let e = row_lowers _ c d l t t' r in let f = row_counts r in omega arith
+step_work {c} {d} {l = l} (step.row {t = t} {t' = t'} m r) = let e = row_lowers _ c d l t t' r in let f = (row_tells r).counted in omega arith
+step_work {c} {d} {l = l} (step.cleans {t = t} {t' = t'} r) = let e = row_lowers _ c d l t t' r in let f = (row_tells r).counted in omega arith
 step_work _ = omega arith

@@ -1,14 +1,15 @@
 -- What an event stands on, and one order of all events of a report.
-use Rattle.std.specs.Prelude.{◌≡◌, ◌≢◌, ℕ, ◌<◌, ◌==◌, Bool, if◌then◌else◌, Option, Some, None, List, [], ◌∷◌, length, slice_get, take, Contains}
+use Rattle.std.specs.Prelude.{◌≡◌, ◌≢◌, ℕ, ◌<◌, ◌==◌, Bool, if◌then◌else◌, Option, Some, None, List, length, slice_get, take, Contains}
 use Rattle.std.specs.List.{filter, filter_map}
 use Rattle.fx_term.specs.declared.outcome.Outcome.{Outcome}
 use Rattle.fx_term.specs.declared.event.Event.{Event}
 use Rattle.fx_term.specs.declared.event.Event.TheVariants as event
 use Rattle.fx_term.specs.Script.{ScriptView}
 use Rattle.fx_term.specs.Queue.{QueueState, Taking, values_put}
-use Rattle.fx_model.specs.Row.{Label, Silent, Learns}
+use Rattle.fx_model.specs.Row.{Label, Learns}
+use Rattle.fx_model.specs.Run.{shown}
 use Rattle.fx_model.specs.Report.{FiberReportView, ReportView, fiber_in, trace_in}
-use Rattle.fx_model.specs.LawfulReport.{HasHistory, IsLawfulReport}
+use Rattle.fx_model.specs.LawfulReport.{IsLawfulReport}
 
 abbrev pub value_got : ℕ → Event → Option ℕ
 value_got q (event.Got r n) = if r == q then Some n else None
@@ -26,32 +27,27 @@ takings_of f s = filter (λ (t : Taking). t.taker == f) s.taken
 abbrev pub taking_of : QueueState → ℕ → ℕ → Option Taking
 taking_of s f nth = slice_get (takings_of f s) nth
 
--- the labels that show an event, so that the ith of them shows the ith event of the trace
-abbrev pub shown : List Label → List Label
-shown [] = []
-shown (Silent ∷ ls) = shown ls
-shown (l ∷ ls) = l ∷ shown ls
-
 -- In what follows fibers have a trace each, by number, and the labels of a run, and queues are left so, by number, by the histories of their events.
--- Event i of fiber f takes an element out of a queue, and event j of fiber g put that element there
+-- Event i of fiber f takes an element out of a queue, and event j of fiber g put that element there, with the value that was taken
 pub record TakesWhatWasPut (trace : ℕ → List Event) (IsLeft : ℕ → QueueState → Type 0) (f i g j : ℕ) : Type 0 where
   pub queue : ℕ
-  pub got_value : ℕ
-  pub got : slice_get (trace f) i ≡ Some (event.Got queue got_value)
+  pub value : ℕ
+  pub got : slice_get (trace f) i ≡ Some (event.Got queue value)
   pub state : QueueState
   pub left : IsLeft queue state
   pub taking : Taking
   pub taken : taking_of state f (length (values_got queue (take i (trace f)))) ≡ Some taking
   pub fiber : taking.item.fiber ≡ g
-  pub put_value : ℕ
-  pub put : slice_get (trace g) j ≡ Some (event.Put queue put_value)
+  pub of_value : taking.item.value ≡ value
+  pub put : slice_get (trace g) j ≡ Some (event.Put queue value)
   pub nth : length (values_put queue (take j (trace g))) ≡ taking.item.nth
 
--- event i of fiber f needs that fiber g ended with that outcome, which event j of g tells
+-- event i of fiber f says what the fiber learnt: that fiber g ended with that outcome, which event j of g tells
 pub record LearnsOfEnd (trace : ℕ → List Event) (labels : ℕ → List Label) (f i g j : ℕ) : Type 0 where
   pub outcome : Outcome
   pub learning : Event
   pub learns : slice_get (shown (labels f)) i ≡ Some (Learns g outcome learning)
+  pub tells : slice_get (trace f) i ≡ Some learning
   pub ended : slice_get (trace g) j ≡ Some (event.Ended outcome)
 
 -- Event i of fiber f stands on event j of fiber g: a get on the put of what it took, what learns of an end on that end, and a fiber's first event on the
@@ -88,24 +84,19 @@ pub record IsOneOrder (trace : ℕ → List Event) (labels : ℕ → List Label)
   pub needed : (f i g j : ℕ) → IsEvent trace f i → IsEvent trace g j → Needs trace labels IsLeft f i g j → moment g j < moment f i
   pub requested : (f i : ℕ) → slice_get (trace f) i ≡ Some event.Seen → (IsFromOutside f → ⊥) → IsRequestedBefore trace moment f (moment f i)
 
--- the queue at the end of its history
-abbrev pub end_of_queue : {r : ReportView} {q capacity : ℕ} → HasHistory r q capacity → QueueState
-end_of_queue h = h.leaves.last
-
 module _ (s : ScriptView) (may : ℕ → Bool) (r : ReportView) (lawful : IsLawfulReport s may r) where
   -- the history of queue q leaves it so
-  pub record LeavesQueue (q : ℕ) (state : QueueState) : Type 0 where
-    pub capacity : ℕ
-    pub at : slice_get s.capacities q ≡ Some capacity
-    pub is : state ≡ end_of_queue (lawful.histories q capacity at)
+  abbrev pub LeavesQueue : ℕ → QueueState → Type 0
+  LeavesQueue q state = state ≡ (lawful.histories q).leaves.last
 
-  -- what an event stands on is in the report: the put of what is taken out of a queue of the script, the end that is learnt, and the start of a fiber
+  -- what an event stands on is in the report: the put of what is taken out of a queue, the end that is learnt, and the start of a fiber, in its parent's trace
   pub record FindsItsCauses : Type 0 where
-    pub puts : (f i q n capacity : ℕ) → slice_get s.capacities q ≡ Some capacity → slice_get (trace_in r f) i ≡ Some (event.Got q n)
+    pub puts : (f i q n : ℕ) → slice_get (trace_in r f) i ≡ Some (event.Got q n)
         → (g : ℕ) × (j : ℕ) × TakesWhatWasPut (trace_in r) LeavesQueue f i g j
     pub ends : (f i : ℕ) (e : Event) → slice_get (trace_in r f) i ≡ Some e → IsLearning e
         → (g : ℕ) × (j : ℕ) × LearnsOfEnd (trace_in r) lawful.runs.labels f i g j
-    pub starts : (f : ℕ) (x : FiberReportView) → fiber_in r f ≡ Some x → f ≢ 0 → (g : ℕ) × (j : ℕ) × (slice_get (trace_in r g) j ≡ Some (event.Start f))
+    pub starts : (f : ℕ) (x : FiberReportView) → fiber_in r f ≡ Some x → f ≢ 0
+        → (g : ℕ) × (j : ℕ) × (x.parent ≡ Some g) × (slice_get (trace_in r g) j ≡ Some (event.Start f))
 
   -- One order of all events of the report
   pub record CausesComeFirst : Type 0 where

@@ -1,5 +1,5 @@
--- What a lawful report says once all its fibers have ended.
-use Rattle.std.specs.Prelude.{◌≡◌, ℕ, Bool, true, Some, None, List, ◌++◌, slice_get}
+-- What a lawful report says, of each fiber that has ended and of each queue.
+use Rattle.std.specs.Prelude.{◌≡◌, ℕ, Bool, true, Some, None, List, ◌++◌}
 use Rattle.fx_term.specs.declared.outcome.Outcome.{Outcome}
 use Rattle.fx_term.specs.declared.event.Event.{Event}
 use Rattle.fx_term.specs.declared.queue_event.QueueEvent.{QueueEvent}
@@ -9,7 +9,7 @@ use Rattle.fx_model.specs.Step.{Runs}
 use Rattle.fx_model.specs.Run.{first_counts}
 use Rattle.fx_model.specs.Balanced.{IsBalanced}
 use Rattle.fx_model.specs.PairedMasks.{CancelsWhereOpened}
-use Rattle.fx_model.specs.Report.{FiberReportView, ReportView, fiber_in, trace_in, left_in, outcome_shown}
+use Rattle.fx_model.specs.Report.{FiberReportView, ReportView, fiber_in, trace_in, left_in, capacity_of, outcome_shown}
 use Rattle.fx_model.specs.LawfulReport.{HasRuns, EndsWith, IsLawfulReport}
 
 -- One order of the events of a queue, which keeps each fiber's own and leaves what is left; its takes, then what is left, cut to one fiber's offers, are that
@@ -33,18 +33,15 @@ pub record EndsBalanced (trace : List Event) : Type 0 where
   pub stops : StopsAt trace outcome
   pub balanced : IsBalanced trace
 
--- each queue's offers are accounted for; each fiber's trace ends balanced; and cancellation acted only where each mask round it was opened by its poll
+-- each queue's offers are accounted for, whether the fibers have ended or not; the trace of each fiber that has ended does so balanced; and cancellation acted
+-- only where each mask round it was opened by its poll
 pub record HoldsWhatIsPromised (s : ScriptView) (r : ReportView) (runs : HasRuns s r) : Type 0 where
-  pub queues : (q capacity : ℕ) → slice_get s.capacities q ≡ Some capacity → EachOfferOnce r q capacity
-  pub ends : (f : ℕ) (x : FiberReportView) → fiber_in r f ≡ Some x → EndsBalanced x.trace
+  pub queues : (q : ℕ) → EachOfferOnce r q (capacity_of s q)
+  pub ends : (f : ℕ) (x : FiberReportView) → fiber_in r f ≡ Some x → x.has_ended ≡ true → EndsBalanced x.trace
   pub opened : (f : ℕ) (x : FiberReportView) (at : fiber_in r f ≡ Some x)
       → CancelsWhereOpened (first_counts (runs.origin f)) (Runs (runs.origin f).term) (runs.labels f) (runs.counts f) (runs.progress f) (runs.run f x at).run
 
--- every fiber of the report has ended
-abbrev pub AllEnded : ReportView → Type 0
-AllEnded r = (f : ℕ) (x : FiberReportView) → fiber_in r f ≡ Some x → x.has_ended ≡ true
-
--- a lawful report that holds what is promised if every fiber of it has ended
+-- a lawful report that holds what is promised
 pub record KeepsWhatIsPromised (s : ScriptView) (may : ℕ → Bool) (r : ReportView) : Type 0 where
   pub lawful : IsLawfulReport s may r
-  pub promised : AllEnded r → HoldsWhatIsPromised s r lawful.runs
+  pub promised : HoldsWhatIsPromised s r lawful.runs

@@ -1,5 +1,5 @@
 -- Which reports a run of a script's fibers can have.
-use Rattle.std.specs.Prelude.{◌≡◌, ◌≢◌, ℕ, ◌<◌, ◌==◌, Bool, true, false, if◌then◌else◌, Option, Some, None, List, [], ◌∷◌, ◌++◌, length, map, slice_get}
+use Rattle.std.specs.Prelude.{◌≡◌, ◌≢◌, ℕ, ◌<◌, ◌==◌, Bool, true, false, if◌then◌else◌, Option, Some, None, List, [], ◌∷◌, ◌++◌, length, map}
 use Rattle.std.specs.Prelude.{All, Contains}
 use Rattle.std.specs.List.{filter}
 use Rattle.std.specs.List.Sorted.{IsStrictlyIncreasing}
@@ -15,7 +15,7 @@ use Rattle.fx_model.specs.Step.{Progress, has_ended}
 use Rattle.fx_model.specs.Run.{IsRun, events}
 use Rattle.fx_model.specs.Origin.{main_origin}
 use Rattle.fx_model.specs.Outside.{can_step}
-use Rattle.fx_model.specs.Report.{FiberReportView, ReportView, fiber_in, parent_in, trace_in, left_in, is_requested_in, final_outside}
+use Rattle.fx_model.specs.Report.{FiberReportView, ReportView, fiber_in, parent_in, trace_in, left_in, capacity_of, is_requested_in, final_outside}
 
 abbrev pub is_start_of : ℕ → Event → Bool
 is_start_of f (event.Start g) = g == f
@@ -65,7 +65,7 @@ pub record HasOrigins (s : ScriptView) (r : ReportView) (runs : HasRuns s r) : T
   pub child : (f : ℕ) (x : FiberReportView) → fiber_in r f ≡ Some x → All (BeginsAs runs.origin) (runs.labels f)
 
 -- a legal history of the queue, whose cut to each fiber is what its trace does there, with no event of a fiber outside the report, and whose rest is what is
--- left
+-- left; so nothing is put into a queue that holds no elements, as one that is not declared, nor taken out of it
 pub record HasHistory (r : ReportView) (q capacity : ℕ) : Type 0 where
   pub history : List QueueEvent
   pub leaves : Leaves capacity history (left_in r q)
@@ -92,7 +92,7 @@ pub record IsLawfulReport (s : ScriptView) (may_be_requested : ℕ → Bool) (r 
   pub runs : HasRuns s r
   pub origins : HasOrigins s r runs
   pub left_by_queue : length r.left ≡ length s.capacities
-  pub histories : (q capacity : ℕ) → slice_get s.capacities q ≡ Some capacity → HasHistory r q capacity
+  pub histories : (q : ℕ) → HasHistory r q (capacity_of s q)
   pub learnt : (f : ℕ) (x : FiberReportView) → fiber_in r f ≡ Some x → All (IsLearnt r) (runs.labels f)
   pub seen : (f : ℕ) (x : FiberReportView) → fiber_in r f ≡ Some x → All (IsSeenRightly r f) (runs.labels f)
   pub outside_ascending : IsStrictlyIncreasing r.outside

@@ -19,3 +19,4 @@ pub mod Report
 pub mod LawfulReport
 pub mod Headline
 pub mod Causes
+pub mod Happenings

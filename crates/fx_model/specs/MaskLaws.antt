@@ -1,5 +1,5 @@
 -- What the laws of masks say: two terms show the same.
-use Rattle.std.specs.Prelude.{◌≡◌, ◌↔◌, ℕ, Option, None, List, [], ◌∷◌}
+use Rattle.std.specs.Prelude.{◌≡◌, ◌↔◌, ℕ, Option, None, List, ◌∷◌}
 use Rattle.fx_term.specs.declared.node.Arg.TheVariants.{Number, Slot}
 use Rattle.fx_term.specs.declared.event.Event.TheVariants as event
 use Rattle.fx_term.specs.Term.{Term, Pure, Let, Handle, If, For, Mask, Poll, OnCancel, Bracket, Start, Join, TryTake, Finished, Masked, Opened, InUse}
@@ -8,15 +8,9 @@ use Rattle.fx_term.specs.declared.name_kind.NameKind.{NameKind}
 use Rattle.fx_term.specs.declared.name_kind.NameKind.TheVariants as kind
 use Rattle.fx_term.specs.Scope.{with_name, IsScoped}
 use Rattle.fx_model.specs.Origin.{Origin}
-use Rattle.fx_model.specs.Row.{Counts, Label, Silent, Shows}
+use Rattle.fx_model.specs.Row.{Counts, Label, Shows}
 use Rattle.fx_model.specs.Step.{Progress}
-use Rattle.fx_model.specs.Run.{IsRun}
-
--- the labels but the silent ones
-abbrev pub shown : List Label → List Label
-shown [] = []
-shown (Silent ∷ ls) = shown ls
-shown (l ∷ ls) = l ∷ shown ls
+use Rattle.fx_model.specs.Run.{IsRun, shown}
 
 -- a fiber that begins so has a run, ended or not, that shows this
 pub record CanShow (b : Origin) (shows : List Label) : Type 0 where

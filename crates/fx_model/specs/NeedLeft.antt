@@ -1,16 +1,14 @@
 -- How many fiber numbers a fiber can still use.
-use Rattle.std.specs.Prelude.{◌≡◌, ℕ, suc, ◌+◌, ◌≤◌, List, [], ◌∷◌}
+use Rattle.std.specs.Prelude.{◌≡◌, ℕ, suc, ◌+◌, ◌≤◌, List}
 use Rattle.fx_term.specs.Need.{need}
-use Rattle.fx_model.specs.Path.{CleanupTerm, Finalizer, Release}
+use Rattle.fx_model.specs.Path.{CleanupTerm, over_cleanups}
 use Rattle.fx_model.specs.Row.{Counts, Starts}
 use Rattle.fx_model.specs.Origin.{Origin}
 use Rattle.fx_model.specs.Step.{Progress, Runs, Unwinds, CleansUp, HasEnded, Step}
 
 -- how many fiber numbers the clean-ups can use
 abbrev pub clean_up_need : List CleanupTerm → ℕ
-clean_up_need [] = 0
-clean_up_need (Finalizer f ∷ rest) = need f + clean_up_need rest
-clean_up_need (Release k r ∷ rest) = need r + clean_up_need rest
+clean_up_need = over_cleanups need 0
 
 -- how many the fiber can use from there on
 abbrev pub need_left : Progress → ℕ

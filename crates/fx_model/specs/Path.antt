@@ -1,5 +1,5 @@
 -- Where a running term stands: the contexts round its leaf, what they close, and their clean-ups.
-use Rattle.std.specs.Prelude.{ℕ, Bool, true, false, ◌&&◌, ◌||◌, Option, List, [], ◌∷◌, ◌++◌}
+use Rattle.std.specs.Prelude.{ℕ, ◌+◌, Bool, true, false, ◌&&◌, ◌||◌, Option, List, [], ◌∷◌, ◌++◌}
 use Rattle.fx_term.specs.declared.done.Done.{Done}
 use Rattle.fx_term.specs.Term.{Term, Let, Handle, OnCancel, Bracket, Masked, Opened, InUse, InRelease, Await, Canceled}
 use Rattle.fx_mask.specs.Closing.{Closing, Region, Seal, without_region, is_none_closed}
@@ -90,6 +90,12 @@ cleanups_along (f ∷ fs) = cleanups_with f (cleanups_along fs)
 -- the clean-ups of the path to the leaf, from the inside out
 abbrev pub cleanup_terms : Term → List CleanupTerm
 cleanup_terms t = cleanups_along (path t)
+
+-- a measure of terms summed over clean-ups, each of which counts so much more
+abbrev pub over_cleanups : (Term → ℕ) → ℕ → List CleanupTerm → ℕ
+over_cleanups m more [] = 0
+over_cleanups m more (Finalizer f ∷ rest) = more + m f + over_cleanups m more rest
+over_cleanups m more (Release k r ∷ rest) = more + m r + over_cleanups m more rest
 
 abbrev pub is_canceled_form : Term → Bool
 is_canceled_form Canceled = true

@@ -3,7 +3,7 @@ use Rattle.std.specs.Prelude.{ℕ, suc, ◌+◌, ◌-◌, ◌*◌, max, List, []
 use Rattle.fx_term.specs.declared.event.Event.TheVariants as event
 use Rattle.fx_term.specs.Term.{Term, Let, Handle, If, For, Mask, Poll, OnCancel, Bracket, Start, Join, Offer, TryOffer, TryTake, Masked, Opened, InUse}
 use Rattle.fx_term.specs.Term.{InRelease, Loop}
-use Rattle.fx_model.specs.Path.{CleanupTerm, Finalizer, Release}
+use Rattle.fx_model.specs.Path.{CleanupTerm, over_cleanups}
 use Rattle.fx_model.specs.Row.{Label, Shows}
 use Rattle.fx_model.specs.Step.{Progress, Runs, Unwinds, CleansUp, HasEnded}
 
@@ -30,9 +30,7 @@ puts (TryOffer q v) = 1
 puts _ = 0
 
 abbrev pub clean_up_puts : List CleanupTerm → ℕ
-clean_up_puts [] = 0
-clean_up_puts (Finalizer f ∷ rest) = puts f + clean_up_puts rest
-clean_up_puts (Release k r ∷ rest) = puts r + clean_up_puts rest
+clean_up_puts = over_cleanups puts 0
 
 -- at most how many it puts from there on
 abbrev pub puts_left : Progress → ℕ

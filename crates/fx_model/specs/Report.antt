@@ -1,5 +1,5 @@
 -- A report of a script's fibers, and what it says by their numbers.
-use Rattle.std.specs.Prelude.{ℕ, ◌==◌, nat_lt, Bool, false, ◌||◌, Option, Some, None, List, [], ◌∷◌, length, slice_index, slice_index_or}
+use Rattle.std.specs.Prelude.{◌≡◌, ℕ, ◌==◌, nat_lt, Bool, true, false, ◌||◌, Option, Some, None, List, [], ◌∷◌, length, slice_index, slice_index_or}
 use Rattle.std.specs.List.{find, list_any}
 use Rattle.fx_term.specs.declared.outcome.Outcome.{Outcome}
 use Rattle.fx_term.specs.declared.event.Event.{Event}
@@ -26,6 +26,10 @@ pub record ReportView : Type 0 where
 abbrev pub fiber_in : ReportView → ℕ → Option FiberReportView
 fiber_in r f = find (λ (x : FiberReportView). x.id == f) r.fibers
 
+-- every fiber of the report has ended
+abbrev pub AllEnded : ReportView → Type 0
+AllEnded r = (f : ℕ) (x : FiberReportView) → fiber_in r f ≡ Some x → x.has_ended ≡ true
+
 abbrev pub parent_of_report : Option FiberReportView → Option ℕ
 parent_of_report None = None
 parent_of_report (Some x) = x.parent
@@ -45,6 +49,10 @@ trace_in r f = trace_of_report (fiber_in r f)
 abbrev pub left_in : ReportView → ℕ → List Item
 left_in r q = slice_index_or r.left q []
 
+-- how many elements the queue of that number can hold; none where the script declares no such queue
+abbrev pub capacity_of : ScriptView → ℕ → ℕ
+capacity_of s q = slice_index s.capacities q
+
 -- the outcome that a trace tells
 abbrev pub outcome_shown : List Event → Option Outcome
 outcome_shown [] = None
@@ -63,7 +71,7 @@ is_requested_in r f = list_any (λ (x : FiberReportView). list_any (is_request_f
 abbrev pub final_outside : ScriptView → ReportView → Outside
 final_outside s r = record {
   outcome = λ f. outcome_shown (trace_in r f);
-  has_room = λ q. nat_lt (length (left_in r q)) (slice_index s.capacities q);
+  has_room = λ q. nat_lt (length (left_in r q)) (capacity_of s q);
   has_element = λ q. nat_lt 0 (length (left_in r q));
   is_requested = is_requested_in r;
 }

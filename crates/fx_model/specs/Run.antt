@@ -23,6 +23,12 @@ IsUnrequested l = l ≢ Shows event.Seen
 abbrev pub IsRun : Origin → List Label → Counts → Progress → Type 0
 IsRun b ls d q = Leads (first_counts b) (Runs b.term) ls d q
 
+-- the labels but the silent ones: the ith of them shows the ith event
+abbrev pub shown : List Label → List Label
+shown [] = []
+shown (Silent ∷ ls) = shown ls
+shown (l ∷ ls) = l ∷ shown ls
+
 -- the events that labels show
 abbrev pub events : List Label → List Event
 events [] = []

@@ -1,8 +1,8 @@
 -- How much work is left to a fiber.
-use Rattle.std.specs.Prelude.{ℕ, ◌+◌, ◌-◌, ◌*◌, List, [], ◌∷◌}
+use Rattle.std.specs.Prelude.{ℕ, ◌+◌, ◌-◌, ◌*◌, List}
 use Rattle.fx_term.specs.Term.{Term, Pure, Raise, Canceled, Never, Cede, Let, Handle, If, For, Mask, Poll, OnCancel, Bracket, Start, Join, Cancel, First, Offer}
 use Rattle.fx_term.specs.Term.{TryOffer, Take, TryTake, Finished, Masked, Opened, InUse, InRelease, Loop, Await}
-use Rattle.fx_model.specs.Path.{CleanupTerm, Finalizer, Release}
+use Rattle.fx_model.specs.Path.{CleanupTerm, over_cleanups}
 use Rattle.fx_model.specs.Step.{Progress, Runs, Unwinds, CleansUp, HasEnded}
 
 -- more than the steps that a term can make, with those of the fibers that it starts, one of which sees a request in a step of its own
@@ -38,9 +38,7 @@ work (Await f) = 2
 
 -- a clean-up is begun and ended beside its own steps
 abbrev pub clean_up_work : List CleanupTerm → ℕ
-clean_up_work [] = 0
-clean_up_work (Finalizer f ∷ rest) = 2 + work f + clean_up_work rest
-clean_up_work (Release k r ∷ rest) = 2 + work r + clean_up_work rest
+clean_up_work = over_cleanups work 2
 
 -- more than the steps that are left to a fiber and to those that it will start
 abbrev pub work_left : Progress → ℕ

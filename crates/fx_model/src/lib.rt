@@ -48,7 +48,7 @@
 //! | [`laws::scopes`] | names stay bound, and a fiber reaches only fibers whose numbers were given to it |
 //! | [`laws::ranges`], [`laws::puts`] | starts take their numbers in the fiber's range; puts are bounded by the term |
 //! | [`laws::waits`] | a fiber that waits can step exactly where what it waits for has come |
-//! | [`laws::reports`] | a lawful report whose fibers have all ended has what is promised; what an event stands on is there |
+//! | [`laws::reports`] | a lawful report has what is promised; what an event stands on is there |
 #![tactic(auto)]
 
 mod closed;

@@ -33,7 +33,7 @@ impl Report {
     ghost use Rattle.std.specs.Prelude.{◌≡◌};
     ghost use Rattle.std.specs.Bool.{OnTrue};
     ghost use Rattle.std.specs.List.{list_all};
-    ghost use Rattle.fx_model.specs.Headline.{AllEnded};
+    ghost use Rattle.fx_model.specs.Report.{AllEnded};
     ghost use Rattle.fx_model.specs.Report.{FiberReportView};
 
     /// Whether each fiber has ended, so that none waits for good.

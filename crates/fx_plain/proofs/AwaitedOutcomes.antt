@@ -6,9 +6,9 @@ use Rattle.fx_term.specs.declared.outcome.Outcome as outcome
 use Rattle.fx_model.specs.declared.source.Source.TheVariants.{Outcome, Either}
 use Rattle.fx_plain.specs.declared.class.Class.{Class}
 use Rattle.fx_plain.specs.declared.class.Class.TheVariants.{Unstarted, Able, Waits, Over}
-use Rattle.fx_plain.specs.WholeMachine.{with_at}
+use Rattle.fx_term.specs.Maps.{with_at}
 use Rattle.fx_plain.specs.Classes.{class_requested, waits_for_end, class_at_end, requested_classes, ended_classes, outcome_has_come, AwaitWhatIsToCome}
-use Rattle.fx_plain.proofs.Maps.{at_that, at_other}
+use Rattle.fx_term.proofs.MapLaws.{at_that, at_other}
 
 same_come : (outcomes outcomes' : ℕ → Option outcome.Outcome) → ((g : ℕ) → outcomes' g ≡ outcomes g) → (k : Class)
     → outcome_has_come outcomes' k ≡ outcome_has_come outcomes k

@@ -15,24 +15,24 @@ use Rattle.fx_term.proofs.QueueLaws.{replayed_append}
 use Rattle.fx_model.specs.Row.{Counts, Label, Learns, Starts}
 use Rattle.fx_model.specs.Origin.{Origin}
 use Rattle.fx_model.specs.Step.{Progress, Step}
-use Rattle.fx_model.specs.Run.{events}
+use Rattle.fx_model.specs.Run.{events, shown}
 use Rattle.fx_model.specs.Outside.{outcome_at}
-use Rattle.fx_model.specs.Report.{is_request_for}
-use Rattle.fx_model.specs.Causes.{values_got, taking_of, shown, TakesWhatWasPut, LearnsOfEnd, Needs, taken_element, end_of_other, start}
+use Rattle.fx_model.specs.Report.{capacity_of, is_request_for}
+use Rattle.fx_model.specs.Causes.{values_got, taking_of, TakesWhatWasPut, LearnsOfEnd, Needs, taken_element, end_of_other, start}
 use Rattle.fx_model.proofs.Runs.{events_append}
 use Rattle.fx_model.proofs.OutcomeLaws.{no_step_after_end}
 use Rattle.fx_model.proofs.ShownLabels.{shown_length, shown_append, one_shown, shown_holds}
 use Rattle.fx_model.proofs.EventLabels.{start_label, seen_label, learnt_label}
 use Rattle.fx_model.proofs.StepLabels.{IsProper, step_tells}
 use Rattle.fx_model.proofs.Takes.{takes_counted, taken_before, fewer_before, taken_was_put}
-use Rattle.fx_model.proofs.OneOrder.{GrowsAt, Stands, stood, comes, stands, take_stays, old_or_new, HasOrder, StoodBefore, both, cause, IsRequestedIn}
-use Rattle.fx_model.proofs.OneOrder.{SeenAfter, seen, sees, order_grows}
+use Rattle.fx_model.proofs.OneOrder.{GrowsAt, Stands, stood, comes, stood_within, stands, take_stays, old_or_new, HasOrder, StoodBefore, both, cause}
+use Rattle.fx_model.proofs.OneOrder.{IsRequestedIn, SeenAfter, seen, sees, order_grows}
 use Rattle.fx_plain.specs.WholeMachine.{StartedFiber, WholeMachine, opening, IsAnswered, moved}
 use Rattle.fx_plain.proofs.Moments.{moment_after, moment_now, moment_kept}
 use Rattle.fx_plain.proofs.WholeMachineSteps.{still_itself}
 use Rattle.fx_plain.proofs.RangesKept.{HasRanges, opened_at, fresh, child_is_another}
 use Rattle.fx_plain.proofs.FamilyKept.{labels_of_fiber, labels_of}
-use Rattle.fx_plain.proofs.HistoriesKept.{capacity_of, HasHistories, labels_of_other}
+use Rattle.fx_plain.proofs.HistoriesKept.{HasHistories, labels_of_other}
 use Rattle.fx_plain.proofs.RunsKept.{IsSo, AreSo, HasRequests}
 
 abbrev pub trace_of : WholeMachine → ℕ → List Event
@@ -47,7 +47,7 @@ AreFromOutside m f = m.from_outside f ≡ true
 
 -- the events of a whole machine's fibers have one order
 abbrev pub IsInOrder : (s : ScriptView) (m : WholeMachine) → HasHistories s m → Type 0
-IsInOrder s m h = HasOrder (trace_of m) (labels_of m) (AreLeft h) (AreFromOutside m)
+IsInOrder s m h = HasOrder (trace_of m) h.history (labels_of m) (AreLeft h) (AreFromOutside m)
 
 -- a trace that asks for a fiber has a request for it
 record StandsAt (h : ℕ) (es : List Event) : Type 0 where
@@ -65,10 +65,20 @@ asked_at h (v ∷ es) e = elim (or_cases (is_request_for h v) (list_any (is_requ
     by_event (event.Request g) is = record { place = 0; at = ap (λ (k : ℕ). Some (event.Request k)) (eqb-true g h is) }
     by_event _ is = absurd cc
 
-pub opening_is_in_order : (s : ScriptView) (h : HasHistories s (opening s)) → IsInOrder s (opening s) h
-opening_is_in_order s h = record {
+-- a list with no places is empty
+no_events : (es : List Event) → ((i : ℕ) → i < length es → ⊥) → es ≡ []
+no_events [] none = refl
+no_events (e ∷ es) none = absurd (none 0 (omega arith))
+
+pub opening_is_in_order : (s : ScriptView) (h : HasHistories s (opening s)) → ((q : ℕ) → h.history q ≡ []) → IsInOrder s (opening s) h
+opening_is_in_order s h empty = record {
   moment = λ f i. 0;
-  now = 0;
+  list = [];
+  listed = record {
+    traces = λ f. sym (no_events (trace_of (opening s) f) (none f));
+    histories = λ q. sym (empty q);
+    moments = λ f i e at. absurd (none f i (slice_get_within (trace_of (opening s) f) i e at));
+  };
   past = λ f i lt. absurd (none f i lt);
   in_order = record {
     distinct = λ f i g j lt lt' e. absurd (none f i lt);
@@ -153,49 +163,50 @@ module _ (s : ScriptView) (m : WholeMachine) (f : ℕ) (x : StartedFiber) (d : C
 
     takes : (a i b j : ℕ) → TakesWhatWasPut (trace_of after) (AreLeft h') a i b j → Before a i b j
     takes a i b j t =
-        by_get (stand a i (event.Got t.queue t.got_value) t.got) (stand b j (event.Put t.queue t.put_value) t.put)
+        by_get (stand a i (event.Got t.queue t.value) t.got) (stand b j (event.Put t.queue t.value) t.put)
       where
         taken : taking_of (h'.state t.queue) a (length (values_got t.queue (take i (trace_of after a)))) ≡ Some t.taking
         taken =
             subst (λ (q : QueueState). taking_of q a (length (values_got t.queue (take i (trace_of after a)))) ≡ Some t.taking) t.left t.taken
 
         -- a put that comes now is none of what was taken
-        not_yet : slice_get (trace_of m a) i ≡ Some (event.Got t.queue t.got_value) → b ≡ f → j ≡ length (trace_of m f) → ⊥
+        not_yet : slice_get (trace_of m a) i ≡ Some (event.Got t.queue t.value) → b ≡ f → j ≡ length (trace_of m f) → ⊥
         not_yet got same place =
-            let then = taken_then a i t.queue t.got_value t.taking got taken in
+            let then = taken_then a i t.queue t.value t.taking got taken in
             let here : length (trace_of m b) ≡ length (trace_of m f) = ap (λ (k : ℕ). length (trace_of m k)) same in
             let all : take j (trace_of after b) ≡ trace_of m b =
             take_stays (trace_of m) (trace_of after) f (events (l ∷ [])) traces_grow b j (omega arith) ∙ take_all j (trace_of m b) (omega arith) in
             let count : length (values_put t.queue (trace_of m b)) ≡ t.taking.item.nth =
             ap (λ (es : List Event). length (values_put t.queue es)) (sym all) ∙ t.nth in
-            let below = taken_was_put (capacity_of s t.queue) t.queue a (length (values_got t.queue (take i (trace_of m a)))) (h.history t.queue)
+            let there = taken_was_put (capacity_of s t.queue) t.queue a (length (values_got t.queue (take i (trace_of m a)))) (h.history t.queue)
             (h.state t.queue) t.taking (trace_of m b) (h.legal t.queue)
             (subst (λ (k : ℕ). cut k (h.history t.queue) ≡ queue_events t.queue k (trace_of m b)) (sym t.fiber) (h.cuts t.queue b)) then in
+            let below = slice_get_within (values_put t.queue (trace_of m b)) t.taking.item.nth t.taking.item.value there in
             omega arith
 
-        by_get : Stands (trace_of m) f (events (l ∷ [])) a i (event.Got t.queue t.got_value)
-            → Stands (trace_of m) f (events (l ∷ [])) b j (event.Put t.queue t.put_value) → Before a i b j
+        by_get : Stands (trace_of m) f (events (l ∷ [])) a i (event.Got t.queue t.value)
+            → Stands (trace_of m) f (events (l ∷ [])) b j (event.Put t.queue t.value) → Before a i b j
         by_get (stood got) (stood put) =
             let before : take j (trace_of after b) ≡ take j (trace_of m b) =
             take_stays (trace_of m) (trace_of after) f (events (l ∷ [])) traces_grow b j
-            (let lt = within b j (event.Put t.queue t.put_value) put in omega arith) in
-            both (within a i (event.Got t.queue t.got_value) got) (within b j (event.Put t.queue t.put_value) put) (taken_element (record {
+            (let lt = within b j (event.Put t.queue t.value) put in omega arith) in
+            both (within a i (event.Got t.queue t.value) got) (within b j (event.Put t.queue t.value) put) (taken_element (record {
               queue = t.queue;
-              got_value = t.got_value;
+              value = t.value;
               got = got;
               state = h.state t.queue;
               left = refl;
               taking = t.taking;
-              taken = taken_then a i t.queue t.got_value t.taking got taken;
+              taken = taken_then a i t.queue t.value t.taking got taken;
               fiber = t.fiber;
-              put_value = t.put_value;
+              of_value = t.of_value;
               put = put;
               nth = ap (λ (es : List Event). length (values_put t.queue es)) (sym before) ∙ t.nth;
             }))
         by_get (stood got) (comes same place is) = absurd (not_yet got same place)
-        by_get (comes same place is) (stood put) = cause same place (within b j (event.Put t.queue t.put_value) put)
+        by_get (comes same place is) (stood put) = cause same place (within b j (event.Put t.queue t.value) put)
         by_get (comes same place is) (comes same' place' is') =
-            absurd (let no : event.Got t.queue t.got_value ∷ [] ≡ event.Put t.queue t.put_value ∷ [] = sym is ∙ is' in cc)
+            absurd (let no : event.Got t.queue t.value ∷ [] ≡ event.Put t.queue t.value ∷ [] = sym is ∙ is' in cc)
 
     -- who is learnt of has ended, and makes no step
     ended_before : (a i b : ℕ) (o : Outcome) (e : Event) → slice_get (shown (labels_of m a)) i ≡ Some (Learns b o e) → b ≡ f → ⊥
@@ -219,9 +230,15 @@ module _ (s : ScriptView) (m : WholeMachine) (f : ℕ) (x : StartedFiber) (d : C
         by_label : Stands (λ g. shown (labels_of m g)) f (shown (l ∷ [])) a i (Learns b t.outcome t.learning)
             → Stands (trace_of m) f (events (l ∷ [])) b j (event.Ended t.outcome) → Before a i b j
         by_label (stood label) (stood end) =
-            both (let lt = slice_get_within (shown (labels_of m a)) i _ label in let same = shown_length (labels_of m a) in omega arith)
-            (within b j (event.Ended t.outcome) end)
-            (end_of_other (record { outcome = t.outcome; learning = t.learning; learns = label; ended = end }))
+            let inside : i < length (trace_of m a) =
+            (let lt = slice_get_within (shown (labels_of m a)) i _ label in let same = shown_length (labels_of m a) in omega arith) in
+            both inside (within b j (event.Ended t.outcome) end) (end_of_other (record {
+              outcome = t.outcome;
+              learning = t.learning;
+              learns = label;
+              tells = stood_within (trace_of m) f (events (l ∷ [])) a i t.learning inside (stand a i t.learning t.tells);
+              ended = end;
+            }))
         by_label (stood label) (comes same place is) = absurd (ended_before a i b t.outcome t.learning label same)
         by_label (comes same place is) (stood end) = cause same (place ∙ shown_length (labels_of m f)) (within b j (event.Ended t.outcome) end)
         by_label (comes same place is) (comes same' place' is') = absurd (learnt_label l b t.outcome t.outcome t.learning proper is is')
@@ -283,6 +300,7 @@ module _ (s : ScriptView) (m : WholeMachine) (f : ℕ) (x : StartedFiber) (d : C
       -- the events after a step are in order: that of the step comes last
       pub order_kept : IsInOrder s m h → IsInOrder s after h'
       order_kept o =
-          order_grows (trace_of m) (trace_of after) (labels_of m) (labels_of after) (AreLeft h) (AreLeft h') (AreFromOutside m) (AreFromOutside after) f
-          (events (l ∷ [])) traces_grow o (moment_after f (length (trace_of m f)) o.now o.moment) (λ g i lt. moment_kept (trace_of m) f o.now o.moment g i lt)
-          (moment_now f (length (trace_of m f)) o.now o.moment) causes_before seen_after
+          order_grows (trace_of m) (trace_of after) h.history h'.history (labels_of m) (labels_of after) (AreLeft h) (AreLeft h') (AreFromOutside m)
+          (AreFromOutside after) f (events (l ∷ [])) traces_grow grows o (moment_after f (length (trace_of m f)) (length o.list) o.moment)
+          (λ g i lt. moment_kept (trace_of m) f (length o.list) o.moment g i lt) (moment_now f (length (trace_of m f)) (length o.list) o.moment) causes_before
+          seen_after

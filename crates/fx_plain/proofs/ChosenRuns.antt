@@ -4,7 +4,7 @@ use Rattle.fx_term.specs.Forms.{IsCore}
 use Rattle.fx_term.specs.Script.{ScriptView}
 use Rattle.fx_model.specs.Report.{ReportView}
 use Rattle.fx_model.specs.LawfulReport.{IsLawfulReport}
-use Rattle.fx_model.specs.Causes.{IsLawfulInOneOrder}
+use Rattle.fx_model.specs.Happenings.{IsLawfulInOneList}
 use Rattle.fx_model.specs.Headline.{KeepsWhatIsPromised}
 use Rattle.fx_text.specs.declared.pick.Pick.{Pick}
 use Rattle.fx_plain.specs.WholeMachine.{WholeMachine, Move, IsSettled, WholeMachineLeads}
@@ -41,5 +41,5 @@ replay_is_lawful s ps r h = settled_is_lawful s r (replay_settles s ps r h)
 pub replay_keeps_promises : (s : ScriptView) (ps : List Pick) (r : ReportView) → IsCore s.term → IsReplay s ps r → KeepsWhatIsPromised s (λ f. true) r
 replay_keeps_promises s ps r core h = settled_keeps_promises s r core (replay_settles s ps r h)
 
-pub replay_is_in_order : (s : ScriptView) (ps : List Pick) (r : ReportView) → IsReplay s ps r → IsLawfulInOneOrder s (λ f. true) r
+pub replay_is_in_order : (s : ScriptView) (ps : List Pick) (r : ReportView) → IsReplay s ps r → IsLawfulInOneList s (λ f. true) r
 replay_is_in_order s ps r h = settled_is_in_order s r (replay_settles s ps r h)

@@ -7,10 +7,10 @@ use Rattle.std.proofs.lemmas.Bool.{cases_eq, cases_lt}
 use Rattle.std.proofs.lemmas.List.{get_or_past, get_or-replicate, length-map, length-replicate}
 use Rattle.fx_plain.specs.declared.class.Class.{Class}
 use Rattle.fx_plain.specs.declared.class.Class.TheVariants.{Unstarted, Over}
-use Rattle.fx_plain.specs.WholeMachine.{with_at}
+use Rattle.fx_term.specs.Maps.{with_at}
 use Rattle.fx_plain.specs.Classes.{class_requested, class_at_end, requested_classes, ended_classes}
 use Rattle.fx_plain.specs.ClassSets.{ClassesView, class_at, with_request, with_end}
-use Rattle.fx_plain.proofs.Maps.{at_that, at_other}
+use Rattle.fx_term.proofs.MapLaws.{at_that, at_other}
 
 -- before any start each is unstarted
 pub unstarted : (n f : ℕ) → class_at (replicate n Unstarted) f ≡ Unstarted

@@ -10,11 +10,12 @@ use Rattle.fx_model.specs.Step.{Progress, has_ended, Step}
 use Rattle.fx_model.proofs.Ends.{ended_after}
 use Rattle.fx_plain.specs.declared.class.Class.{Class}
 use Rattle.fx_plain.specs.declared.class.Class.TheVariants.{Unstarted, Able, Waits, Over}
-use Rattle.fx_plain.specs.WholeMachine.{StartedFiber, WholeMachine, with_at, begun, opening, fibers_after, requested_after, stepped, moved}
+use Rattle.fx_term.specs.Maps.{with_at}
+use Rattle.fx_plain.specs.WholeMachine.{StartedFiber, WholeMachine, begun, opening, fibers_after, requested_after, stepped, moved}
 use Rattle.fx_plain.specs.WholeMachine.{requested_from_outside}
 use Rattle.fx_plain.specs.Classes.{IsOfClass, AreOfClasses, opening_classes, class_requested, waits_for_end, class_at_end, requested_classes}
 use Rattle.fx_plain.specs.Classes.{classes_after}
-use Rattle.fx_plain.proofs.Maps.{at_that, at_other}
+use Rattle.fx_term.proofs.MapLaws.{at_that, at_other}
 use Rattle.fx_plain.proofs.ReadyFibers.{waiting_goes}
 
 pub of_class : {r r' : Bool} {z z' : Option StartedFiber} {k k' : Class} → r' ≡ r → z' ≡ z → k' ≡ k → IsOfClass r z k → IsOfClass r' z' k'

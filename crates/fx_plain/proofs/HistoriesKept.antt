@@ -18,16 +18,15 @@ use Rattle.fx_term.specs.declared.queue_event.QueueEvent.TheVariants.{Put, Got}
 use Rattle.fx_term.specs.Queue.{fiber_of, cut, QueueState, empty_queue, items_of, with_put, after_got, replayed_from, replayed, queue_event, queue_events}
 use Rattle.fx_term.specs.Queue.{values_put}
 use Rattle.fx_term.specs.Script.{ScriptView}
+use Rattle.fx_model.specs.Report.{capacity_of}
 use Rattle.fx_plain.specs.WholeMachine.{StartedFiber, WholeMachine, opening, front, has_room, IsAnswered, queues_after, moved}
-use Rattle.fx_plain.proofs.Maps.{at_that, at_other, same_number}
+use Rattle.fx_term.proofs.MapLaws.{at_that, at_other}
+use Rattle.fx_plain.proofs.Maps.{same_number}
 use Rattle.fx_model.proofs.StepLabels.{IsProper, step_tells}
 use Rattle.fx_term.proofs.QueueLaws.{replayed_append, length-numbered, elements_are_offers}
 use Rattle.fx_plain.proofs.WholeMachineSteps.{still_itself, still_other, still_none, child_is_there}
 use Rattle.fx_plain.proofs.RangesKept.{HasRanges, fresh, child_is_another}
 use Rattle.fx_plain.proofs.FamilyKept.{labels_of_fiber, labels_of}
-
-abbrev pub capacity_of : ScriptView → ℕ → ℕ
-capacity_of s q = slice_index s.capacities q
 
 pub record HasHistories (s : ScriptView) (m : WholeMachine) : Type 0 where
   pub history : ℕ → List QueueEvent
@@ -47,6 +46,11 @@ opening_has_histories s = record {
     | inr ne ↦ sym (ap (λ (o : Option StartedFiber). queue_events q f (events (labels_of_fiber o))) (at_other 0 _ (λ g. None) f ne))
   ];
 }
+
+-- nothing has happened at the opening
+pub opening_has_no_history : (s : ScriptView) (q : ℕ) → (opening_has_histories s).history q ≡ []
+unfolding opening_has_histories
+opening_has_no_history s q = refl
 
 -- a fiber's events are its own
 own_put : (f n : ℕ) (b : Bool) (xs : List QueueEvent) → cut f xs ≡ xs

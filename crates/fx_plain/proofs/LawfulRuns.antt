@@ -1,10 +1,10 @@
 -- The report of a run of the whole machine at whose end no fiber can step is lawful.
 use Rattle.std.specs.Prelude.{if◌then◌else◌}
 use Rattle.std.proofs.Common.{◌≡◌, ℕ, All, ◌<◌, Bool, true, Option, Some, None, List, [], ◌∷◌, length, refl, sym, ◌∙◌, ap, inl, inr}
-use Rattle.std.specs.Prelude.{nat_lt, slice_get, slice_index}
+use Rattle.std.specs.Prelude.{nat_lt, slice_index}
 use Rattle.std.specs.List.{list_any}
 use Rattle.std.proofs.lemmas.Bool.{or_cases, or_left, or_right}
-use Rattle.std.proofs.lemmas.Option.{none-some, same_Some, get_or_from_slice_get}
+use Rattle.std.proofs.lemmas.Option.{none-some, same_Some}
 use Rattle.std.proofs.lemmas.List.Elements.{All-weaker}
 use mathlib.Core.Path.{fun_ext}
 use Rattle.fx_term.specs.declared.outcome.Outcome.{Outcome}
@@ -19,12 +19,12 @@ use Rattle.fx_term.specs.Queue.{queue_events}
 use Rattle.fx_model.specs.Outside.{outcome_at, Outside, can_step}
 use Rattle.fx_term.specs.Forms.{IsCore}
 use Rattle.fx_term.specs.Script.{ScriptView, total}
-use Rattle.fx_model.specs.Report.{FiberReportView, ReportView, fiber_in, parent_of_report, parent_in, trace_of_report, trace_in, outcome_shown, is_request_for}
-use Rattle.fx_model.specs.Report.{is_requested_in, final_outside}
+use Rattle.fx_model.specs.Report.{FiberReportView, ReportView, fiber_in, parent_of_report, parent_in, trace_of_report, trace_in, capacity_of, outcome_shown}
+use Rattle.fx_model.specs.Report.{is_request_for, is_requested_in, final_outside}
 use Rattle.fx_model.specs.LawfulReport.{starts_of, is_parent, HasStarters, HasRun, HasRuns, BeginsAs, HasOrigins, HasHistory, IsLearnt, IsSeenRightly}
 use Rattle.fx_model.specs.LawfulReport.{IsLawfulReport}
 use Rattle.fx_model.specs.Headline.{KeepsWhatIsPromised}
-use Rattle.fx_model.proofs.HeadlineLaws.{ended_report_holds}
+use Rattle.fx_model.proofs.HeadlineLaws.{lawful_report_holds}
 use Rattle.fx_plain.specs.WholeMachine.{StartedFiber, WholeMachine, Move, opening, outcome_of_fiber, outcome_of, outside_of, can_step_fiber}
 use Rattle.fx_plain.specs.WholeMachine.{moved, FiberSteps, requested_from_outside, Steps, Requests, IsSettled, WholeMachineLeads, IsWholeMachineRun}
 use Rattle.fx_plain.specs.SettledRun.{report_of_fiber, IsReportOf, HasSettledRun}
@@ -45,7 +45,7 @@ pub record IsKept (s : ScriptView) (m : WholeMachine) : Type 0 where
   pub requests : HasRequests s m
   pub histories : HasHistories s m
 
-pub opening_is_kept : (s : ScriptView) → IsKept s (opening s)
+abbrev pub opening_is_kept : (s : ScriptView) → IsKept s (opening s)
 opening_is_kept s =
     record {
       ranges = opening_has_ranges s;
@@ -263,14 +263,12 @@ module _ (s : ScriptView) (m : WholeMachine) (r : ReportView) (rep : IsReportOf 
       child = λ f x e. all_labels (BeginsAs (λ g. origin_in (m.fibers g))) f (λ l. begins_as l f) x e;
     }
 
-    history_told : (q capacity : ℕ) → slice_get s.capacities q ≡ Some capacity → HasHistory r q capacity
-    history_told q capacity e =
-        let same : slice_index s.capacities q ≡ capacity = get_or_from_slice_get s.capacities q capacity 0 e in
-        record {
-          history = kept.histories.history q;
-          leaves = record { last = kept.histories.state q; legal = rw (← same) (kept.histories.legal q); rest_is = kept.histories.items q ∙ sym (rep.left q) };
-          cuts = λ f. kept.histories.cuts q f ∙ ap (queue_events q f) (sym (trace_same f));
-        }
+    history_told : (q : ℕ) → HasHistory r q (capacity_of s q)
+    history_told q = record {
+      history = kept.histories.history q;
+      leaves = record { last = kept.histories.state q; legal = kept.histories.legal q; rest_is = kept.histories.items q ∙ sym (rep.left q) };
+      cuts = λ f. kept.histories.cuts q f ∙ ap (queue_events q f) (sym (trace_same f));
+    }
 
     pub report_is_lawful : IsLawfulReport s (λ f. true) r
     unfolding runs_told
@@ -291,16 +289,19 @@ module _ (s : ScriptView) (m : WholeMachine) (r : ReportView) (rep : IsReportOf 
     unfolding report_is_lawful runs_told
     labels_told = refl
 
-    pub queues_told : (q capacity : ℕ) (at : slice_get s.capacities q ≡ Some capacity)
-        → (report_is_lawful.histories q capacity at).leaves.last ≡ kept.histories.state q
+    pub queues_told : (q : ℕ) → (report_is_lawful.histories q).leaves.last ≡ kept.histories.state q
     unfolding report_is_lawful runs_told history_told
-    queues_told q capacity at = refl
+    queues_told q = refl
+
+    pub histories_told : (q : ℕ) → (report_is_lawful.histories q).history ≡ kept.histories.history q
+    unfolding report_is_lawful runs_told history_told
+    histories_told q = refl
 
 -- the report of a run at whose end no fiber can step is lawful, where every number may be requested from outside
 pub settled_is_lawful : (s : ScriptView) (r : ReportView) → HasSettledRun s r → IsLawfulReport s (λ f. true) r
 settled_is_lawful s r h = report_is_lawful s h.last r h.report (run_keeps s h.moves h.last h.run) h.settled
 
--- where its fibers have all ended it holds what is promised
+-- it holds what is promised
 pub settled_keeps_promises : (s : ScriptView) (r : ReportView) → IsCore s.term → HasSettledRun s r → KeepsWhatIsPromised s (λ f. true) r
 settled_keeps_promises s r core h =
-    let lawful = settled_is_lawful s r h in record { lawful = lawful; promised = ended_report_holds s (λ f. true) r core lawful }
+    let lawful = settled_is_lawful s r h in record { lawful = lawful; promised = lawful_report_holds s (λ f. true) r core lawful }

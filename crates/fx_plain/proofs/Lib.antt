@@ -47,3 +47,5 @@ pub mod PlainMachineOpening
 pub mod PlainMachineWay
 pub mod PlainMachineWork
 pub mod PlainMachineReports
+pub mod NamedQueues
+pub mod Waits

@@ -1,21 +1,16 @@
 -- Maps by number, and lists.
 use Rattle.std.proofs.Common.{◌≡◌, ℕ, Bool, true, false, replicate, refl, sym, inl, inr, arith}
 use Rattle.std.specs.Prelude.{◌==◌, slice_index_or}
-use Rattle.std.proofs.lemmas.Bool.{eq-eqb, ne_eqb, cases_lt}
+use Rattle.std.proofs.lemmas.Bool.{eq-eqb, cases_lt}
+use Rattle.fx_term.proofs.MapLaws.{at_that}
 use Rattle.std.proofs.lemmas.List.{get_or_past, get_or-replicate, length-replicate}
-use Rattle.fx_plain.specs.WholeMachine.{with_at}
+use Rattle.fx_term.specs.Maps.{with_at}
 
 pub same_number : (n : ℕ) → (n == n) ≡ true
 same_number n = eq-eqb n n refl
 
 pub at_itself : {A : Type 0} (n : ℕ) (x : A) (m : ℕ → A) → with_at n x m n ≡ x
-at_itself n x m = rw (same_number n) refl
-
-pub at_that : {A : Type 0} (n : ℕ) (x : A) (m : ℕ → A) (k : ℕ) → k ≡ n → with_at n x m k ≡ x
-at_that n x m k e = rw (eq-eqb k n e) refl
-
-pub at_other : {A : Type 0} (n : ℕ) (x : A) (m : ℕ → A) (k : ℕ) → (k ≡ n → ⊥) → with_at n x m k ≡ m k
-at_other n x m k h = rw (ne_eqb k n h) refl
+at_itself n x m = at_that n x m n refl
 
 -- two tests that pass together are equal
 pub same_tests : (a b : Bool) → (a ≡ true → b ≡ true) → (b ≡ true → a ≡ true) → a ≡ b

@@ -2,8 +2,9 @@
 use Rattle.std.proofs.Common.{◌≡◌, ℕ, ◌<◌, List, length, ◌∙◌, ap, arith, inl, inr}
 use Rattle.std.proofs.lemmas.Bool.{cases_eq}
 use Rattle.fx_term.specs.declared.event.Event.{Event}
-use Rattle.fx_plain.specs.WholeMachine.{with_at}
-use Rattle.fx_plain.proofs.Maps.{at_itself, at_other}
+use Rattle.fx_term.specs.Maps.{with_at}
+use Rattle.fx_term.proofs.MapLaws.{at_other}
+use Rattle.fx_plain.proofs.Maps.{at_itself}
 
 -- the moments of events, where event k of fiber f comes now
 abbrev pub moment_after : (f k now : ℕ) → (ℕ → ℕ → ℕ) → ℕ → ℕ → ℕ

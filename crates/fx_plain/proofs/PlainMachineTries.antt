@@ -2,9 +2,8 @@
 use Rattle.std.proofs.Common.{◌≡◌, ◌⊎◌, ℕ, ◌+◌, ◌<◌, Bool, true, false, Option, Some, None, option_map, List, [], length, refl, sym, ◌∙◌, ap, subst}
 use Rattle.std.proofs.Common.{inl, inr, arith}
 use Rattle.std.proofs.Common.{get_or-set_same, get_or-set_other, length-set}
-use Rattle.std.specs.Prelude.{if◌then◌else◌, option_and_then, slice_index, slice_index_or, slice_set}
+use Rattle.std.specs.Prelude.{if◌then◌else◌, slice_index, slice_index_or, slice_set}
 use Rattle.std.proofs.lemmas.Bool.{cases_eq}
-use Rattle.std.proofs.lemmas.Option.{same_Some}
 use Rattle.std.proofs.lemmas.List.{length-map}
 use Rattle.std.proofs.lemmas.List.Sums.{sum_by-set}
 use Rattle.fx_term.specs.declared.node.Node.{Node}
@@ -20,20 +19,21 @@ use Rattle.fx_fiber.specs.Fiber.{FiberView, progress, IsAtFirst}
 use Rattle.fx_model.specs.declared.source.Source.{Source}
 use Rattle.fx_fiber.specs.declared.stepped.Stepped.{Stepped}
 use Rattle.fx_fiber.specs.declared.stepped.Stepped.TheVariants.{Went, Child, Waits, Gave, Ended}
-use Rattle.fx_model.specs.Waiting.{wait_at}
 use Rattle.fx_fiber.specs.MakesStep.{is_yielding, value_offered, AnswersSilently, Answers, StartsChild, Tells, MakesStep, OnlyWaits, DoesStep}
 use Rattle.fx_plain.specs.declared.class.Class.TheVariants as class
 use Rattle.fx_plain.specs.declared.plain_machine.Started.{Started}
 use Rattle.fx_plain.specs.declared.plain_machine.PlainMachine.{PlainMachine}
-use Rattle.fx_plain.specs.WholeMachine.{StartedFiber, WholeMachine, with_at, begun, fibers_after}
+use Rattle.fx_term.specs.Maps.{with_at}
+use Rattle.fx_plain.specs.WholeMachine.{StartedFiber, WholeMachine, begun, fibers_after}
 use Rattle.fx_plain.specs.PlainQueue.{have_room, have_element}
 use Rattle.fx_plain.specs.Classes.{is_ready}
 use Rattle.fx_plain.specs.ClassSets.{class_at, is_able}
 use Rattle.fx_plain.specs.World.{WorldView, is_ready_in, HeldFiber, held_of, StandsFor}
 use Rattle.fx_plain.specs.WorldClasses.{TellsWhoSteps}
-use Rattle.fx_plain.specs.PlainCalls.{PortView, plain_calls}
+use Rattle.fx_plain.specs.PlainCalls.{PortView, facts_of, plain_calls}
 use Rattle.fx_plain.specs.PlainMachine.{held, all_held, IsNumbered, able_count, StandsForRun, Tries, waits}
-use Rattle.fx_plain.proofs.Maps.{at_itself, at_that, at_other}
+use Rattle.fx_term.proofs.MapLaws.{at_that, at_other}
+use Rattle.fx_plain.proofs.Maps.{at_itself}
 use Rattle.fx_plain.proofs.WorldClasses.{unready_cannot}
 use Rattle.fx_plain.proofs.ClassSets.{class_at_set}
 use Rattle.fx_plain.proofs.WaitSteps.{refused_unready, noted_wait_tells}
@@ -42,10 +42,11 @@ use Rattle.fx_plain.proofs.PlainMachineSteps.{step_is_tried}
 
 -- what a step does, by another name of the world before it and of its answer
 pub does_as : (nodes : List Node) (old new : FiberView PortView) (w world w' : WorldView) (answer named : Stepped PortView WorldView) → w ≡ world
-    → answer ≡ named → DoesStep plain_calls nodes old w answer new w' → DoesStep plain_calls nodes old world named new w'
+    → answer ≡ named → DoesStep plain_calls facts_of nodes old w answer new w'
+    → DoesStep plain_calls facts_of nodes old world named new w'
 does_as nodes old new w world w' answer named same is h =
-    subst (λ (v : WorldView). DoesStep plain_calls nodes old v named new w') same
-    (subst (λ (a : Stepped PortView WorldView). DoesStep plain_calls nodes old w a new w') is h)
+    subst (λ (v : WorldView). DoesStep plain_calls facts_of nodes old v named new w') same
+    (subst (λ (a : Stepped PortView WorldView). DoesStep plain_calls facts_of nodes old w a new w') is h)
 
 plus_nothing : (n : ℕ) → n + 0 ≡ n
 plus_nothing n = omega arith
@@ -63,12 +64,12 @@ module _ (nodes : List Node) (old new : FiberView PortView) (w w' : WorldView) w
   abbrev pub IsQuiet : Stepped PortView WorldView → Type 0
   IsQuiet answer = (answer ≡ Went) ⊎ (answer ≡ Gave) ⊎ (answer ≡ Ended)
 
-  quiet_is : (answer : Stepped PortView WorldView) → IsQuiet answer → DoesStep plain_calls nodes old w answer new w'
-      → MakesStep plain_calls nodes old w answer new w' × (is_child answer ≡ false)
+  quiet_is : (answer : Stepped PortView WorldView) → IsQuiet answer → DoesStep plain_calls facts_of nodes old w answer new w'
+      → MakesStep plain_calls facts_of nodes old w answer new w' × (is_child answer ≡ false)
   quiet_is Went e d = (d, refl)
   quiet_is Gave e d = (d, refl)
   quiet_is Ended e d = (d, refl)
-  quiet_is Waits e d = absurd (elim e [ inl h ↦ cc | inr r ↦ elim r [ inl h ↦ cc | inr h ↦ cc ] ])
+  quiet_is (Waits wait) e d = absurd (elim e [ inl h ↦ cc | inr r ↦ elim r [ inl h ↦ cc | inr h ↦ cc ] ])
   quiet_is (Child c) e d = absurd (elim e [ inl h ↦ cc | inr r ↦ elim r [ inl h ↦ cc | inr h ↦ cc ] ])
 
 module _ (nodes : List Node) (leaf : Option Term) (f : ℕ) (fibers : ℕ → Option StartedFiber) where
@@ -77,7 +78,7 @@ module _ (nodes : List Node) (leaf : Option Term) (f : ℕ) (fibers : ℕ → Op
       → fibers_after f l fibers ≡ fibers
   none_started (Starts g b) (Child c) e h = absurd cc
   none_started (Starts g b) Went e h = absurd h
-  none_started (Starts g b) Waits e h = absurd h
+  none_started (Starts g b) (Waits wait) e h = absurd h
   none_started (Starts g b) Gave e h = absurd h
   none_started (Starts g b) Ended e h = absurd h
   none_started Silent answer e h = refl
@@ -127,13 +128,13 @@ module _ {J : Type 0} (nodes : List Node) (s : ScriptView) (p : PlainMachine J) 
     pub free : m.fibers number ≡ None
     pub below : number < total s
 
-  module _ (w' : WorldView) (new c : FiberView PortView) (made : MakesStep plain_calls nodes x.fiber p.world (Child c) new w') where
-    pub beginning_of : IsBeginning made.label c
-    beginning_of =
+  module _ (w' : WorldView) (new c : FiberView PortView) (made : MakesStep plain_calls facts_of nodes x.fiber p.world (Child c) new w') where
+    pub is_beginning : IsBeginning made.label c
+    is_beginning =
         let start = start_told nodes (leaf_at (progress nodes x.fiber)) f m.fibers made.label c made.answers in
-        let told : StartsChild plain_calls nodes start.number start.origin c.port x.fiber.port p.world new.port w' =
-        subst (λ (l : Label). Tells plain_calls nodes (leaf_at (progress nodes x.fiber)) l (Child c) x.fiber.port p.world new.port w') start.is
-        made.calls_are.told in
+        let told : StartsChild plain_calls facts_of nodes start.number start.origin c.port x.fiber.port p.world new.port w' =
+        subst (λ (l : Label). Tells plain_calls facts_of nodes (leaf_at (progress nodes x.fiber)) l (Child c) x.fiber.port p.world new.port w')
+        start.is made.calls_are.told in
         let free = child_is_free nodes s p m so f x here is w' (Child c) new made start.number start.origin start.is in
         record {
           number = start.number;
@@ -149,7 +150,7 @@ module _ {J : Type 0} (nodes : List Node) (s : ScriptView) (p : PlainMachine J) 
 
     pub child_below : c.port.number < length p.fibers.items
     child_below =
-        let start = beginning_of in
+        let start = is_beginning in
         let e = start.number_is in let n = long_is in let lt = start.below in
         omega arith
 
@@ -178,7 +179,8 @@ module _ {J : Type 0} (nodes : List Node) (s : ScriptView) (p : PlainMachine J) 
         (number : new.port.number ≡ x.fiber.port.number) (beginning : new.port.beginning ≡ x.fiber.port.beginning) where
       -- after a step that starts none
       pub tries_step : (answer : Stepped PortView WorldView) → IsQuiet nodes x.fiber new p.world w' answer
-          → DoesStep plain_calls nodes x.fiber p.world answer new w' → middle ≡ taken → p'.world ≡ w' → is_able (class_at p.world.classes f) ≡ true
+          → DoesStep plain_calls facts_of nodes x.fiber p.world answer new w' → middle ≡ taken → p'.world ≡ w'
+          → is_able (class_at p.world.classes f) ≡ true
           → Tries nodes s m f p p'
       tries_step answer quiet does same world able =
           let made = (quiet_is nodes x.fiber new p.world w' answer quiet does).0 in
@@ -193,9 +195,9 @@ module _ {J : Type 0} (nodes : List Node) (s : ScriptView) (p : PlainMachine J) 
           (λ h apart. subst (IsNumbered nodes h) (sym (middle_is h apart)) (so.numbered h)) able
 
       -- after a step that starts a child, which was laid down at its number
-      module _ (c : FiberView PortView) (made : MakesStep plain_calls nodes x.fiber p.world (Child c) new w') where
+      module _ (c : FiberView PortView) (made : MakesStep plain_calls facts_of nodes x.fiber p.world (Child c) new w') where
         abbrev start : IsBeginning made.label c
-        start = beginning_of w' new c made
+        start = is_beginning w' new c made
 
         abbrev g : ℕ
         g = start.number
@@ -264,18 +266,13 @@ module _ {J : Type 0} (nodes : List Node) (s : ScriptView) (p : PlainMachine J) 
               (laid_there in_place_long) others others_numbered able
 
       -- after it was noted that it waits
-      module _ (wait : OnlyWaits plain_calls nodes x.fiber p.world new w') (source : Source)
-          (waits_for : Some source ≡ option_and_then wait_at (leaf_at (progress nodes new))) (same : middle ≡ taken)
+      module _ (source : Source) (wait : OnlyWaits plain_calls nodes x.fiber p.world source new w') (same : middle ≡ taken)
           (world : p'.world ≡ record w' { classes = slice_set w'.classes f (class.Waits source) }) where
         long : length middle ≡ length p.fibers.items
         long = ap length same ∙ taken_long
 
-        source_is : source ≡ wait.wait
-        source_is = same_Some source wait.wait (waits_for ∙ ap (λ q. option_and_then wait_at (leaf_at q)) wait.unchanged.progress_is ∙ wait.waits)
-
-        world_is : p'.world ≡ record p.world { classes = slice_set p.world.classes f (class.Waits wait.wait) }
+        world_is : p'.world ≡ record p.world { classes = slice_set p.world.classes f (class.Waits source) }
         world_is = world ∙ ap (λ (w : WorldView). record w { classes = slice_set w.classes f (class.Waits source) }) wait.shared_is
-            ∙ ap (λ (k : Source). record p.world { classes = slice_set p.world.classes f (class.Waits k) }) source_is
 
         still : held nodes x' ≡ held nodes x
         still =
@@ -324,21 +321,21 @@ module _ {J : Type 0} (nodes : List Node) (s : ScriptView) (p : PlainMachine J) 
 
         tells : TellsWhoSteps s p'.world m
         tells = rw world_is (noted_wait_tells s p.world (all_held nodes p) m so.stands nodes f below x.fiber new w' (own_number nodes s p m so f x here is)
-            wait so.tells is.fiber is.at (sym (ap (λ (h : HeldFiber). h.counts) is.is)) (sym (ap (λ (h : HeldFiber). h.progress) is.is)))
+            source wait so.tells is.fiber is.at (sym (ap (λ (h : HeldFiber). h.counts) is.is)) (sym (ap (λ (h : HeldFiber). h.progress) is.is)))
 
         unready : is_ready_in p'.world f ≡ false
         unready =
-            rw world_is (ap (is_ready (have_room p.world.queues) (have_element p.world.queues)) (class_at_set p.world.classes f (class.Waits wait.wait)
-            (let lt = below in let n = so.tells.long in omega arith) f ∙ at_itself f (class.Waits wait.wait) (class_at p.world.classes))
-            ∙ refused_unready p.world x.fiber.port (value_offered (leaf_at (progress nodes x.fiber))) wait.wait wait.refused)
+            rw world_is (ap (is_ready (have_room p.world.queues) (have_element p.world.queues)) (class_at_set p.world.classes f (class.Waits source)
+            (let lt = below in let n = so.tells.long in omega arith) f ∙ at_itself f (class.Waits source) (class_at p.world.classes))
+            ∙ refused_unready p.world x.fiber.port (value_offered (leaf_at (progress nodes x.fiber))) source wait.refused)
 
         fewer : is_able (class_at p.world.classes f) ≡ true → able_count p'.world.classes < able_count p.world.classes
         fewer able =
             let before = p.world.classes in
-            let after = slice_set before f (class.Waits wait.wait) in
+            let after = slice_set before f (class.Waits source) in
             let one : (if is_able (class_at before f) then 1 else 0) ≡ 1 = ap (λ (b : Bool). if b then 1 else 0) able in
             let change : able_count after + (if is_able (class_at before f) then 1 else 0) ≡ able_count before + 0 =
-            sum_by-set (λ k. if is_able k then 1 else 0) before f (class.Waits wait.wait) class.Unstarted
+            sum_by-set (λ k. if is_able k then 1 else 0) before f (class.Waits source) class.Unstarted
             (let lt = below in let n = so.tells.long in omega arith) in
             let less : able_count after + 1 ≡ able_count before = sym (ap (λ (n : ℕ). able_count after + n) one) ∙ change ∙ plus_nothing (able_count before) in
             let e : able_count p'.world.classes ≡ able_count after = ap (λ (w : WorldView). able_count w.classes) world_is in

@@ -7,8 +7,9 @@ use Rattle.std.proofs.lemmas.List.{get_or_past, get_or_append_left, get_or-appen
 use Rattle.std.proofs.lemmas.List.Sums.{sum_by-set, sum_by-append, get_or-le-sum_by}
 use Rattle.std.proofs.lemmas.List.Folds.{sum_by-replicate}
 use Rattle.fx_plain.specs.PutCounts.{reaching, one_more_put}
-use Rattle.fx_plain.specs.WholeMachine.{with_at}
-use Rattle.fx_plain.proofs.Maps.{at_that, at_other, replicated}
+use Rattle.fx_term.specs.Maps.{with_at}
+use Rattle.fx_term.proofs.MapLaws.{at_that, at_other}
+use Rattle.fx_plain.proofs.Maps.{replicated}
 
 module _ (q : ℕ) (counts : List ℕ) where
   abbrev zeros : List ℕ

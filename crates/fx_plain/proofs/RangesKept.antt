@@ -7,7 +7,7 @@ use Rattle.fx_model.specs.Origin.{Origin}
 use Rattle.fx_model.specs.Step.{Progress, Step}
 use Rattle.fx_term.specs.Script.{ScriptView, total}
 use Rattle.fx_plain.specs.WholeMachine.{StartedFiber, WholeMachine, begun, opening, moved}
-use Rattle.fx_plain.proofs.Maps.{at_that, at_other}
+use Rattle.fx_term.proofs.MapLaws.{at_that, at_other}
 use Rattle.fx_model.specs.NeedLeft.{need_left}
 use Rattle.fx_model.proofs.RangeLaws.{step_need}
 use Rattle.fx_model.proofs.StepLabels.{step_next, StartsNext, TakesNumbers, step_tells}

@@ -1,5 +1,6 @@
--- The events of a run of the whole machine have one order, in which causes come first.
-use Rattle.std.proofs.Common.{◌≡◌, ℕ, true, Contains, List, [], ◌∷◌, sym, ◌∙◌, ◌<◌}
+-- The events of a run of the whole machine stand in one list, in which causes come first.
+use Rattle.std.proofs.Common.{◌≡◌, ℕ, true, Contains, List, [], ◌∷◌, sym, ◌∙◌, ap, ◌<◌}
+use Rattle.std.specs.Prelude.{slice_get}
 use mathlib.Core.Path.{fun_ext}
 use Rattle.fx_term.specs.declared.event.Event.{Event}
 use Rattle.fx_term.specs.Script.{ScriptView, total}
@@ -7,15 +8,16 @@ use Rattle.fx_term.specs.Queue.{QueueState}
 use Rattle.fx_model.specs.Row.{Label}
 use Rattle.fx_model.specs.Report.{ReportView}
 use Rattle.fx_model.specs.LawfulReport.{IsLawfulReport}
-use Rattle.fx_model.specs.Causes.{LeavesQueue, CausesComeFirst, IsLawfulInOneOrder, IsOneOrder}
+use Rattle.fx_model.specs.Causes.{LeavesQueue, CausesComeFirst, IsOneOrder}
+use Rattle.fx_model.specs.Happenings.{IsLawfulInOneList}
 use Rattle.fx_model.proofs.OneOrder.{order_told}
 use Rattle.fx_plain.specs.WholeMachine.{WholeMachine, Move, Steps, Requests, opening, IsSettled, FiberSteps, requested_from_outside, WholeMachineLeads}
 use Rattle.fx_plain.specs.SettledRun.{IsReportOf, HasSettledRun}
 use Rattle.fx_report.proofs.Keys.{passing_contained}
 use Rattle.fx_plain.proofs.FamilyKept.{labels_of}
-use Rattle.fx_plain.proofs.HistoriesKept.{histories_grow}
+use Rattle.fx_plain.proofs.HistoriesKept.{opening_has_no_history, histories_grow}
 use Rattle.fx_plain.proofs.LawfulRuns.{IsKept, opening_is_kept, moved_keeps, request_keeps}
-use Rattle.fx_plain.proofs.LawfulRuns.{trace_same, report_is_lawful, labels_told, queues_told}
+use Rattle.fx_plain.proofs.LawfulRuns.{trace_same, report_is_lawful, labels_told, queues_told, histories_told}
 use Rattle.fx_plain.proofs.WholeMachineSteps.{with_true}
 use Rattle.fx_plain.proofs.CausesKept.{trace_of, AreLeft, AreFromOutside, IsInOrder, opening_is_in_order, order_kept}
 
@@ -25,7 +27,7 @@ record KeptInOrder (s : ScriptView) (m : WholeMachine) : Type 0 where
   pub order : IsInOrder s m kept.histories
 
 opening_in_order : (s : ScriptView) → KeptInOrder s (opening s)
-opening_in_order s = record { kept = opening_is_kept s; order = opening_is_in_order s (opening_is_kept s).histories }
+opening_in_order s = record { kept = opening_is_kept s; order = opening_is_in_order s (opening_is_kept s).histories (opening_has_no_history s) }
 
 step_in_order : (s : ScriptView) (m : WholeMachine) (f : ℕ) (l : Label) (m' : WholeMachine) → FiberSteps s m f l m' → KeptInOrder s m → KeptInOrder s m'
 step_in_order s m f l m' st k = rw st.after (record {
@@ -41,7 +43,8 @@ request_in_order s m f lt k = record {
   kept = request_keeps s m f lt k.kept;
   order = record {
     moment = k.order.moment;
-    now = k.order.now;
+    list = k.order.list;
+    listed = k.order.listed;
     past = k.order.past;
     in_order =
         order_told (trace_of m) (labels_of m) (AreLeft k.kept.histories) (AreLeft k.kept.histories) (AreFromOutside m)
@@ -68,7 +71,7 @@ module _ (s : ScriptView) (m : WholeMachine) (r : ReportView) (rep : IsReportOf 
   }
     where
       left : (q : ℕ) (state : QueueState) → LeavesQueue s (λ f. true) r lawful q state → AreLeft k.kept.histories q state
-      left q state h = h.is ∙ queues_told s m r rep k.kept none q h.capacity h.at
+      left q state is = is ∙ queues_told s m r rep k.kept none q
 
       by_report : {trace : ℕ → List Event} {labels : ℕ → List Label} → trace_of m ≡ trace → labels_of m ≡ labels
           → IsOneOrder trace labels (LeavesQueue s (λ f. true) r lawful) (Contains r.outside) k.order.moment
@@ -76,10 +79,20 @@ module _ (s : ScriptView) (m : WholeMachine) (r : ReportView) (rep : IsReportOf 
           rw (← same, ← same') (order_told (trace_of m) (labels_of m) (AreLeft k.kept.histories) (LeavesQueue s (λ f. true) r lawful) (AreFromOutside m)
           (Contains r.outside) k.order.moment left (λ f is. passing_contained r.outside f (rep.outside f ∙ is)) k.order.in_order)
 
-  report_is_in_order : IsLawfulInOneOrder s (λ f. true) r
-  report_is_in_order = record { lawful = lawful; causes = report_in_order }
+  -- and its list is one of the report's
+  report_is_in_order : IsLawfulInOneList s (λ f. true) r
+  unfolding lawful report_in_order
+  report_is_in_order = record {
+    in_order = record { lawful = lawful; causes = report_in_order };
+    list = k.order.list;
+    listed = record {
+      traces = λ f. k.order.listed.traces f ∙ sym (trace_same s m r rep k.kept f);
+      histories = λ q. k.order.listed.histories q ∙ sym (histories_told s m r rep k.kept none q);
+      moments = λ f i e at. k.order.listed.moments f i e (sym (ap (λ (es : List Event). slice_get es i) (trace_same s m r rep k.kept f)) ∙ at);
+    };
+  }
 
--- the report of a run at whose end no fiber can step is lawful, and its events have one order, in which causes come first
-pub settled_is_in_order : (s : ScriptView) (r : ReportView) → HasSettledRun s r → IsLawfulInOneOrder s (λ f. true) r
+-- the report of a run at whose end no fiber can step is lawful, and its events stand in one list, in which causes come first
+pub settled_is_in_order : (s : ScriptView) (r : ReportView) → HasSettledRun s r → IsLawfulInOneList s (λ f. true) r
 settled_is_in_order s r h =
     report_is_in_order s h.last r h.report (leads_in_order s (opening s) h.moves h.last h.run (opening_in_order s)) h.settled

@@ -17,7 +17,8 @@ use Rattle.fx_term.specs.Script.{ScriptView, total}
 use Rattle.fx_model.specs.Report.{is_request_for}
 use Rattle.fx_plain.specs.WholeMachine.{StartedFiber, WholeMachine, begun, opening, outcome_of_fiber, outcome_of, IsAnswered, requested_after}
 use Rattle.fx_plain.specs.WholeMachine.{stepped, moved, requested_from_outside}
-use Rattle.fx_plain.proofs.Maps.{at_that, at_other, same_number}
+use Rattle.fx_term.proofs.MapLaws.{at_that, at_other}
+use Rattle.fx_plain.proofs.Maps.{same_number}
 use Rattle.fx_model.proofs.StepLabels.{IsProper, step_tells}
 use Rattle.fx_plain.proofs.WholeMachineSteps.{Comes, itself, child, other, comes, still_itself, still_other, child_is_there, Grows, step_grows, request_grows}
 use Rattle.fx_plain.proofs.RangesKept.{HasRanges, opened_at, fresh, child_is_another}

@@ -38,17 +38,18 @@ refused_unready w p offered (Outcome g) r = refl
 refused_unready w p offered (Either g h) r = refl
 
 module _ (s : ScriptView) (w : WorldView) (held : List (Option HeldFiber)) (m : WholeMachine) (stands : StandsFor s w held m) (nodes : List Node)
-    (f : ℕ) (lt : f < total s) (old new : FiberView PortView) (w' : WorldView) (own : old.port.number ≡ f) (h : OnlyWaits plain_calls nodes old w new w') where
+    (f : ℕ) (lt : f < total s) (old new : FiberView PortView) (w' : WorldView) (own : old.port.number ≡ f) (source : Source)
+    (h : OnlyWaits plain_calls nodes old w source new w') where
   unasked : (due : Bool) → LooksInVain plain_calls due old.port w → due ≡ true → m.requested f ≡ false
   unasked true looked e = sym (stands.requested f lt) ∙ sym (rw own at looked.0)
   unasked false looked e = absurd cc
 
-  pub waits_so : IsWaiting (m.requested f) old.counts (progress nodes old) h.wait
+  pub waits_so : IsWaiting (m.requested f) old.counts (progress nodes old) source
   waits_so = record { leaf = h.waits; free = h.free; unasked = unasked (looks_first old.counts.known (progress nodes old)) h.looked }
 
   -- the world that notes it goes on to tell who can step
   pub noted_wait_tells : TellsWhoSteps s w m → (x : StartedFiber) → m.fibers f ≡ Some x → x.counts ≡ old.counts → x.progress ≡ progress nodes old
-      → TellsWhoSteps s (record w { classes = slice_set w.classes f (Waits h.wait) }) m
+      → TellsWhoSteps s (record w { classes = slice_set w.classes f (Waits source) }) m
   noted_wait_tells tells x at counts progress_is =
-      wait_tells s w m tells f x h.wait lt at (rw (counts, progress_is) waits_so)
-      (refused_to_come w old.port (value_offered (leaf_at (progress nodes old))) h.wait h.refused)
+      wait_tells s w m tells f x source lt at (rw (counts, progress_is) waits_so)
+      (refused_to_come w old.port (value_offered (leaf_at (progress nodes old))) source h.refused)

@@ -2,9 +2,9 @@
 use Rattle.std.proofs.Common.{◌≡◌, ℕ, ◌<◌, Bool, false, List, length, sym, ◌∙◌, ap, inl, inr, arith}
 use Rattle.std.proofs.lemmas.Bool.{cases_eq}
 use Rattle.fx_plain.specs.NumberSet.{is_member_of}
-use Rattle.fx_plain.specs.WholeMachine.{with_at}
+use Rattle.fx_term.specs.Maps.{with_at}
 use Rattle.fx_plain.specs.ClassSets.{AreWaitedAt}
-use Rattle.fx_plain.proofs.Maps.{at_that, at_other}
+use Rattle.fx_term.proofs.MapLaws.{at_that, at_other}
 
 -- a number that was not there is not there without another
 still_out : (fiber f : ℕ) (was : ℕ → Bool) → was f ≡ false → with_at fiber false was f ≡ false

@@ -9,7 +9,7 @@ use Rattle.fx_plain.specs.declared.class.Class.{Class}
 use Rattle.fx_plain.specs.declared.class.Class.TheVariants.{Unstarted, Able, Waits}
 use Rattle.fx_plain.specs.Classes.{waits_for_end, class_at_end}
 use Rattle.fx_plain.specs.ClassSets.{class_at, waits_for_outcome, IsSetOf}
-use Rattle.fx_plain.proofs.Maps.{at_that, at_other}
+use Rattle.fx_term.proofs.MapLaws.{at_that, at_other}
 use Rattle.fx_plain.proofs.ClassSets.{class_at_set}
 
 -- the end of a fiber leaves one where it is that waits for no outcome

@@ -9,8 +9,10 @@ use Rattle.fx_model.specs.Origin.{Origin}
 use Rattle.fx_model.specs.Step.{Progress, HasEnded, Step}
 use Rattle.fx_model.specs.Outside.{outcome_at}
 use Rattle.fx_model.proofs.OutcomeLaws.{no_step_after_end}
-use Rattle.fx_plain.specs.WholeMachine.{StartedFiber, WholeMachine, with_at, begun, fibers_after, stepped, moved, requested_after, requested_from_outside}
-use Rattle.fx_plain.proofs.Maps.{at_itself, at_that, at_other}
+use Rattle.fx_term.specs.Maps.{with_at}
+use Rattle.fx_plain.specs.WholeMachine.{StartedFiber, WholeMachine, begun, fibers_after, stepped, moved, requested_after, requested_from_outside}
+use Rattle.fx_term.proofs.MapLaws.{at_that, at_other}
+use Rattle.fx_plain.proofs.Maps.{at_itself}
 
 -- a fiber after a step of fiber f: that one itself, the one that it started, or another one
 pub data Comes (m : WholeMachine) (f : ℕ) (x : StartedFiber) (l : Label) (d : Counts) (q : Progress) (h : ℕ) (y : StartedFiber) : Type 0 where

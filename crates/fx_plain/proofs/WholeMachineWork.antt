@@ -11,7 +11,8 @@ use Rattle.fx_model.proofs.RangeLaws.{step_need}
 use Rattle.fx_model.proofs.StepLabels.{StartsNext, step_tells}
 use Rattle.fx_plain.specs.WholeMachine.{StartedFiber, WholeMachine, begun, opening, fibers_after, stepped, moved, FiberSteps}
 use Rattle.fx_plain.specs.WholeMachine.{Move, Steps, Requests, WholeMachineLeads, IsWholeMachineRun, steps_in}
-use Rattle.fx_plain.proofs.Maps.{at_itself, at_other}
+use Rattle.fx_term.proofs.MapLaws.{at_other}
+use Rattle.fx_plain.proofs.Maps.{at_itself}
 use Rattle.fx_plain.proofs.RangesKept.{fresh, child_is_another}
 use Rattle.fx_plain.proofs.LawfulRuns.{IsKept, opening_is_kept, step_keeps, request_keeps}
 

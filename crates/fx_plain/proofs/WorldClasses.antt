@@ -15,7 +15,8 @@ use Rattle.fx_model.specs.declared.source.Source.{Source}
 use Rattle.fx_model.specs.WaitsFor.{IsWaiting}
 use Rattle.fx_plain.specs.declared.class.Class.{Class}
 use Rattle.fx_plain.specs.declared.class.Class.TheVariants.{Unstarted, Able, Waits, Over}
-use Rattle.fx_plain.specs.WholeMachine.{StartedFiber, WholeMachine, with_at, opening, has_room, outside_of, outcome_of, can_step_in, moved}
+use Rattle.fx_term.specs.Maps.{with_at}
+use Rattle.fx_plain.specs.WholeMachine.{StartedFiber, WholeMachine, opening, has_room, outside_of, outcome_of, can_step_in, moved}
 use Rattle.fx_plain.specs.WholeMachine.{requested_from_outside}
 use Rattle.fx_plain.specs.Classes.{AreOfClasses, opening_classes, class_requested, class_at_end, requested_classes, ended_classes}
 use Rattle.fx_plain.specs.Classes.{outcome_has_come, AwaitWhatIsToCome, is_ready}
@@ -23,7 +24,7 @@ use Rattle.fx_plain.specs.PlainQueue.{have_room, have_element}
 use Rattle.fx_plain.specs.ClassSets.{class_at, is_able}
 use Rattle.fx_plain.specs.World.{WorldView, outcome_in, is_ready_in, world_after, after_start, after_request_from_outside, HeldFiber, StandsFor, opening_world}
 use Rattle.fx_plain.specs.WorldClasses.{TellsWhoSteps}
-use Rattle.fx_plain.proofs.Maps.{at_that, at_other}
+use Rattle.fx_term.proofs.MapLaws.{at_that, at_other}
 use Rattle.fx_plain.proofs.ReadyFibers.{IsGoing, same_ready, unready_cannot_step, ready_is_going, ready_can_step}
 use Rattle.fx_plain.proofs.WorldQueues.{room_is, element_is}
 use Rattle.fx_plain.proofs.ClassesKept.{same_classes, opening_are_of_classes, request_classes_kept, step_classes_kept, put_into_class, of_class}

@@ -15,13 +15,15 @@ use Rattle.fx_model.specs.Outside.{outcome_at}
 use Rattle.fx_model.proofs.RangeLaws.{step_need}
 use Rattle.fx_model.proofs.StepLabels.{StartsNext, step_tells}
 use Rattle.fx_model.proofs.OutcomeLaws.{end_of, step_end_of, no_step_after_end}
-use Rattle.fx_plain.specs.WholeMachine.{StartedFiber, WholeMachine, with_at, begun, opening, outcome_of_fiber, outcome_of, fibers_after}
+use Rattle.fx_term.specs.Maps.{with_at}
+use Rattle.fx_plain.specs.WholeMachine.{StartedFiber, WholeMachine, begun, opening, outcome_of_fiber, outcome_of, fibers_after}
 use Rattle.fx_plain.specs.WholeMachine.{requested_after, IsAnswered, stepped}
 use Rattle.fx_plain.specs.WholeMachine.{moved, requested_from_outside}
 use Rattle.fx_plain.specs.World.{WorldView, is_requested_in, outcome_in, after_request_from_outside, world_after}
 use Rattle.fx_plain.specs.World.{HeldFiber, held_of, with_child, held_after}
 use Rattle.fx_plain.specs.World.{StandsFor, opening_world, opening_held}
-use Rattle.fx_plain.proofs.Maps.{at_that, at_other, replicated}
+use Rattle.fx_term.proofs.MapLaws.{at_that, at_other}
+use Rattle.fx_plain.proofs.Maps.{replicated}
 use Rattle.fx_plain.proofs.RangesKept.{fresh}
 use Rattle.fx_plain.proofs.LawfulRuns.{IsKept}
 use Rattle.fx_plain.proofs.WorldQueues.{capacities_after, items_after, opening_capacities, opening_items}

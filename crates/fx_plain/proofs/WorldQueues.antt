@@ -17,9 +17,10 @@ use Rattle.fx_model.specs.Row.{Label, Shows, Starts}
 use Rattle.fx_model.specs.Run.{events}
 use Rattle.fx_model.proofs.Runs.{events_append}
 use Rattle.fx_plain.specs.PlainQueue.{QueueView, empty_queue, no_queue, queue_at, have_room, have_element, with_item, without_front}
-use Rattle.fx_plain.specs.WholeMachine.{WholeMachine, with_at, has_room, front, IsAnswered, next_item, queues_after}
+use Rattle.fx_term.specs.Maps.{with_at}
+use Rattle.fx_plain.specs.WholeMachine.{WholeMachine, has_room, front, IsAnswered, next_item, queues_after}
 use Rattle.fx_plain.specs.World.{WorldView, world_after}
-use Rattle.fx_plain.proofs.Maps.{at_that, at_other}
+use Rattle.fx_term.proofs.MapLaws.{at_that, at_other}
 
 module _ (s : ScriptView) (m : WholeMachine) (queues : List QueueView) (capacities : map (λ (q : QueueView). q.capacity) queues ≡ s.capacities)
     (items : (q : ℕ) → (queue_at queues q).items ≡ m.queues q) where

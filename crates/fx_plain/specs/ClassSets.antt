@@ -7,7 +7,7 @@ use Rattle.fx_plain.specs.declared.class.Class.TheVariants.{Unstarted, Able, Wai
 use Rattle.fx_plain.specs.Classes.{class_requested, class_at_end}
 use Rattle.fx_plain.specs.NumberSet.{is_member, is_member_of}
 use Rattle.fx_plain.specs.PlainQueue.{QueueView, has_room_in, has_element_in}
-use Rattle.fx_plain.specs.WholeMachine.{with_at}
+use Rattle.fx_term.specs.Maps.{with_at}
 
 -- what classes are seen as: the class of each fiber, and how many queues have sets
 pub record ClassesView : Type 0 where

@@ -9,7 +9,8 @@ use Rattle.fx_model.specs.WaitsFor.{has_come, IsWaiting}
 use Rattle.fx_model.specs.Outside.{Outside}
 use Rattle.fx_plain.specs.declared.class.Class.{Class}
 use Rattle.fx_plain.specs.declared.class.Class.TheVariants.{Unstarted, Able, Waits, Over}
-use Rattle.fx_plain.specs.WholeMachine.{StartedFiber, WholeMachine, with_at}
+use Rattle.fx_term.specs.Maps.{with_at}
+use Rattle.fx_plain.specs.WholeMachine.{StartedFiber, WholeMachine}
 
 -- the fiber, if it has started, is of that class
 abbrev pub IsOfClass : Bool → Option StartedFiber → Class → Type 0

@@ -1,6 +1,7 @@
 pub mod WholeMachine
 pub mod SettledRun
 pub mod Chosen
+pub mod Waits
 pub mod NumberSet
 pub mod PlainQueue
 pub mod PutCounts

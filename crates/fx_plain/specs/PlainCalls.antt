@@ -1,16 +1,19 @@
 -- The ports of the fibers of one thread, and what their calls answer and change.
-use Rattle.std.specs.Prelude.{◌≡◌, ℕ, Bool, true, false, Option, Some, None, List, [], slice_index}
+use Rattle.std.specs.Prelude.{◌≡◌, ℕ, Bool, true, false, Option, Some, None, List, [], slice_index, sum}
 use Rattle.fx_term.specs.declared.begin.Begin.{Begin}
 use Rattle.fx_term.specs.declared.item.Item.{Item}
 use Rattle.fx_term.specs.declared.offered.Offered.{Offered}
 use Rattle.fx_term.specs.declared.offered.Offered.TheVariants.{Done, Full}
 use Rattle.fx_term.specs.declared.outcome.Outcome.{Outcome}
 use Rattle.fx_fiber.specs.Calls.{PortCalls, first_range, range_after}
+use Rattle.fx_fiber.specs.PortFacts.{Facts}
 use Rattle.fx_model.specs.Row.{Range}
+use Rattle.fx_model.specs.declared.source.Source.{Source}
 use Rattle.fx_plain.specs.WholeMachine.{front}
 use Rattle.fx_plain.specs.PlainQueue.{queue_at, have_room}
 use Rattle.fx_plain.specs.PutCounts.{one_more_put}
-use Rattle.fx_plain.specs.World.{WorldView, is_requested_in, outcome_in, after_request, after_start, after_end, after_put, after_take}
+use Rattle.fx_plain.specs.World.{WorldView, is_requested_in, outcome_in, after_request, after_request_from_outside, after_start, after_end, after_put}
+use Rattle.fx_plain.specs.World.{after_take}
 
 -- a port: its fiber's number, what that began with, the numbers that it has left, how many elements it has put into each queue, and whether its end was
 -- told
@@ -20,6 +23,15 @@ pub record PortView : Type 0 where
   pub rest : Range
   pub put_counts : List ℕ
   pub has_finished : Bool
+
+abbrev pub facts_of : PortView → Facts
+facts_of = λ p. record {
+  number = p.number;
+  beginning = p.beginning;
+  rest = p.rest;
+  has_finished = p.has_finished;
+  puts = sum p.put_counts;
+}
 
 -- the port of a fiber that begins so
 abbrev pub new_port : ℕ → Begin → PortView
@@ -54,6 +66,16 @@ StartsIn p w g begin child p' w' = (child ≡ new_port g begin) × (p' ≡ recor
 abbrev pub FinishesIn : PortView → WorldView → Outcome → PortView → WorldView → Type 0
 FinishesIn p w o p' w' = (p' ≡ record p { has_finished = true }) × (w' ≡ after_end p.number o w)
 
+abbrev pub OutsidesIn : PortView → WorldView → ℕ → PortView → WorldView → Type 0
+OutsidesIn p w g p' w' = (p' ≡ p) × (w' ≡ after_request_from_outside g w)
+
+-- nobody is registered, and nobody woken: who has the fibers tries those that are ready
+abbrev pub WaitsIn : PortView → WorldView → Source → PortView → WorldView → Type 0
+WaitsIn p w source p' w' = (p' ≡ p) × (w' ≡ w)
+
+abbrev pub WakesIn : WorldView → Option ℕ → WorldView → Type 0
+WakesIn w woken w' = (woken ≡ None) × (w' ≡ w)
+
 abbrev pub plain_calls : PortCalls PortView WorldView
 plain_calls = record {
   looks = LooksIn;
@@ -63,4 +85,7 @@ plain_calls = record {
   takes = TakesIn;
   starts = StartsIn;
   finishes = FinishesIn;
+  outsides = OutsidesIn;
+  waits = WaitsIn;
+  wakes = WakesIn;
 }

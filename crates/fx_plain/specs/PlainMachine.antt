@@ -1,5 +1,6 @@
 -- All fibers of a script as code holds them, and the whole machine that they and their world stand for.
-use Rattle.std.specs.Prelude.{◌≡◌, ℕ, ◌<◌, false, if◌then◌else◌, Option, Some, None, option_map, List, length, map, slice_index, slice_index_or}
+use Rattle.std.specs.Prelude.{◌≡◌, ℕ, ◌<◌, false, if◌then◌else◌, Option, Some, None, option_map, option_and_then, List, length, map, slice_index}
+use Rattle.std.specs.Prelude.{slice_index_or}
 use Rattle.std.specs.List.{filter_map, sum_by}
 use Rattle.fx_term.specs.declared.node.Node.{Node}
 use Rattle.fx_term.specs.Queue.{values_put}
@@ -7,9 +8,11 @@ use Rattle.fx_term.specs.Script.{ScriptView}
 use Rattle.fx_model.specs.Row.{Label}
 use Rattle.fx_model.specs.Origin.{origin_of}
 use Rattle.fx_fiber.specs.Fiber.{progress}
-use Rattle.fx_model.specs.Step.{has_ended}
+use Rattle.fx_model.specs.Step.{has_ended, leaf_at}
+use Rattle.fx_model.specs.Waiting.{wait_at}
 use Rattle.fx_model.specs.Report.{FiberReportView}
 use Rattle.fx_text.specs.declared.pick.Pick.{Pick}
+use Rattle.fx_report.specs.declared.wait.Wait.{Wait}
 use Rattle.fx_plain.specs.declared.plain_machine.Started.{Started}
 use Rattle.fx_plain.specs.declared.plain_machine.PlainMachine.{PlainMachine}
 use Rattle.fx_plain.specs.WholeMachine.{WholeMachine, Move, can_step_in, IsWholeMachineRun}
@@ -50,6 +53,13 @@ module _ {J : Type 0} (nodes : List Node) where
 
   abbrev pub all_reported : List (Option (Started J)) → List FiberReportView
   all_reported fibers = filter_map (option_map reported) fibers
+
+  -- that it waits, if its leaf is one that can wait
+  abbrev pub wait_of : Started J → Option Wait
+  wait_of x = option_map (λ source. record { fiber = x.fiber.port.number; source = source }) (option_and_then wait_at (leaf_at (progress nodes x.fiber)))
+
+  abbrev pub all_waits : List (Option (Started J)) → List Wait
+  all_waits fibers = filter_map (option_and_then wait_of) fibers
 
   -- the fibers by number
   abbrev pub all_held : PlainMachine J → List (Option HeldFiber)

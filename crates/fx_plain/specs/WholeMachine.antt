@@ -4,6 +4,7 @@ use Rattle.std.specs.Prelude.{slice_index}
 use Rattle.fx_term.specs.declared.outcome.Outcome.{Outcome}
 use Rattle.fx_term.specs.declared.event.Event.TheVariants as event
 use Rattle.fx_term.specs.declared.item.Item.{Item}
+use Rattle.fx_term.specs.Maps.{with_at}
 use Rattle.fx_term.specs.Script.{ScriptView, total}
 use Rattle.fx_term.specs.Queue.{values_put}
 use Rattle.fx_model.specs.Row.{Counts, Label, Shows, Learns, Starts}
@@ -28,10 +29,6 @@ pub record WholeMachine : Type 0 where
   pub requested : ℕ → Bool
   pub from_outside : ℕ → Bool
   pub queues : ℕ → List Item
-
--- a map with this at that number
-abbrev pub with_at : {A : Type 0} → ℕ → A → (ℕ → A) → ℕ → A
-with_at n x m k = if k == n then x else m k
 
 -- a fiber before its first step
 abbrev pub begun : Option ℕ → Origin → StartedFiber

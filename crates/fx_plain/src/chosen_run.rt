@@ -1,40 +1,72 @@
 //! Replays a script: makes the run of its fibers that a schedule chooses.
-ghost use Rattle.std.specs.Prelude.{◌≡◌, ◌≤◌, true, IfOk, length};
+ghost use Rattle.std.specs.Prelude.{◌≡◌, ◌≤◌, true, All, IfOk, length};
 ghost use Rattle.fx_model.specs.LawfulReport.{IsLawfulReport};
-ghost use Rattle.fx_model.specs.Causes.{IsLawfulInOneOrder};
+ghost use Rattle.fx_model.specs.Happenings.{IsLawfulInOneList};
 ghost use Rattle.fx_model.specs.Headline.{KeepsWhatIsPromised};
 ghost use Rattle.fx_text.specs.View.{meaning};
 ghost use Rattle.fx_plain.specs.Chosen.{IsReplay};
+ghost use Rattle.fx_plain.specs.Waits.{IsReplayWithWaits};
 ghost use Rattle.fx_report.specs.Script.{script_of};
 ghost use Rattle.fx_report.specs.Text.{queue_names, IsWritable};
+ghost use Rattle.fx_report.specs.Waits.{WaitsAtQueueBelow};
 
 use crate::plain_machine::PlainMachine;
 use fx_fiber::Report;
+use fx_report::Wait;
 use fx_term::{CodeBrand, Memory};
 use fx_text::{Pick, Script};
 use std::alloc::Global;
 use std::marker::Brand;
+
+/// What there is once no fiber of a run can step any more: the report, and what each fiber waits for that
+/// is blocked, in the report's order.
+#[derive(Drop)]
+pub struct Halt {
+    pub report: Report,
+    pub waits: Vec<Wait>,
+}
 
 /// The replay of a script whose code the type names.
 fn replay_named<J: CodeBrand>(
     alloc: Global,
     script: &Script,
     picks: &[Pick],
-) -> Result<Report, Memory>
+) -> Result<Halt, Memory>
     requires code { script.now.code.nodes ≡ J.nodes }
-    ensures replayed { IfOk result
-        (λ report. IsReplay (script_of (meaning script.now)) picks.now report) }
-    ensures writable { script.now.code.queues ≤ length script.now.queues.items
-        → IfOk result (λ report. IsWritable (queue_names (meaning script.now)) report) }
+    ensures replayed { IfOk result (λ halt. IsReplayWithWaits (script_of (meaning script.now))
+        picks.now halt.report halt.waits.items) }
     ensures promised { IfOk result
-        (λ report. KeepsWhatIsPromised (script_of (meaning script.now)) (λ f. true) report) }
+        (λ halt. KeepsWhatIsPromised (script_of (meaning script.now)) (λ f. true) halt.report) }
+    ensures writable { script.now.code.queues ≤ length script.now.queues.items
+        → IfOk result (λ halt. IsWritable (queue_names (meaning script.now)) halt.report) }
+    ensures named { script.now.code.queues ≤ length script.now.queues.items
+        → IfOk result (λ halt. All (WaitsAtQueueBelow (length (queue_names (meaning script.now))))
+        halt.waits.items) }
 {
     let mut machine: PlainMachine<J> = PlainMachine::opening(alloc, script)?;
     for pick in picks {
         machine.take_pick(&script.code, *pick)?;
     }
     machine.run_to_rest(&script.code)?;
-    machine.into_report(alloc)
+    let waits = machine.waits(alloc, &script.code)?;
+    let report = machine.into_report(alloc)?;
+    Ok(Halt { report, waits })
+}
+
+/// The report of the run that the picks choose, as [`replay`] gives it, and what its blocked fibers wait
+/// for. The writers take both where the code names no queue that is not declared.
+pub fn replay_to_halt(alloc: Global, script: &Script, picks: &[Pick]) -> Result<Halt, Memory>
+    ensures replayed { IfOk result (λ halt. IsReplayWithWaits (script_of (meaning script.now))
+        picks.now halt.report halt.waits.items) }
+    ensures promised { IfOk result
+        (λ halt. KeepsWhatIsPromised (script_of (meaning script.now)) (λ f. true) halt.report) }
+    ensures writable { script.now.code.queues ≤ length script.now.queues.items
+        → IfOk result (λ halt. IsWritable (queue_names (meaning script.now)) halt.report) }
+    ensures named { script.now.code.queues ≤ length script.now.queues.items
+        → IfOk result (λ halt. All (WaitsAtQueueBelow (length (queue_names (meaning script.now))))
+        halt.waits.items) }
+{
+    replay_named::<Brand>(alloc, script, picks)
 }
 
 /// The report of the run that the picks choose: each pick makes its step or is skipped, and after the
@@ -47,11 +79,12 @@ pub fn replay(alloc: Global, script: &Script, picks: &[Pick]) -> Result<Report, 
     ensures lawful { IfOk result
         (λ report. IsLawfulReport (script_of (meaning script.now)) (λ f. true) report) }
     ensures causes { IfOk result
-        (λ report. IsLawfulInOneOrder (script_of (meaning script.now)) (λ f. true) report) }
+        (λ report. IsLawfulInOneList (script_of (meaning script.now)) (λ f. true) report) }
     ensures promised { IfOk result
         (λ report. KeepsWhatIsPromised (script_of (meaning script.now)) (λ f. true) report) }
     ensures writable { script.now.code.queues ≤ length script.now.queues.items
         → IfOk result (λ report. IsWritable (queue_names (meaning script.now)) report) }
 {
-    replay_named::<Brand>(alloc, script, picks)
+    let halt = replay_to_halt(alloc, script, picks)?;
+    Ok(halt.report)
 }

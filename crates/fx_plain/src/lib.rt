@@ -45,6 +45,7 @@
 //!
 //! The report of that run has each fiber that started, ascending by number, with its parent, whether it
 //! has ended, and its trace; what is left in each queue; and which numbers were requested from outside.
+//! Beside it [`replay_to_halt`] says what each fiber waits for that has not ended.
 //!
 //! What never happens: two fibers of one number; a start that finds its number taken, or no room for
 //! the child; an event after its fiber's end; an element that is taken twice, or by nobody and is gone;
@@ -66,10 +67,10 @@ mod plain_world;
 mod put_counts;
 mod text_replay;
 
-pub use chosen_run::replay;
+pub use chosen_run::{Halt, replay, replay_to_halt};
 pub use fx_report::{
-    AnswerFault as PlainFault, BLOCKED, ENDED, MOST_OF_SCRIPT, OutFault, REFUSED, format_refusal,
-    read_text, status_after, write_report, write_text, write_trace,
+    AnswerFault as PlainFault, BLOCKED, ENDED, MOST_OF_SCRIPT, OutFault, REFUSED, Wait,
+    format_refusal, format_waits, read_text, status_after, write_report, write_text, write_trace,
 };
 pub use plain_port::PlainPort;
 pub use plain_world::PlainWorld;

@@ -1,7 +1,7 @@
 //! A set of numbers whose least is found in two steps.
 ghost use Rattle.std.specs.Prelude.{◌≡◌, ℕ, ◌<◌, false, IfSome};
 ghost use Rattle.fx_plain.specs.NumberSet.{is_member, IsLeastOf, IsLeastFrom};
-ghost use Rattle.fx_plain.specs.WholeMachine.{with_at};
+ghost use Rattle.fx_term.specs.Maps.{with_at};
 
 use std::marker::Model;
 

@@ -1,7 +1,7 @@
 //! Sets of numbers, each at an index.
 ghost use Rattle.std.specs.Prelude.{◌≡◌, ℕ, ◌<◌, true, false, IfOk, length};
 ghost use Rattle.fx_plain.specs.NumberSet.{is_member_of, IsLeastOf};
-ghost use Rattle.fx_plain.specs.WholeMachine.{with_at};
+ghost use Rattle.fx_term.specs.Maps.{with_at};
 
 use crate::number_set::{NUMBERS, NumberSet};
 use fx_term::Memory;

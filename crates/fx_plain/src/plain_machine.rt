@@ -1,6 +1,6 @@
 //! All fibers of a script on one thread.
 ghost use Rattle.std.specs.Prelude.{◌≡◌, ℕ, ◌<◌, ◌-◌, ◌∷◌, [], true, Some, None, List, IfOk, OnOk};
-ghost use Rattle.std.specs.Prelude.{length, replicate, slice_index_or, slice_set};
+ghost use Rattle.std.specs.Prelude.{length, option_and_then, replicate, slice_index_or, slice_set};
 ghost use Rattle.fx_term.specs.Code.{IsCode};
 ghost use Rattle.fx_term.specs.Script.{ScriptView};
 ghost use Rattle.fx_text.specs.View.{meaning};
@@ -10,11 +10,13 @@ ghost use Rattle.fx_plain.specs.Chosen.{IsReplay};
 ghost use Rattle.fx_plain.specs.ClassSets.{class_at, is_able};
 ghost use Rattle.fx_plain.specs.World.{is_ready_in};
 ghost use Rattle.fx_plain.specs.PlainMachine.{reported, all_reported, StandsForRun, StandsForSome, Tries, IsUnderWay, Rests};
+ghost use Rattle.fx_plain.specs.PlainMachine.{wait_of, all_waits};
 ghost use Rattle.fx_report.specs.Script.{script_of};
 
 use crate::plain_port::PlainPort;
 use crate::plain_world::PlainWorld;
 use fx_fiber::{Fiber, FiberReport, Report, State, Stepped};
+use fx_report::Wait;
 use fx_term::{Code, CodeBrand, Memory};
 use fx_text::{Pick, Script};
 use std::alloc::Global;
@@ -27,6 +29,18 @@ struct Started<J: CodeBrand> {
 }
 
 impl<J: CodeBrand> Started<J> {
+    /// What it waits for, if its leaf is one that can wait.
+    fn wait(&self, code: &Code) -> Option<Wait>
+        requires { code.now.nodes ≡ J.nodes }
+        ensures { result ≡ wait_of J.nodes self.now }
+    {
+        let source = self.fiber.waits_for(code)?;
+        Some(Wait {
+            fiber: self.fiber.id(),
+            source,
+        })
+    }
+
     /// What is reported of it.
     fn into_report(self) -> FiberReport
         ensures { result ≡ reported J.nodes self }
@@ -59,6 +73,32 @@ fn reports_of<J: CodeBrand>(
         }
     }
     Ok(reports)
+}
+
+/// What the fiber waits for that has this place, if it has started and its leaf is one that can wait.
+fn wait_at<J: CodeBrand>(code: &Code, place: &Option<Started<J>>) -> Option<Wait>
+    requires { code.now.nodes ≡ J.nodes }
+    ensures { result ≡ option_and_then (wait_of J.nodes) place.now }
+{
+    place.as_ref()?.wait(code)
+}
+
+/// What those wait for that have started, and whose leaf is one that can wait.
+fn waits_of<J: CodeBrand>(
+    alloc: Global,
+    code: &Code,
+    fibers: &[Option<Started<J>>],
+) -> Result<Vec<Wait>, Memory>
+    requires { code.now.nodes ≡ J.nodes }
+    ensures { IfOk result (λ waits. waits.items ≡ all_waits J.nodes fibers.now) }
+{
+    let mut waits = Vec::new(alloc);
+    for place in fibers {
+        if let Some(wait) = wait_at(code, place) {
+            waits.push(wait)?;
+        }
+    }
+    Ok(waits)
 }
 
 /// The main fiber at its place, and the places of all others, of which none has started.
@@ -138,12 +178,7 @@ impl<J: CodeBrand> PlainMachine<J> {
                 let parent = Some(id);
                 self.put(fiber.id(), Started { parent, fiber });
             }
-            Stepped::Waits => {
-                let Some(source) = started.fiber.waits_for(code) else {
-                    unreachable!();
-                };
-                self.world.wait(id, source);
-            }
+            Stepped::Waits(source) => self.world.wait(id, source),
         }
         self.put(id, started);
         Ok(())
@@ -196,11 +231,21 @@ impl<J: CodeBrand> PlainMachine<J> {
         Ok(())
     }
 
+    /// What the blocked fibers wait for, once no fiber is ready.
+    pub fn waits(&self, alloc: Global, code: &Code) -> Result<Vec<Wait>, Memory>
+        requires code { code.now.nodes ≡ J.nodes }
+        ensures { IfOk result (λ waits. waits.items ≡ all_waits J.nodes self.now.fibers.items) }
+    {
+        waits_of(alloc, code, &self.fibers)
+    }
+
     /// The report, once no fiber is ready.
     pub fn into_report(self, alloc: Global) -> Result<Report, Memory>
         requires { Rests self }
-        ensures { IfOk result (λ report. (s : ScriptView) (all : List Pick)
+        ensures replay { IfOk result (λ report. (s : ScriptView) (all : List Pick)
             → IsUnderWay J.nodes s all [] self → IsReplay s all report) }
+        ensures fibers { IfOk result
+            (λ report. report.fibers ≡ all_reported J.nodes self.fibers.items) }
     {
         Ok(Report {
             outside: self.world.outside(alloc)?,

@@ -1,10 +1,10 @@
 //! The port of a fiber of one thread.
-ghost use Rattle.std.specs.Prelude.{◌≡◌, sum};
+ghost use Rattle.std.specs.Prelude.{◌≡◌, true};
 ghost use Rattle.fx_plain.specs.PlainCalls.{new_port};
 
 use crate::plain_world::PlainWorld;
 use crate::put_counts::PutCounts;
-use fx_fiber::Port;
+use fx_fiber::{Port, Source};
 use fx_term::{Begin, CodeBrand, Item, Memory, Offered, Outcome};
 use std::alloc::Global;
 use std::marker::{Model, PhantomData};
@@ -54,24 +54,23 @@ impl<J: CodeBrand> PlainPort<J> {
 }
 
 impl<J: CodeBrand> Port for PlainPort<J> {
-    ghost use Rattle.fx_plain.specs.PlainCalls.{plain_calls};
+    ghost use Rattle.fx_model.specs.Origin.{main_begin_of};
+    ghost use Rattle.fx_plain.specs.PlainCalls.{facts_of, plain_calls};
 
     type Shared = PlainWorld;
 
     ghost code = { J.nodes };
 
-    ghost number = { λ port. port.number };
+    // one more than the need of the code's term
+    ghost total = { (main_begin_of J.nodes).end };
 
-    ghost beginning = { λ port. port.beginning };
-
-    ghost has_finished = { λ port. port.has_finished };
-
-    ghost rest = { λ port. port.rest };
-
-    ghost puts = { λ port. sum port.put_counts };
+    ghost facts = { facts_of };
 
     // the calls say all
     ghost agrees = { λ port deeds. Unit {0} };
+
+    // each number
+    ghost may = { λ id. true };
 
     ghost calls = { plain_calls };
 
@@ -121,5 +120,17 @@ impl<J: CodeBrand> Port for PlainPort<J> {
     fn finish(&mut self, world: &mut PlainWorld, outcome: Outcome) {
         self.has_finished = Snapshot::of(&true);
         world.finish(self.id, outcome);
+    }
+
+    fn outside(&mut self, world: &mut PlainWorld, id: u32) {
+        world.request_from_outside(id);
+    }
+
+    fn wait_on(&mut self, _world: &mut PlainWorld, _source: Source) {
+        // who has the fibers finds by the world which of them may step
+    }
+
+    fn woken(_world: &mut PlainWorld) -> Option<u32> {
+        None
     }
 }

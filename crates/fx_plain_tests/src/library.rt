@@ -18,7 +18,7 @@ fn run_alone<J: CodeBrand>(alloc: Global, script: &Script) -> Result<Option<Outc
     while !fiber.has_ended() {
         match fiber.step(&script.code, &mut world)? {
             Stepped::Went | Stepped::Gave | Stepped::Ended => {}
-            Stepped::Child(_) | Stepped::Waits => break,
+            Stepped::Child(_) | Stepped::Waits(_) => break,
         }
     }
     Ok(world.outcome(fiber.id()))

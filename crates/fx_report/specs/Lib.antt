@@ -1,5 +1,6 @@
 pub mod Script
 pub mod Text
+pub mod Waits
 pub mod Status
 pub mod Refusal
 pub mod Output

@@ -5,11 +5,12 @@ ghost use Rattle.fx_report.specs.declared.answer_fault.AnswerFault.TheVariants.{
 ghost use Rattle.fx_report.specs.Input.{TakesPiece, TakesPrefix, TakesAtMost, FailsToRead};
 
 use crate::answer_fault::AnswerFault;
+use fx_text::MOST_SCRIPT_BYTES;
 use std::alloc::Global;
 use std::io::Read;
 
 /// One byte more than a script may have, so that a text that is too long is known to be.
-pub const MOST_OF_SCRIPT: usize = 65_537;
+pub const MOST_OF_SCRIPT: usize = MOST_SCRIPT_BYTES + 1;
 
 const PIECE: usize = 4096;
 

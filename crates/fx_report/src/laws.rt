@@ -1,2 +1,3 @@
-//! Laws of the texts of reports. A function here does nothing: its contract is the law.
+//! Laws of the texts of reports and of statuses. A function here does nothing: its contract is the law.
 pub mod reports;
+pub mod statuses;

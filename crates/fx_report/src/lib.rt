@@ -8,6 +8,8 @@
 //! | report | a fiber, with how it is at the end; then a queue, with what is left in it |
 //! | traces | an event of a fiber, fiber by fiber |
 //!
+//! Beside them there is a line for people for each blocked fiber, with what it waits for ([`Wait`]).
+//!
 //! The text of a script has one answer, a status and a printed text, or a fault and none:
 //!
 //! | the text | status | what is printed |
@@ -39,6 +41,8 @@ mod out_fault;
 mod output;
 mod refusal;
 mod status;
+mod wait;
+mod waits;
 mod write;
 
 pub use answer::Answer;
@@ -48,4 +52,6 @@ pub use out_fault::OutFault;
 pub use output::write_text;
 pub use refusal::format_refusal;
 pub use status::{BLOCKED, ENDED, FAULT, OTHER_WORDS, REFUSED, UNREADABLE, status_after};
+pub use wait::Wait;
+pub use waits::format_waits;
 pub use write::{write_report, write_trace};

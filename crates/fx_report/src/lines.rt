@@ -9,7 +9,7 @@ use fx_text::QueueDecl;
 use std::alloc::AllocError;
 
 /// Appends the end of a line.
-fn end_line(text: &mut String) -> Result<(), AllocError>
+pub(crate) fn end_line(text: &mut String) -> Result<(), AllocError>
     ensures { OnOk result (string_bytes text.new ≡ string_bytes text.old ++ line_end) }
 {
     text.push('\n')
@@ -35,7 +35,7 @@ fn push_numbered(text: &mut String, word: &str, value: u64) -> Result<(), AllocE
 }
 
 /// Appends a word, and the name of a queue.
-fn push_named(
+pub(crate) fn push_named(
     text: &mut String,
     word: &str,
     queues: &[QueueDecl],

@@ -22,3 +22,6 @@ pub mod FillNothing
 pub mod NameUses
 pub mod CoreTerms
 pub mod QueueLaws
+pub mod ListLaws
+pub mod MapLaws
+pub mod LeavesLaws

@@ -130,7 +130,7 @@ replay_grows c f s (e ∷ h) last r =
     ∙ append_assoc (items_of f s.put) (numbered f k now) (numbered f j later) ∙ ap (λ (xs : List Item). items_of f s.put ++ xs) all
 
 -- the value of a put
-abbrev value_of : QueueEvent → Option ℕ
+abbrev pub value_of : QueueEvent → Option ℕ
 value_of (Put g n) = Some n
 value_of (Got g n) = None
 
@@ -143,7 +143,7 @@ cut_get : (g n : ℕ) (b : Bool) (xs : List QueueEvent) (ys : List ℕ) → filt
 cut_get g n true xs ys e = e
 cut_get g n false xs ys e = e
 
-values_in_cut : (f : ℕ) (h : List QueueEvent) → filter_map value_of (cut f h) ≡ values_by f h
+pub values_in_cut : (f : ℕ) (h : List QueueEvent) → filter_map value_of (cut f h) ≡ values_by f h
 values_in_cut f [] = refl
 values_in_cut f (Put g n ∷ h) = cut_one f g n (g == f) (cut f h) (values_by f h) (values_in_cut f h)
 values_in_cut f (Got g n ∷ h) = cut_get g n (g == f) (cut f h) (values_by f h) (values_in_cut f h)

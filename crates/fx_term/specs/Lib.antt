@@ -17,3 +17,5 @@ pub mod Registers
 pub mod Queue
 pub mod QueuesNamed
 pub mod Script
+pub mod Lists
+pub mod Maps

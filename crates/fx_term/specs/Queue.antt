@@ -15,6 +15,12 @@ fiber_of (Got f n) = f
 abbrev pub cut : ℕ → List QueueEvent → List QueueEvent
 cut f h = filter (λ e. fiber_of e == f) h
 
+-- how many of the events are puts
+abbrev pub puts : List QueueEvent → ℕ
+puts [] = 0
+puts (Put f n ∷ h) = puts h + 1
+puts (Got f n ∷ h) = puts h
+
 -- an element that was taken, and the fiber that took it
 pub record Taking : Type 0 where
   pub taker : ℕ

@@ -1,5 +1,6 @@
 -- The reader as it goes through the resources of `using`.
-use Rattle.std.proofs.Common.{◌≡◌, ℕ, ◌+◌, ◌-◌, ◌<◌, ◌≤◌, true, false, Ok, List, [], ◌∷◌, ◌++◌, length, take, refl, sym, ◌∙◌, ap, subst, arith, append_assoc}
+use Rattle.std.proofs.Common.{◌≡◌, ℕ, ◌+◌, ◌-◌, ◌<◌, ◌≤◌, true, false, Ok, Err, Bor, List, [], ◌∷◌, ◌++◌, length, take}
+use Rattle.std.proofs.Common.{refl, sym, ◌∙◌, ap, subst, arith, append_assoc}
 use Rattle.std.proofs.lemmas.List.{append-nil, length-append, length-map, map-append}
 use Rattle.std.proofs.Math.Seq.{take-append_seam}
 use Rattle.fx_term.specs.declared.node.Node.{Node}
@@ -20,13 +21,15 @@ use Rattle.fx_text.specs.Scope.{Scope, slot, under}
 use Rattle.fx_text.specs.Group.{OfResource, OfResources, Resource, under_all}
 use Rattle.fx_text.specs.Shape.{Shape, ends, group, groups, using, shape, content}
 use Rattle.fx_text.specs.ScopeView.{scope}
-use Rattle.fx_text.specs.Reading.{◌>>=◌, Read, binder_at, opening_at, closing_at, group_at, term_at, parts_at}
+use Rattle.fx_text.specs.Reading.{◌>>=◌, Read, opening_at, closing_at, group_at, term_at, parts_at}
 use Rattle.fx_text.specs.Given.{Fails}
 use Rattle.fx_text.specs.Needs.{AreMade}
 use Rattle.fx_text.specs.Trees.{AllBelow, GrowsBy}
-use Rattle.fx_text.specs.ReaderState.{scope_of, IsReady, Went, WentThrough}
+use Rattle.fx_text.specs.ReaderState.{scope_of, IsReady, IsRead, Went, WentThrough}
+use Rattle.fx_text.specs.Head.{named_at}
 use Rattle.fx_text.specs.ResourceState.{resource_of, resources_of, roots_of, bounds_of, Binds, Nests}
-use Rattle.fx_text.proofs.GroupLaws.{group_untested}
+use Rattle.fx_text.proofs.GroupLaws.{group_untested, resource_is, after_name}
+use Rattle.fx_text.proofs.OpenLaws.{fails_first, fails_as}
 use Rattle.fx_text.proofs.ScopeLaws.{slot_at, scope_push}
 use Rattle.fx_text.proofs.GroupsLaws.{parts_ended, parts_go_on}
 use Rattle.fx_text.proofs.ReaderLaws.{grows_none, grows_append, last_root}
@@ -177,23 +180,44 @@ binds_fails room old new rs bytes rest (errors.Fault x) h f = h.read ∙ rw f re
 
 -- ---- one
 
+pub no_resource : (room : ℕ) (p : Scope) (bytes : List ℕ) (e : ReadError) → Fails e (named_at room p bytes) → Fails e (group_at room OfResource p bytes)
+no_resource room p bytes e h = fails_as e _ _ (resource_is p bytes room) (fails_first e _ _ h)
+
 -- a resource is a name, what acquires it, and what releases it in the scope of the name
-pub resource_read : (room : ℕ) (old one two : Reader) (r : CodeResource) (names : List CodeBound) (bytes inside named after before_end end : List ℕ) → 0 < room
-    → opening_at bytes ≡ Ok (tt, inside)
-    → names ≡ old.names.items → binder_at (scope names old.place) inside ≡ Ok (r.name.now, named) → r.slot ≡ length old.names.items
-    → term_at (room - 1) (scope_of old) named ≡ Ok (term_of one.nodes.items r.acquire.0, after) → Went term_spares old one r.acquire.0 named after
-    → term_at (room - 1) (under kind.Value r.name.now (scope_of one)) after ≡ Ok (term_of two.nodes.items r.release.0, before_end)
-    → Went term_spares one two r.release.0 after before_end
-    → closing_at before_end ≡ Ok (tt, end) → group_at room OfResource (scope_of old) bytes ≡ Ok (resource_of two.nodes.items r, end)
-resource_read room old one two r names bytes inside named after before_end end some opened same bound numbered first w second v closed =
-    let bound' : binder_at (scope_of old) inside ≡ Ok (r.name.now, named) =
-    subst (λ (l : List CodeBound). binder_at (scope l old.place) inside ≡ Ok (r.name.now, named)) same bound in
-    let second' : term_at (room - 1) (under kind.Value r.name.now (scope_of old)) after ≡ Ok (term_of two.nodes.items r.release.0, before_end) =
-    subst (λ (p : Scope). term_at (room - 1) (under kind.Value r.name.now p) after ≡ Ok (term_of two.nodes.items r.release.0, before_end))
-    (same_scope old one w.names w.place) second in
-    let kept : term_of two.nodes.items r.acquire.0 ≡ term_of one.nodes.items r.acquire.0 = v.keeps.same r.acquire.0 (omega (arith, w.last)) in
-    let numbered' : slot (scope_of old) ≡ r.slot = slot_at old.names.items old.place ∙ sym numbered in
-    group_untested room OfResource (scope_of old) bytes some (λ r. refl) ∙ rw (opened, bound', first, second', closed, numbered', kept) refl
+module _ (room inside : ℕ) (old : Reader) (bytes : List ℕ) (below : inside + 1 ≡ room) where
+  room_is : room - 1 ≡ inside
+  room_is = omega arith
+
+  module _ (x : Bor (List ℕ)) (named : List ℕ) (name_is : named_at room (scope_of old) bytes ≡ Ok (x.now, named)) where
+    resource_named : group_at room OfResource (scope_of old) bytes ≡ after_name inside (scope_of old) (x.now, named)
+    resource_named = resource_is (scope_of old) bytes room ∙ rw name_is (ap (λ (n : ℕ). after_name n (scope_of old) (x.now, named)) room_is)
+
+    module _ (one : Reader) (a : ℕ) (after : List ℕ) (first : IsRead term_spares old one a named after (term_at inside (scope_of old) named)) where
+      pub unreleased : (e : ReadError) → Fails e (term_at inside (under kind.Value x.now (scope_of one)) after)
+          → Fails e (group_at room OfResource (scope_of old) bytes)
+      unreleased errors.Memory h = tt
+      unreleased (errors.Fault f) h = resource_named ∙ rw (
+        first.read,
+        subst (λ (p : Scope). term_at inside (under kind.Value x.now p) after ≡ Err f) (same_scope old one first.went.names
+            first.went.place) h,
+      ) refl
+
+      module _ (two : Reader) (c : ℕ) (before_end : List ℕ)
+          (second : IsRead term_spares one two c after before_end (term_at inside (under kind.Value x.now (scope_of one)) after)) where
+        second_read : term_at inside (under kind.Value x.now (scope_of old)) after ≡ Ok (term_of two.nodes.items c, before_end)
+        second_read = subst (λ (p : Scope). term_at inside (under kind.Value x.now p) after ≡ Ok (term_of two.nodes.items c, before_end))
+            (same_scope old one first.went.names first.went.place) second.read
+
+        pub unclosed : (e : ReadError) → Fails e (closing_at before_end) → Fails e (group_at room OfResource (scope_of old) bytes)
+        unclosed errors.Memory h = tt
+        unclosed (errors.Fault f) h = resource_named ∙ rw (first.read, second_read, h) refl
+
+        pub resource_read : (r : CodeResource) (end : List ℕ) → r.name ≡ x → r.slot ≡ length old.names.items → r.acquire.0 ≡ a → r.release.0 ≡ c
+            → closing_at before_end ≡ Ok (tt, end) → group_at room OfResource (scope_of old) bytes ≡ Ok (resource_of two.nodes.items r, end)
+        resource_read r end x_is numbered a_is c_is closed =
+            let kept : term_of two.nodes.items a ≡ term_of one.nodes.items a = second.went.keeps.same a (omega (arith, first.went.last)) in
+            let numbered' : slot (scope_of old) ≡ r.slot = slot_at old.names.items old.place ∙ sym numbered in
+            resource_named ∙ rw (first.read, second_read, closed, numbered', sym kept, sym x_is, sym a_is, sym c_is) refl
 
 -- ---- the list
 

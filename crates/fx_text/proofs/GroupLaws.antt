@@ -4,10 +4,13 @@ use Rattle.fx_text.specs.declared.fault.ReadError.{ReadError}
 use Rattle.fx_text.specs.declared.fault.ReadError.TheVariants as errors
 use Rattle.fx_text.specs.Token.{next}
 use Rattle.fx_text.specs.Given.{Fails}
-use Rattle.fx_text.specs.Scope.{Scope}
-use Rattle.fx_text.specs.Group.{Group, OfTerm, Content, needs_few}
+use Rattle.fx_term.specs.declared.name_kind.NameKind.TheVariants as kind
+use Rattle.fx_term.specs.Term.{Term}
+use Rattle.fx_text.specs.Scope.{Scope, slot, under}
+use Rattle.fx_text.specs.Group.{Group, OfTerm, OfResource, OfOutcome, Resource, Content, needs_few}
 use Rattle.fx_text.specs.Shape.{shape, content}
-use Rattle.fx_text.specs.Reading.{◌>>=◌, Read, kind_of, too_deep, opening_at, form_at, parts_at, kept, group_at, term_at}
+use Rattle.fx_text.specs.Reading.{◌>>=◌, Read, kind_of, too_deep, opening_at, closing_at, binder_at, form_at, parts_at, kept, group_at, term_at}
+use Rattle.fx_text.specs.Head.{named_at}
 
 -- where a `(` may be open, a group is `(` and its parts
 pub group_is : (room : ℕ) (g : Group) (p : Scope) (bytes : List ℕ) → 0 < room
@@ -42,3 +45,47 @@ pub no_group : (room : ℕ) (g : Group) (p : Scope) (bytes : List ℕ) (e : Read
 unfolding group_at
 no_group zero g p bytes e h is = subst (λ (x : ReadError). Fails x (group_at 0 g p bytes)) is refl
 no_group (suc room) g p bytes e h is = absurd (omega arith)
+
+-- ---- groups that are no forms, whose name comes first
+
+pub name_is : (room : ℕ) (p : Scope) (bytes : List ℕ) → 0 < room → named_at room p bytes ≡ (opening_at bytes >>= λ o. binder_at p o.1)
+unfolding named_at
+name_is zero p bytes h = absurd (omega arith)
+name_is (suc room) p bytes h = refl
+
+pub no_name : (room : ℕ) (p : Scope) (bytes : List ℕ) (e : ReadError) → room ≡ 0
+    → errors.Fault (record { kind = kind_of (too_deep (next bytes).token) (next bytes).token; left = (next bytes).from }) ≡ e
+    → Fails e (named_at room p bytes)
+unfolding named_at
+no_name zero p bytes e h is = subst (λ (x : ReadError). Fails x (named_at 0 p bytes)) is refl
+no_name (suc room) p bytes e h is = absurd (omega arith)
+
+-- what comes after the name of an outcome's number
+abbrev pub after_outcome : ℕ → Scope → List ℕ × List ℕ → Read Term
+after_outcome room p x = term_at room (under kind.Value x.0 p) x.1 >>= λ t. closing_at t.1 >>= λ c. Ok (t.0, c.1)
+
+-- and after that of a resource
+abbrev pub after_name : ℕ → Scope → List ℕ × List ℕ → Read Resource
+after_name room p x = term_at room p x.1 >>= λ a. term_at room (under kind.Value x.0 p) a.1 >>= λ r. closing_at r.1
+    >>= λ c. Ok (record { name = x.0; slot = slot p; acquire = a.0; release = r.0 }, c.1)
+
+module _ (p : Scope) (bytes : List ℕ) where
+  pub outcome_is : (room : ℕ) → group_at room OfOutcome p bytes ≡ (named_at room p bytes >>= after_outcome (room - 1) p)
+  unfolding group_at named_at
+  outcome_is zero = refl
+  outcome_is (suc k) = group_untested (suc k) OfOutcome p bytes (omega arith) (λ t. refl) ∙ by_opening (opening_at bytes)
+    where
+      by_opening : (o : Read (Unit {0})) → (o >>= λ o. parts_at (group_at (suc k - 1)) (content OfOutcome p) o.1)
+          ≡ ((o >>= λ o. binder_at p o.1) >>= after_outcome (suc k - 1) p)
+      by_opening (Ok o) = refl
+      by_opening (Err f) = refl
+
+  pub resource_is : (room : ℕ) → group_at room OfResource p bytes ≡ (named_at room p bytes >>= after_name (room - 1) p)
+  unfolding group_at named_at
+  resource_is zero = refl
+  resource_is (suc k) = group_untested (suc k) OfResource p bytes (omega arith) (λ r. refl) ∙ by_opening (opening_at bytes)
+    where
+      by_opening : (o : Read (Unit {0})) → (o >>= λ o. parts_at (group_at (suc k - 1)) (content OfResource p) o.1)
+          ≡ ((o >>= λ o. binder_at p o.1) >>= after_name (suc k - 1) p)
+      by_opening (Ok o) = refl
+      by_opening (Err f) = refl

@@ -13,6 +13,8 @@ pub mod ReadLaws
 pub mod ReadyLaws
 pub mod MadeLaws
 pub mod HeadLaws
+pub mod OpenLaws
+pub mod AheadLaws
 pub mod ResourceLaws
 pub mod BindLaws
 pub mod ThroughLaws

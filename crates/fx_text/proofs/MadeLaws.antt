@@ -20,9 +20,9 @@ use Rattle.fx_text.specs.Made.{CanMake, Makes, MakesTree}
 use Rattle.fx_text.proofs.ReaderLaws.{grows_none, grows_append, grew_before_last}
 
 -- a bracket whose resource is the value 0
-guarantee_made : (old one new : Reader) (zero a f : NodeId) (root : ℕ) → CanMake old (a ∷ f ∷ []) → Adds old one (node.Pure (arg.Number 0)) zero.0
+guarantee_made : (old one new : Reader) (zero a f : NodeId) (root : ℕ) → CanMake 47 old (a ∷ f ∷ []) → Adds old one (node.Pure (arg.Number 0)) zero.0
     → Adds one new (node.Bracket None zero a f) root
-    → Makes old new (a ∷ f ∷ []) (Bracket None pure_zero (term_of old.nodes.items a.0) (term_of old.nodes.items f.0)) root
+    → Makes 47 old new (a ∷ f ∷ []) (Bracket None pure_zero (term_of old.nodes.items a.0) (term_of old.nodes.items f.0)) root
 guarantee_made old one new zero a f root can first second =
     let zero_is : term_of new.nodes.items zero.0 ≡ pure_zero = second.keeps.same zero.0 (omega (arith, first.last)) ∙ first.term in
     let a_is = second.keeps.same a.0 (let b = can.below.0 in omega (arith, first.one)) ∙ first.keeps.same a.0 can.below.0 in
@@ -44,9 +44,9 @@ guarantee_made old one new zero a f root can first second =
           (first.grows old.nodes.items [] (IsPermutation-refl []) (grows_none old.nodes.items)));
     }
 
-pub guarantee_makes : {E : Type 0} (old one new : Reader) (zero a f : NodeId) (result : Result NodeId E) → CanMake old (a ∷ f ∷ [])
+pub guarantee_makes : {E : Type 0} (old one new : Reader) (zero a f : NodeId) (result : Result NodeId E) → CanMake 47 old (a ∷ f ∷ [])
     → Adds old one (node.Pure (arg.Number 0)) zero.0 → IfOk result (λ id. Adds one new (node.Bracket None zero a f) id.0)
-    → IfOk result (λ id. Makes old new (a ∷ f ∷ []) (Bracket None pure_zero (term_of old.nodes.items a.0) (term_of old.nodes.items f.0)) id.0)
+    → IfOk result (λ id. Makes 47 old new (a ∷ f ∷ []) (Bracket None pure_zero (term_of old.nodes.items a.0) (term_of old.nodes.items f.0)) id.0)
 guarantee_makes old one new zero a f (Ok id) can first second = guarantee_made old one new zero a f id.0 can first second
 guarantee_makes old one new zero a f (Err e) can first second = tt
 
@@ -147,9 +147,9 @@ module _ (old one two : Reader) (i j : ℕ) (a b : Term) (c d : ℕ) (first : Ma
 
 -- ---- a race
 
-pub race_made : (old one two three new : Reader) (s : RaceSlots) (a b d x y : NodeId) (root : ℕ) → CanMake old (a ∷ b ∷ [])
+pub race_made : (old one two three new : Reader) (s : RaceSlots) (a b d x y : NodeId) (root : ℕ) → CanMake 47 old (a ∷ b ∷ [])
     → MakesTree old one 44 (deciding s) d.0 → Adds one two (node.Start s.right b d) x.0 → Adds two three (node.Start s.left a x) y.0
-    → Adds three new (node.Mask s.mask y) root → Makes old new (a ∷ b ∷ []) (race s (term_of old.nodes.items a.0) (term_of old.nodes.items b.0)) root
+    → Adds three new (node.Mask s.mask y) root → Makes 47 old new (a ∷ b ∷ []) (race s (term_of old.nodes.items a.0) (term_of old.nodes.items b.0)) root
 race_made old one two three new s a b d x y root can tree second first mask =
     let under_a = can.below.0 in
     let under_b = can.below.1.0 in

@@ -1,14 +1,14 @@
 -- What can be read next.
-use Rattle.std.proofs.Common.{◌≡◌, ℕ, ◌+◌, ◌*◌, ◌≤◌, List, length, ◌∙◌, ap, arith}
+use Rattle.std.proofs.Common.{◌≡◌, ℕ, ◌+◌, ◌*◌, ◌≤◌, List, length, ap, arith}
 use Rattle.fx_term.specs.declared.node.NodeId.{NodeId}
-use Rattle.fx_term.specs.declared.node.Node.{Node}
 use Rattle.fx_text.specs.Limits.{term_spares}
 use Rattle.fx_text.specs.declared.reader.Reader.{Reader}
 use Rattle.fx_text.specs.declared.reader.head.Inner.{Inner}
+use Rattle.fx_text.specs.declared.reader.head.Inner.TheVariants as inner
 use Rattle.fx_text.specs.declared.place.Place.{Place}
 use Rattle.fx_text.specs.Needs.{AreMade}
-use Rattle.fx_text.specs.ReaderState.{IsReady, Went, WentThrough, Adds}
-use Rattle.fx_text.specs.Head.{Enters}
+use Rattle.fx_text.specs.ReaderState.{IsReady, Went, WentThrough}
+use Rattle.fx_text.specs.Head.{spared, Enters}
 
 -- the bytes that were read since pay for more that are left over
 pub ready_more : (spared more : ℕ) (r : Reader) (bytes rest : List ℕ) → IsReady spared r bytes → length rest + more ≤ length bytes + spared
@@ -25,6 +25,19 @@ ready_more spared more r bytes rest ready le = record {
 
 pub ready_less : (spared : ℕ) (r : Reader) (bytes : List ℕ) → IsReady spared r bytes → IsReady 0 r bytes
 ready_less spared r bytes ready = ready_more spared 0 r bytes bytes ready (omega arith)
+
+-- what a part has to spare is no more than a form has
+pub ready_spared : (i : Inner) (r : Reader) (bytes : List ℕ) → IsReady 2 r bytes → IsReady (spared i) r bytes
+ready_spared i r bytes ready = ready_more 2 (spared i) r bytes bytes ready (let h = spared_few i in omega arith)
+  where
+    spared_few : (i : Inner) → spared i ≤ 2
+    spared_few inner.Same = omega arith
+    spared_few (inner.Name k x) = omega arith
+    spared_few inner.Elsewhere = omega arith
+    spared_few inner.RaceLeft = omega arith
+    spared_few inner.RaceRight = omega arith
+    spared_few (inner.Loop n x) = omega arith
+    spared_few inner.Outcome = omega arith
 
 -- nodes were made since, which the bytes that were read pay for
 pub ready_made : (spared more : ℕ) (old new : Reader) (bytes rest : List ℕ) → IsReady spared old bytes → new.names.items ≡ old.names.items
@@ -52,15 +65,8 @@ pub ready_through : (spared : ℕ) (old new : Reader) (roots : List NodeId) (byt
 ready_through spared old new roots bytes rest ready w = ready_made spared spared old new bytes rest ready w.names w.place w.made
     (omega (arith, w.shorter)) (omega (arith, w.paid))
 
--- after a term of which two nodes more were made
-pub ready_after_two : (old one two new : Reader) (root a b : ℕ) (n m : Node) (bytes rest : List ℕ) → IsReady 2 old bytes
-    → Went term_spares old one root bytes rest → Adds one two n a → Adds two new m b → IsReady 0 new rest
-ready_after_two old one two new root a b n m bytes rest ready w first second = ready_made 2 0 old new bytes rest ready
-    (second.names ∙ first.names ∙ w.names) (second.place ∙ first.place ∙ w.place) second.made
-    (omega (arith, w.shorter)) (omega (arith, w.paid, first.one, second.one))
-
 -- in the scope of a part
-pub ready_in : (i : Inner) (old new : Reader) (bytes : List ℕ) → IsReady 2 old bytes → Enters i old new → IsReady 0 new bytes
+pub ready_in : (i : Inner) (old new : Reader) (bytes : List ℕ) → IsReady (spared i) old bytes → Enters i old new → IsReady 0 new bytes
 ready_in i old new bytes ready e = record {
   made = rw (e.nodes, e.needs) ready.made;
   names_fit = omega (arith, ready.names_fit, e.longer);

@@ -9,17 +9,20 @@ use Rattle.fx_text.specs.declared.fault.ReadError.{ReadError}
 use Rattle.fx_text.specs.declared.fault.ReadError.TheVariants as errors
 use Rattle.fx_text.specs.declared.reader.Reader.{Reader}
 use Rattle.fx_text.specs.Token.{next}
+use Rattle.fx_text.specs.declared.form.Form.TheVariants as form
+use Rattle.fx_text.specs.Shape.{shape, seq}
 use Rattle.fx_text.specs.Part.{is_closing}
-use Rattle.fx_text.specs.Reading.{groups_at, group_at, term_at}
+use Rattle.fx_text.specs.Reading.{◌>>=◌, Read, closing_at, parts_at, groups_at, group_at, term_at}
 use Rattle.fx_text.specs.Given.{Fails}
 use Rattle.fx_text.specs.Scope.{Scope}
 use Rattle.fx_text.specs.Group.{OfTerm}
 use Rattle.fx_text.specs.Needs.{AreMade}
 use Rattle.fx_text.specs.Trees.{GrowsBy, Keeps, AllBelow}
-use Rattle.fx_text.specs.ReaderState.{scope_of, ids, Went, WentThrough, Joins}
+use Rattle.fx_text.specs.ReaderState.{scope_of, ids, IsRead, Went, WentThrough, Joins}
 use Rattle.fx_text.proofs.GroupsLaws.{IsReadSoFar, none_so_far, more_so_far, fault_so_far, all_so_far}
 use Rattle.fx_text.proofs.ReaderLaws.{grows_none, grows_append, last_root}
 use Rattle.fx_text.proofs.ReadLaws.{same_scope, through_more}
+use Rattle.fx_text.proofs.OpenLaws.{fails_first, fails_as}
 use Rattle.fx_text.proofs.SequenceLaws.{terms_of, terms_push, ids_push}
 
 -- the terms read so far and what is read of the rest are what is read of all
@@ -96,3 +99,39 @@ went_seq old one two new first others root bytes after before_end rest w v lt j 
   paid = omega (arith, w.paid, v.paid, j.more);
   shorter = omega (arith, w.shorter, v.shorter);
 }
+
+-- ---- a `seq`
+
+module _ (room : ℕ) (old one middle : Reader) (first : NodeId) (others : List NodeId) (bytes after rest : List ℕ)
+    (r : IsRead term_spares old one first.0 bytes after (term_at room (scope_of old) bytes)) (h : WentSoFar room one middle others after rest) where
+  -- the terms after the first one
+  seq_is : parts_at (group_at room) (shape form.Seq (scope_of old)) bytes
+      ≡ (groups_at (group_at room) OfTerm (scope_of one) after >>= λ x. closing_at x.1 >>= λ c. Ok (seq (term_of one.nodes.items first.0) x.0, c.1))
+  seq_is = ap (λ (t : Read Term). t >>= λ a. groups_at (group_at room) OfTerm (scope_of old) a.1 >>= λ x. closing_at x.1 >>= λ c. Ok (seq a.0 x.0, c.1)) r.read
+      ∙ ap (λ (p : Scope). groups_at (group_at room) OfTerm p after >>= λ x. closing_at x.1 >>= λ c. Ok (seq (term_of one.nodes.items first.0) x.0, c.1))
+      (sym (same_scope old one r.went.names r.went.place))
+
+  pub seq_fails : (e : ReadError) → is_closing (next rest).token ≡ false → Fails e (term_at room (scope_of middle) rest)
+      → Fails e (parts_at (group_at room) (shape form.Seq (scope_of old)) bytes)
+  seq_fails e at f = fails_as e _ _ seq_is (fails_first e _ _ (went_fails room one middle others after rest h e at f))
+
+  module _ (at : is_closing (next rest).token ≡ true) where
+    seq_all : parts_at (group_at room) (shape form.Seq (scope_of old)) bytes
+        ≡ (closing_at rest >>= λ c. Ok (seq (term_of one.nodes.items first.0) (terms_of middle.nodes.items others), c.1))
+    seq_all = seq_is ∙ rw (went_all room one middle others after rest h at) refl
+
+    pub seq_unclosed : (e : ReadError) → Fails e (closing_at rest) → Fails e (parts_at (group_at room) (shape form.Seq (scope_of old)) bytes)
+    seq_unclosed e f = fails_as e _ _ seq_all (fails_first e _ _ f)
+
+    pub seq_read : (new : Reader) (root : ℕ) (end : List ℕ) → closing_at rest ≡ Ok (tt, end) → length end < length rest → Joins middle new first others root
+        → IsRead form_spares old new root bytes end (parts_at (group_at room) (shape form.Seq (scope_of old)) bytes)
+    seq_read new root end closed shorter j =
+        let grows = j.grows old.nodes.items (grows_append old.nodes.items one.nodes.items middle.nodes.items (first.0 ∷ []) (ids others) r.grows h.grows) in
+        let first_is = h.went.keeps.same first.0 (omega (arith, r.went.last)) in
+        let means : term_of new.nodes.items root ≡ seq (term_of one.nodes.items first.0) (terms_of middle.nodes.items others) =
+        j.term ∙ ap (λ (t : Term). seq t (terms_of middle.nodes.items others)) first_is in
+        record {
+          read = seq_all ∙ rw closed (ap (λ (t : Term). Ok (t, end)) (sym means));
+          went = went_seq old one middle new first others root bytes after rest end r.went h.went shorter j grows;
+          grows = grows;
+        }

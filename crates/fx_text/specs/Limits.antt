@@ -1,10 +1,10 @@
 -- The limits of a text, and of what is made of it.
-use Rattle.std.specs.Prelude.{ℕ, ◌+◌, ◌*◌}
-use Rattle.fx_text.specs.declared.script.TheConstants.{MOST_BYTES}
+use Rattle.std.specs.Prelude.{ℕ, ◌*◌}
+use Rattle.fx_text.specs.declared.script.TheConstants.{MOST_SCRIPT_BYTES}
 
 -- the most bytes of a text
 abbrev pub most_bytes : ℕ
-most_bytes = MOST_BYTES
+most_bytes = MOST_SCRIPT_BYTES
 
 -- the most `(` that may be open inside main, which has the first of 100
 abbrev pub most_open : ℕ
@@ -28,10 +28,6 @@ term_spares = 23
 -- and of those that the bytes after the word of a form pay for
 abbrev pub form_spares : ℕ
 form_spares = 7
-
--- at most so many nodes are made over so many parts: what these leave over, and one
-abbrev pub most_made : ℕ → ℕ
-most_made parts = 1 + term_spares * parts
 
 -- the most bytes of a schedule, the most words of it, and the largest number of a fiber that it may name
 abbrev pub most_schedule_bytes : ℕ

@@ -5,25 +5,25 @@ use Rattle.fx_term.specs.declared.node.Node.{Node}
 use Rattle.fx_term.specs.Term.{Term}
 use Rattle.fx_term.specs.Meaning.{term_of}
 use Rattle.fx_text.specs.declared.reader.Reader.{Reader}
-use Rattle.fx_text.specs.Limits.{most_nodes, most_made}
+use Rattle.fx_text.specs.Limits.{most_nodes}
 use Rattle.fx_text.specs.Needs.{AreMade}
 use Rattle.fx_text.specs.Trees.{AllBelow, GrowsBy, Keeps}
 use Rattle.fx_text.specs.ReaderState.{ids}
 
--- the parts have nodes, and there is room for those that are made
-pub record CanMake (r : Reader) (parts : List NodeId) : Type 0 where
+-- the parts have nodes, and there is room for so many more
+pub record CanMake (count : ℕ) (r : Reader) (parts : List NodeId) : Type 0 where
   pub made : AreMade r.nodes.items r.needs.items
   pub below : AllBelow (length r.nodes.items) (ids parts)
-  pub room : length r.nodes.items + most_made (length parts) ≤ most_nodes
+  pub room : length r.nodes.items + count ≤ most_nodes
 
--- of the parts this term was made, by no more nodes than these left over, and one
-pub record Makes (old new : Reader) (parts : List NodeId) (t : Term) (root : ℕ) : Type 0 where
+-- of the parts this term was made, by no more nodes than so many
+pub record Makes (count : ℕ) (old new : Reader) (parts : List NodeId) (t : Term) (root : ℕ) : Type 0 where
   pub names : new.names.items ≡ old.names.items
   pub place : new.place ≡ old.place
   pub made : AreMade new.nodes.items new.needs.items
   pub keeps : Keeps old.nodes.items new.nodes.items
   pub last : root + 1 ≡ length new.nodes.items
-  pub paid : length new.nodes.items ≤ length old.nodes.items + most_made (length parts)
+  pub paid : length new.nodes.items ≤ length old.nodes.items + count
   pub term : term_of new.nodes.items root ≡ t
   pub grows : (start : List Node) → GrowsBy start old.nodes.items (ids parts) → GrowsBy start new.nodes.items (root ∷ [])
 

@@ -22,9 +22,13 @@ abbrev pub decided : RaceSlots → ℕ → ℕ → Term
 decided s a b = Join (Slot a) s.number (Let None (Cancel (Slot b)) (Pure (Slot s.number))) s.number (Let None (Cancel (Slot b)) (Raise (Slot s.number)))
     (OnCancel (Poll (Slot s.mask) (outcome_of s b)) (cancel_both s))
 
--- waits until one has ended, and goes on by which one it was
+-- waits until one has ended; where that is canceled, both are
+abbrev pub waited : RaceSlots → Term
+waited s = OnCancel (Poll (Slot s.mask) (First (Slot s.left) (Slot s.right))) (cancel_both s)
+
+-- and goes on by which one it was
 abbrev pub deciding : RaceSlots → Term
-deciding s = Let (Some s.ended) (OnCancel (Poll (Slot s.mask) (First (Slot s.left) (Slot s.right))) (cancel_both s))
+deciding s = Let (Some s.ended) (waited s)
     (If (Slot s.ended) (decided s s.right s.left) (decided s s.left s.right))
 
 abbrev pub race : RaceSlots → Term → Term → Term

@@ -19,8 +19,8 @@
 //! 6. A node is made after those of its parts, so children stand before their parents, the last node
 //!    is the root, and there are never more than eight nodes a byte.
 //! 7. A recursion is as deep as the parentheses that are open, of which there are at most 100. The
-//!    parts of a `seq` and the resources of a `using` are read in a loop, and made one term in
-//!    another, from the last to the first.
+//!    parts of a form are read in a loop. Those of a `seq` and the resources of a `using`, of which
+//!    there may be any number, are then made one term in another, from the last to the first.
 //! 8. Want of memory is answered only where a growth was refused.
 //!
 //! Of a schedule, which is read word by word, the grammar and the reading are likewise two
@@ -44,5 +44,5 @@ mod top;
 pub use fault::{TextFault, TextKind};
 pub use pick::Pick;
 pub use queues::QueueDecl;
-pub use schedules::schedule;
-pub use script::{Script, parse};
+pub use schedules::{MOST_SCHEDULE_BYTES, schedule};
+pub use script::{MOST_SCRIPT_BYTES, Script, parse};

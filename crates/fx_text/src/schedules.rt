@@ -15,7 +15,7 @@ use crate::token::{Token, after_spaces, is_digit, is_letter_or_digit, is_space, 
 use std::alloc::Global;
 
 /// The most bytes of a schedule.
-const MOST_BYTES: usize = 2_097_152;
+pub const MOST_SCHEDULE_BYTES: usize = 2_097_152;
 
 /// The most words of a schedule.
 const MOST_PICKS: usize = 100_000;
@@ -37,10 +37,10 @@ pub fn schedule(alloc: Global, text: &[u8]) -> Result<Vec<Pick>, TextFault>
 fn read_all(alloc: Global, text: &[u8]) -> Result<Vec<Pick>, TextFault>
     ensures { Answers (λ picks. picks.items) result (schedule_reading text.now) }
 {
-    if text.len() > MOST_BYTES {
+    if text.len() > MOST_SCHEDULE_BYTES {
         return Err(TextFault {
             kind: TextKind::Length,
-            at: MOST_BYTES as u32,
+            at: MOST_SCHEDULE_BYTES as u32,
         });
     }
     match picks(alloc, text) {

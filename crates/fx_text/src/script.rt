@@ -16,12 +16,13 @@ use crate::part::{closing, refused};
 use crate::place::Place;
 use crate::queues::{QueueDecl, queues};
 use crate::reader::Reader;
+use crate::reader::head::Inner;
 use crate::token::{Token, next};
 use fx_term::{Code, CodeFault, Node};
 use std::alloc::Global;
 
-/// The most bytes of a text.
-const MOST_BYTES: usize = 65_536;
+/// The most bytes of a script.
+pub const MOST_SCRIPT_BYTES: usize = 65_536;
 
 /// The most `(` that may be open inside main, which has the first of 100.
 const MOST_OPEN: usize = 99;
@@ -64,10 +65,10 @@ fn read_all(alloc: Global, text: &[u8]) -> Result<Script, TextFault>
     ensures read { Answers meaning result (reading text.now) }
     ensures queues { IfOk result (λ s. s.code.queues ≡ length s.queues.items) }
 {
-    if text.len() > MOST_BYTES {
+    if text.len() > MOST_SCRIPT_BYTES {
         return Err(TextFault {
             kind: TextKind::Length,
-            at: MOST_BYTES as u32,
+            at: MOST_SCRIPT_BYTES as u32,
         });
     }
     match read_script(alloc, text) {
@@ -113,7 +114,7 @@ fn main_nodes<'a>(
         nodes: Vec::new(alloc),
         needs: Vec::new(alloc),
     };
-    let (_root, rest) = reader.term(MOST_OPEN, bytes)?;
+    let (_root, rest) = reader.term(Inner::Same, MOST_OPEN, bytes)?;
     let rest = closing(rest)?;
     last(rest)?;
     Ok(reader.nodes)

@@ -11,7 +11,7 @@ use crate::part::refused;
 use crate::token::{Token, next};
 
 /// A form at the top.
-#[derive(Clone, Copy, PartialEq, Eq, Debug)]
+#[derive(Clone, Copy)]
 pub(crate) enum TopForm {
     Queue,
     Main,

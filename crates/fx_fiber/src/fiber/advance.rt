@@ -1,7 +1,9 @@
 //! What a fiber makes in a step.
 ghost use Rattle.std.specs.Prelude.{◌≡◌, ◌^◌, ◌<◌, ◌++◌, ◌∷◌, ◌&&◌, ◌||◌, [], Some, List, IfOk, OnErr};
 ghost use Rattle.fx_fiber.specs.Sound.{IsSoundMachine};
-ghost use Rattle.fx_fiber.specs.Methods.{Advances, ComesFirst, IsSame, IsGoing, is_open_machine};
+ghost use Rattle.fx_fiber.specs.Places.{IsSame, IsGoing, is_open_machine};
+ghost use Rattle.fx_fiber.specs.Interruption.{ComesFirst};
+ghost use Rattle.fx_fiber.specs.Advances.{Advances};
 ghost use Rattle.fx_fiber.specs.Deed.{Deed, Saw};
 ghost use Rattle.fx_fiber.specs.Fiber.{is_fiber_number};
 ghost use Rattle.fx_model.specs.Scopes.{IsProgressScopedOver};
@@ -28,11 +30,7 @@ fn interruption<P: Port>(
         port.old shared.old port.new shared.new }
     ensures saw { result ≡ Some Interruption.Request
         → (deeds : List Deed) → P.agrees port.old deeds → P.agrees port.new (deeds ++ Saw ∷ []) }
-    ensures number { P.number port.new ≡ P.number port.old }
-    ensures beginning { P.beginning port.new ≡ P.beginning port.old }
-    ensures rest { P.rest port.new ≡ P.rest port.old }
-    ensures finished { P.has_finished port.new ≡ P.has_finished port.old }
-    ensures puts { P.puts port.new ≡ P.puts port.old }
+    ensures facts { P.facts port.new ≡ P.facts port.old }
 {
     if !machine.is_open() {
         return None;
@@ -59,16 +57,12 @@ pub(crate) fn advance<P: Port>(
     requires going { IsGoing machine.old.focus }
     requires masks_countable { machine.old.masks.entries < 2 ^ 63 }
     requires resources_countable { machine.old.acquired < 2 ^ 63 }
-    requires puts_countable { P.puts port.old < 2 ^ 63 }
+    requires puts_countable { (P.facts port.old).puts < 2 ^ 63 }
     requires scoped { IsProgressScopedOver is_fiber_number (progress_of P.code machine.old) }
-    ensures ok { IfOk result (λ made. Advances P.calls P.agrees P.puts P.code
+    ensures ok { IfOk result (λ made. Advances P.calls P.agrees P.facts P.code
         machine.old port.old shared.old made machine.new port.new shared.new) }
     ensures same { OnErr result (IsSame P.code machine.old machine.new) }
     ensures unchanged { OnErr result ((port.new ≡ port.old) × (shared.new ≡ shared.old)) }
-    ensures number { P.number port.new ≡ P.number port.old }
-    ensures beginning { P.beginning port.new ≡ P.beginning port.old }
-    ensures rest { P.rest port.new ≡ P.rest port.old }
-    ensures finished { P.has_finished port.new ≡ P.has_finished port.old }
 {
     match machine.focus {
         Focus::Eval(from) => {

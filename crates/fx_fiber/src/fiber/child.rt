@@ -6,11 +6,11 @@ ghost use Rattle.fx_term.specs.declared.node.NodeId.{NodeId};
 ghost use Rattle.fx_term.specs.Meaning.{term_of};
 ghost use Rattle.fx_term.specs.Need.{need};
 ghost use Rattle.fx_term.specs.Registers.{with_number};
-ghost use Rattle.fx_fiber.specs.Bare.{IsFirstBare};
+ghost use Rattle.fx_fiber.specs.Body.{IsFirstBody};
 ghost use Rattle.fx_fiber.specs.MakesStart.{child_begin};
-ghost use Rattle.fx_fiber.specs.Methods.{IsEvaluating};
+ghost use Rattle.fx_fiber.specs.Places.{IsEvaluating};
 
-use crate::fiber::bare::Bare;
+use crate::fiber::body::Body;
 use crate::machine::Machine;
 use fx_term::{Begin, Code, Memory, NodeId};
 
@@ -21,7 +21,7 @@ pub(crate) fn child_of(
     code: &Code,
     slot: u32,
     started: NodeId,
-) -> Result<(Begin, Box<Bare>), Memory>
+) -> Result<(Begin, Box<Body>), Memory>
     ghost nodes: { List Node }
     requires code { code.now.nodes ≡ nodes }
     requires stands { (id : NodeId) × (then : NodeId)
@@ -29,8 +29,8 @@ pub(crate) fn child_of(
     requires room { machine.old.next + 1 + need (term_of nodes started.0) ≤ machine.old.end }
     requires word { machine.old.end < 2 ^ 32 }
     ensures begin { IfOk result (λ child. child.0 ≡ child_begin nodes machine.old started) }
-    ensures bare { IfOk result
-        (λ child. IsFirstBare nodes machine.old.next child.0 child.1.value) }
+    ensures body { IfOk result
+        (λ child. IsFirstBody nodes machine.old.next child.0 child.1.value) }
     ensures named { OnOk result (machine.new ≡ record machine.old {
       registers = with_number (Some slot) machine.old.next machine.old.registers;
     }) }
@@ -45,7 +45,7 @@ pub(crate) fn child_of(
         next,
         end: next + code.need(started),
     };
-    let child = Bare::beginning(alloc, id, &begin)?;
+    let child = Body::beginning(alloc, id, &begin)?;
     machine.registers.bind(Some(slot), u64::from(id))?;
     Ok((begin, child))
 }

@@ -6,7 +6,7 @@ ghost use Rattle.fx_fiber.specs.Machine.{progress_of};
 ghost use Rattle.fx_fiber.specs.MakesStep.{DoesStep};
 
 use crate::fiber::advance::advance;
-use crate::fiber::bare::Bare;
+use crate::fiber::body::Body;
 use crate::fiber::start::start;
 use crate::fiber::tell::tell;
 use crate::machine::made::Made;
@@ -18,33 +18,32 @@ use fx_term::{Code, Memory};
 /// first.
 pub(crate) fn step<P: Port>(
     port: &mut P,
-    bare: &mut Bare,
+    body: &mut Body,
     code: &Code,
     shared: &mut P::Shared,
 ) -> Result<Stepped<P>, Memory>
     requires code { code.now.nodes ≡ P.code }
-    requires kept { IsKept P.code (P.beginning port.old) (P.agrees port.old)
-        (P.has_finished port.old) (P.rest port.old) (P.puts port.old)
-        bare.old.trace.items bare.old.machine }
-    requires going { has_ended (progress_of P.code bare.old.machine) ≡ false }
-    ensures ok { IfOk result (λ answer. DoesStep P.calls P.code
-        (fiber_at port.old bare.old.trace.items bare.old.machine) shared.old answer
-        (fiber_at port.new bare.new.trace.items bare.new.machine) shared.new) }
+    requires kept { IsKept P.code P.total (P.facts port.old) (P.agrees port.old)
+        body.old.trace.items body.old.machine }
+    requires going { has_ended (progress_of P.code body.old.machine) ≡ false }
+    ensures ok { IfOk result (λ answer. DoesStep P.calls P.facts P.code
+        (fiber_at port.old body.old.trace.items body.old.machine body.old.source) shared.old answer
+        (fiber_at port.new body.new.trace.items body.new.machine body.new.source) shared.new) }
     ensures err { OnErr result (IsUnchanged P.code
-        (fiber_at port.old bare.old.trace.items bare.old.machine)
-        (fiber_at port.new bare.new.trace.items bare.new.machine) × (shared.new ≡ shared.old)) }
-    ensures kept { IsKept P.code (P.beginning port.new) (P.agrees port.new)
-        (P.has_finished port.new) (P.rest port.new) (P.puts port.new)
-        bare.new.trace.items bare.new.machine }
-    ensures id { bare.new.id ≡ bare.old.id }
-    ensures number { P.number port.new ≡ P.number port.old }
-    ensures beginning { P.beginning port.new ≡ P.beginning port.old }
+        (fiber_at port.old body.old.trace.items body.old.machine body.old.source)
+        (fiber_at port.new body.new.trace.items body.new.machine body.new.source) × (shared.new ≡ shared.old)) }
+    ensures kept { IsKept P.code P.total (P.facts port.new) (P.agrees port.new)
+        body.new.trace.items body.new.machine }
+    ensures id { body.new.id ≡ body.old.id }
+    ensures source { body.new.source ≡ body.old.source }
+    ensures number { (P.facts port.new).number ≡ (P.facts port.old).number }
+    ensures beginning { (P.facts port.new).beginning ≡ (P.facts port.old).beginning }
 {
-    bare.trace.reserve(1)?;
-    let made = advance(port, &mut bare.machine, code, shared)?;
+    body.trace.reserve(1)?;
+    let made = advance(port, &mut body.machine, code, shared)?;
     if let Made::Starts(slot, started, then) = made {
-        let child = start(port, bare, code, shared, slot, started, then)?;
+        let child = start(port, body, code, shared, slot, started, then)?;
         return Ok(Stepped::Child(child));
     }
-    Ok(tell(port, bare, shared, made))
+    Ok(tell(port, body, shared, made))
 }

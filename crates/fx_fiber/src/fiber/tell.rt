@@ -2,10 +2,10 @@
 ghost use Rattle.std.specs.Prelude.{◌≡◌, ◌<◌, ◌++◌, ◌∷◌, [], false};
 ghost use Rattle.std.specs.Vec.{vec_len, vec_capacity};
 ghost use Rattle.fx_model.specs.Run.{events};
-ghost use Rattle.fx_fiber.specs.Methods.{label_of};
+ghost use Rattle.fx_fiber.specs.Made.{label_of};
 ghost use Rattle.fx_fiber.specs.Telling.{IsMade, answer_to, TellsMade};
 
-use crate::fiber::bare::Bare;
+use crate::fiber::body::Body;
 use crate::machine::made::Made;
 use crate::port::Port;
 use crate::stepped::Stepped;
@@ -15,35 +15,32 @@ use fx_term::Event;
 /// port.
 pub(crate) fn tell<P: Port>(
     port: &mut P,
-    bare: &mut Bare,
+    body: &mut Body,
     shared: &mut P::Shared,
     made: Made,
 ) -> Stepped<P>
     requires made { IsMade made }
-    requires going { P.has_finished port.old ≡ false }
-    requires room { vec_len bare.old.trace < vec_capacity bare.old.trace }
+    requires going { (P.facts port.old).has_finished ≡ false }
+    requires room { vec_len body.old.trace < vec_capacity body.old.trace }
     ensures answer { result ≡ answer_to made }
-    ensures told { TellsMade P.calls P.agrees P.has_finished made
+    ensures told { TellsMade P.calls P.agrees P.facts made
         port.old shared.old port.new shared.new }
-    ensures trace { bare.new.trace.items ≡ bare.old.trace.items ++ events (label_of made ∷ []) }
-    ensures machine { bare.new.machine ≡ bare.old.machine }
-    ensures id { bare.new.id ≡ bare.old.id }
-    ensures number { P.number port.new ≡ P.number port.old }
-    ensures beginning { P.beginning port.new ≡ P.beginning port.old }
-    ensures rest { P.rest port.new ≡ P.rest port.old }
-    ensures puts { P.puts port.new ≡ P.puts port.old }
+    ensures trace { body.new.trace.items ≡ body.old.trace.items ++ events (label_of made ∷ []) }
+    ensures machine { body.new.machine ≡ body.old.machine }
+    ensures id { body.new.id ≡ body.old.id }
+    ensures source { body.new.source ≡ body.old.source }
 {
     match made {
         Made::Silent => Stepped::Went,
         Made::Yielded => Stepped::Gave,
-        Made::Waits => Stepped::Waits,
+        Made::Waits(source) => Stepped::Waits(source),
         Made::Starts(..) => unreachable!(),
         Made::Learns(_, _, learnt) => {
-            bare.trace.push_reserved(learnt);
+            body.trace.push_reserved(learnt);
             Stepped::Went
         }
         Made::Shows(event) => {
-            bare.trace.push_reserved(event);
+            body.trace.push_reserved(event);
             let Event::Ended(outcome) = event else {
                 return Stepped::Went;
             };

@@ -1,5 +1,6 @@
 //! The rules of `let` and `handle`, one method each, named as in the table.
-ghost use Rattle.fx_fiber.specs.Methods.{MakesRule, IsSame, ReturnsInto};
+ghost use Rattle.fx_fiber.specs.Places.{IsSame, ReturnsInto};
+ghost use Rattle.fx_fiber.specs.Makes.{MakesRule};
 
 use crate::machine::Machine;
 use crate::machine::focus::Focus;

@@ -1,8 +1,12 @@
 //! The table: which rule is made, by the place and the innermost context.
 ghost use Rattle.std.specs.Prelude.{◌≡◌, ◌^◌, ◌<◌, Some, [], IfOk, OnErr};
 ghost use Rattle.fx_term.specs.declared.node.Node.TheVariants as node;
-ghost use Rattle.fx_fiber.specs.Methods.{MakesRule, Interrupts, IsSame, StandsAt, IsBeforeTurn, ReturnsInto};
-ghost use Rattle.fx_fiber.specs.Methods.{ReturnsOut, IsReturning, IsLeafNode, IsLocalLeaf, IsInterrupted, MakesCall};
+ghost use Rattle.fx_fiber.specs.Leaves.{IsLeafNode, IsLocalLeaf};
+ghost use Rattle.fx_fiber.specs.Places.{IsSame, StandsAt, IsBeforeTurn, ReturnsInto, ReturnsOut};
+ghost use Rattle.fx_fiber.specs.Places.{IsReturning};
+ghost use Rattle.fx_fiber.specs.Makes.{MakesRule};
+ghost use Rattle.fx_fiber.specs.Interruption.{Interrupts, IsInterrupted};
+ghost use Rattle.fx_fiber.specs.MakesCall.{MakesCall};
 ghost use Rattle.fx_fiber.specs.Fiber.{is_fiber_number};
 ghost use Rattle.fx_model.specs.Scopes.{IsProgressScopedOver};
 ghost use Rattle.fx_fiber.specs.Machine.{progress_of};
@@ -12,6 +16,7 @@ use crate::machine::interruption::Interruption;
 use crate::machine::made::Made;
 use crate::port::Port;
 use fx_frames::Frame;
+use fx_model::Source;
 use fx_term::{Arg, Code, Done, Memory, Node, NodeId};
 
 impl Machine {
@@ -29,19 +34,15 @@ impl Machine {
         requires at { StandsAt P.code self.old id node.now }
         requires leaf { IsLeafNode (Some node.now) }
         requires countable { self.old.masks.entries < 2 ^ 63 }
-        requires puts_countable { P.puts port.old < 2 ^ 63 }
+        requires puts_countable { (P.facts port.old).puts < 2 ^ 63 }
         requires scoped { IsProgressScopedOver is_fiber_number (progress_of P.code self.old) }
-        ensures ok { IfOk result (λ made. MakesCall P.calls P.agrees P.puts P.code
+        ensures ok { IfOk result (λ made. MakesCall P.calls P.agrees P.facts P.code
             self.old port.old shared.old made self.new port.new shared.new) }
         ensures same { OnErr result (IsSame P.code self.old self.new) }
         ensures unchanged { OnErr result ((port.new ≡ port.old) × (shared.new ≡ shared.old)) }
-        ensures number { P.number port.new ≡ P.number port.old }
-        ensures beginning { P.beginning port.new ≡ P.beginning port.old }
-        ensures rest { P.rest port.new ≡ P.rest port.old }
-        ensures finished { P.has_finished port.new ≡ P.has_finished port.old }
     {
         match *node {
-            Node::Never => Ok(Made::Waits),
+            Node::Never => Ok(Made::Waits(Source::Nothing)),
             Node::Start(slot, started, then) => Ok(Made::Starts(slot, started, then)),
             Node::Join(..) => self.join(port, shared, id, node),
             Node::Cancel(fiber) => Ok(self.request(port, shared, fiber)),

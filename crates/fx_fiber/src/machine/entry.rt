@@ -1,6 +1,6 @@
 //! The contexts that are entered at nodes.
 ghost use Rattle.std.specs.Prelude.{◌≡◌, Some, MatchOption};
-ghost use Rattle.fx_fiber.specs.Methods.{IsEntryOf, IsLeafNode, is_canceled_node};
+ghost use Rattle.fx_fiber.specs.Leaves.{IsEntryOf, IsLeafNode, is_canceled_node};
 
 use fx_frames::Frame;
 use fx_term::{Node, NodeId};

@@ -8,12 +8,15 @@ ghost use Rattle.fx_fiber.specs.Sound.{IsSoundMachine};
 ghost use Rattle.fx_fiber.specs.Fiber.{is_fiber_number};
 ghost use Rattle.fx_model.specs.Scopes.{IsProgressScopedOver};
 ghost use Rattle.fx_fiber.specs.Machine.{progress_of};
-ghost use Rattle.fx_fiber.specs.Methods.{MakesCall, IsSame, StandsAt, IsJoin, joined_machine};
+ghost use Rattle.fx_fiber.specs.Leaves.{IsJoin};
+ghost use Rattle.fx_fiber.specs.Places.{IsSame, StandsAt, joined_machine};
+ghost use Rattle.fx_fiber.specs.MakesCall.{MakesCall};
 
 use crate::machine::Machine;
 use crate::machine::focus::Focus;
 use crate::machine::made::Made;
 use crate::port::Port;
+use fx_model::Source;
 use fx_term::{Arg, Done, Event, Memory, Node, NodeId, Outcome};
 
 impl Machine {
@@ -42,14 +45,10 @@ impl Machine {
         requires at { StandsAt P.code self.old id node.now }
         requires join { IsJoin node.now }
         requires scoped { IsProgressScopedOver is_fiber_number (progress_of P.code self.old) }
-        ensures ok { IfOk result (λ made. MakesCall P.calls P.agrees P.puts P.code
+        ensures ok { IfOk result (λ made. MakesCall P.calls P.agrees P.facts P.code
             self.old port.old shared.old made self.new port.new shared.new) }
         ensures same { OnErr result (IsSame P.code self.old self.new) }
         ensures unchanged { OnErr result ((port.new ≡ port.old) × (shared.new ≡ shared.old)) }
-        ensures number { P.number port.new ≡ P.number port.old }
-        ensures beginning { P.beginning port.new ≡ P.beginning port.old }
-        ensures rest { P.rest port.new ≡ P.rest port.old }
-        ensures finished { P.has_finished port.new ≡ P.has_finished port.old }
     {
         let Node::Join(slot, name, success, _, failure, cancellation) = *node else {
             unreachable!();
@@ -62,7 +61,7 @@ impl Machine {
                 self.goes_on_after(outcome, name, success, failure, cancellation);
                 Ok(Made::Learns(fiber, outcome, Event::Joined(fiber, outcome)))
             }
-            None => Ok(Made::Waits),
+            None => Ok(Made::Waits(Source::Outcome(fiber))),
         }
     }
 
@@ -95,12 +94,8 @@ impl Machine {
     pub fn request<P: Port>(&mut self, port: &mut P, shared: &mut P::Shared, slot: u32) -> Made
         requires at { (id : NodeId) × StandsAt P.code self.old id (node.Cancel slot) }
         requires scoped { IsProgressScopedOver is_fiber_number (progress_of P.code self.old) }
-        ensures made { MakesCall P.calls P.agrees P.puts P.code
+        ensures { MakesCall P.calls P.agrees P.facts P.code
             self.old port.old shared.old result self.new port.new shared.new }
-        ensures number { P.number port.new ≡ P.number port.old }
-        ensures beginning { P.beginning port.new ≡ P.beginning port.old }
-        ensures rest { P.rest port.new ≡ P.rest port.old }
-        ensures finished { P.has_finished port.new ≡ P.has_finished port.old }
     {
         let fiber = self.fiber_of(slot);
         port.request(shared, fiber);
@@ -112,19 +107,15 @@ impl Machine {
     pub fn awaits<P: Port>(&mut self, port: &mut P, shared: &mut P::Shared, fiber: u32) -> Made
         requires sound { IsSoundMachine P.code self.old }
         requires focus { self.old.focus ≡ Focus.Await fiber }
-        ensures made { MakesCall P.calls P.agrees P.puts P.code
+        ensures { MakesCall P.calls P.agrees P.facts P.code
             self.old port.old shared.old result self.new port.new shared.new }
-        ensures number { P.number port.new ≡ P.number port.old }
-        ensures beginning { P.beginning port.new ≡ P.beginning port.old }
-        ensures rest { P.rest port.new ≡ P.rest port.old }
-        ensures finished { P.has_finished port.new ≡ P.has_finished port.old }
     {
         match port.peek(shared, fiber) {
             Some(outcome) => {
                 self.focus = Focus::Return(Done::Val(0));
                 Made::Learns(fiber, outcome, Event::Awaited(fiber))
             }
-            None => Made::Waits,
+            None => Made::Waits(Source::Outcome(fiber)),
         }
     }
 
@@ -138,12 +129,8 @@ impl Machine {
     ) -> Made
         requires at { (id : NodeId) × StandsAt P.code self.old id (node.First left right) }
         requires scoped { IsProgressScopedOver is_fiber_number (progress_of P.code self.old) }
-        ensures made { MakesCall P.calls P.agrees P.puts P.code
+        ensures { MakesCall P.calls P.agrees P.facts P.code
             self.old port.old shared.old result self.new port.new shared.new }
-        ensures number { P.number port.new ≡ P.number port.old }
-        ensures beginning { P.beginning port.new ≡ P.beginning port.old }
-        ensures rest { P.rest port.new ≡ P.rest port.old }
-        ensures finished { P.has_finished port.new ≡ P.has_finished port.old }
     {
         let left = self.fiber_of(left);
         let right = self.fiber_of(right);
@@ -157,7 +144,7 @@ impl Machine {
                     self.focus = Focus::Return(Done::Val(1));
                     Made::Learns(right, outcome, Event::First(1))
                 }
-                None => Made::Waits,
+                None => Made::Waits(Source::Either(left, right)),
             },
         }
     }

@@ -1,6 +1,7 @@
 //! The rules of leaves that have no part, one method each, named as in the table.
 ghost use Rattle.fx_term.specs.declared.node.Node.TheVariants as node;
-ghost use Rattle.fx_fiber.specs.Methods.{MakesRule, StandsAt};
+ghost use Rattle.fx_fiber.specs.Places.{StandsAt};
+ghost use Rattle.fx_fiber.specs.Makes.{MakesRule};
 
 use crate::machine::Machine;
 use crate::machine::focus::Focus;

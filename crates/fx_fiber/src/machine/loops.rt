@@ -2,7 +2,8 @@
 //! `let` without a name, so its end is made by the rules of `let`, in methods of their own.
 ghost use Rattle.std.specs.Prelude.{◌≡◌, ◌≢◌, ◌+◌, ◌^◌, ◌<◌};
 ghost use Rattle.fx_term.specs.declared.node.Node.TheVariants as node;
-ghost use Rattle.fx_fiber.specs.Methods.{MakesRule, IsSame, StandsAt, HasTurn, IsOver, ReturnsInto};
+ghost use Rattle.fx_fiber.specs.Places.{IsSame, StandsAt, HasTurn, IsOver, ReturnsInto};
+ghost use Rattle.fx_fiber.specs.Makes.{MakesRule};
 
 use crate::machine::Machine;
 use crate::machine::focus::Focus;
@@ -16,7 +17,7 @@ impl Machine {
     ghost use Rattle.fx_term.specs.declared.node.Arg.TheVariants.{Number};
     ghost use Rattle.fx_term.specs.declared.node.Node.{Node};
     ghost use Rattle.fx_term.specs.Fill.{fill_arg};
-    ghost use Rattle.fx_fiber.specs.Methods.{StandsAtIf};
+    ghost use Rattle.fx_fiber.specs.Places.{StandsAtIf};
 
     /// An `if` of another number than 0 goes on with its first part.
     pub fn if_not_zero(&mut self, part: NodeId) -> Made

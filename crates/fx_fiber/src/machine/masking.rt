@@ -2,7 +2,8 @@
 ghost use Rattle.std.specs.Prelude.{◌≡◌, ◌^◌, ◌<◌, ◌∷◌, OnOk, OnErr};
 ghost use Rattle.fx_mask.specs.Masks.{entered};
 ghost use Rattle.fx_term.specs.declared.node.Node.TheVariants as node;
-ghost use Rattle.fx_fiber.specs.Methods.{MakesRule, IsSame, StandsAt, ReturnsInto};
+ghost use Rattle.fx_fiber.specs.Places.{IsSame, StandsAt, ReturnsInto};
+ghost use Rattle.fx_fiber.specs.Makes.{MakesRule};
 
 use crate::machine::Machine;
 use crate::machine::focus::Focus;

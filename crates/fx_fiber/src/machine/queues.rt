@@ -2,12 +2,15 @@
 //! its answer, or wait; what needs memory is had before.
 ghost use Rattle.std.specs.Prelude.{◌≡◌, ◌<◌, ◌^◌, IfOk, OnErr};
 ghost use Rattle.fx_term.specs.declared.node.Node.TheVariants as node;
-ghost use Rattle.fx_fiber.specs.Methods.{MakesCall, IsSame, StandsAt, IsTryTake};
+ghost use Rattle.fx_fiber.specs.Leaves.{IsTryTake};
+ghost use Rattle.fx_fiber.specs.Places.{IsSame, StandsAt};
+ghost use Rattle.fx_fiber.specs.MakesCall.{MakesCall};
 
 use crate::machine::Machine;
 use crate::machine::focus::Focus;
 use crate::machine::made::Made;
 use crate::port::Port;
+use fx_model::Source;
 use fx_term::{Arg, Done, Event, Memory, Node, NodeId, Offered};
 
 impl Machine {
@@ -22,15 +25,11 @@ impl Machine {
         value: Arg,
     ) -> Result<Made, Memory>
         requires at { (id : NodeId) × StandsAt P.code self.old id (node.Offer queue value) }
-        requires countable { P.puts port.old < 2 ^ 63 }
-        ensures ok { IfOk result (λ made. MakesCall P.calls P.agrees P.puts P.code
+        requires countable { (P.facts port.old).puts < 2 ^ 63 }
+        ensures ok { IfOk result (λ made. MakesCall P.calls P.agrees P.facts P.code
             self.old port.old shared.old made self.new port.new shared.new) }
         ensures same { OnErr result (IsSame P.code self.old self.new) }
         ensures unchanged { OnErr result ((port.new ≡ port.old) × (shared.new ≡ shared.old)) }
-        ensures number { P.number port.new ≡ P.number port.old }
-        ensures beginning { P.beginning port.new ≡ P.beginning port.old }
-        ensures rest { P.rest port.new ≡ P.rest port.old }
-        ensures finished { P.has_finished port.new ≡ P.has_finished port.old }
     {
         let value = self.registers.number_of(value);
         match port.offer(shared, queue, value)? {
@@ -38,7 +37,7 @@ impl Machine {
                 self.focus = Focus::Return(Done::Val(0));
                 Ok(Made::Shows(Event::Put(queue, value)))
             }
-            Offered::Full => Ok(Made::Waits),
+            Offered::Full => Ok(Made::Waits(Source::Room(queue))),
         }
     }
 
@@ -51,15 +50,11 @@ impl Machine {
         value: Arg,
     ) -> Result<Made, Memory>
         requires at { (id : NodeId) × StandsAt P.code self.old id (node.TryOffer queue value) }
-        requires countable { P.puts port.old < 2 ^ 63 }
-        ensures ok { IfOk result (λ made. MakesCall P.calls P.agrees P.puts P.code
+        requires countable { (P.facts port.old).puts < 2 ^ 63 }
+        ensures ok { IfOk result (λ made. MakesCall P.calls P.agrees P.facts P.code
             self.old port.old shared.old made self.new port.new shared.new) }
         ensures same { OnErr result (IsSame P.code self.old self.new) }
         ensures unchanged { OnErr result ((port.new ≡ port.old) × (shared.new ≡ shared.old)) }
-        ensures number { P.number port.new ≡ P.number port.old }
-        ensures beginning { P.beginning port.new ≡ P.beginning port.old }
-        ensures rest { P.rest port.new ≡ P.rest port.old }
-        ensures finished { P.has_finished port.new ≡ P.has_finished port.old }
     {
         let value = self.registers.number_of(value);
         match port.offer(shared, queue, value)? {
@@ -77,19 +72,15 @@ impl Machine {
     /// A `take` gives the front of the queue, once that has one.
     pub fn take<P: Port>(&mut self, port: &mut P, shared: &mut P::Shared, queue: u8) -> Made
         requires at { (id : NodeId) × StandsAt P.code self.old id (node.Take queue) }
-        ensures made { MakesCall P.calls P.agrees P.puts P.code
+        ensures { MakesCall P.calls P.agrees P.facts P.code
             self.old port.old shared.old result self.new port.new shared.new }
-        ensures number { P.number port.new ≡ P.number port.old }
-        ensures beginning { P.beginning port.new ≡ P.beginning port.old }
-        ensures rest { P.rest port.new ≡ P.rest port.old }
-        ensures finished { P.has_finished port.new ≡ P.has_finished port.old }
     {
         match port.take(shared, queue) {
             Some(value) => {
                 self.focus = Focus::Return(Done::Val(value));
                 Made::Shows(Event::Got(queue, value))
             }
-            None => Made::Waits,
+            None => Made::Waits(Source::Element(queue)),
         }
     }
 
@@ -103,14 +94,10 @@ impl Machine {
     ) -> Result<Made, Memory>
         requires at { StandsAt P.code self.old id node.now }
         requires try_take { IsTryTake node.now }
-        ensures ok { IfOk result (λ made. MakesCall P.calls P.agrees P.puts P.code
+        ensures ok { IfOk result (λ made. MakesCall P.calls P.agrees P.facts P.code
             self.old port.old shared.old made self.new port.new shared.new) }
         ensures same { OnErr result (IsSame P.code self.old self.new) }
         ensures unchanged { OnErr result ((port.new ≡ port.old) × (shared.new ≡ shared.old)) }
-        ensures number { P.number port.new ≡ P.number port.old }
-        ensures beginning { P.beginning port.new ≡ P.beginning port.old }
-        ensures rest { P.rest port.new ≡ P.rest port.old }
-        ensures finished { P.has_finished port.new ≡ P.has_finished port.old }
     {
         let Node::TryTake(queue, name, part, other) = *node else {
             unreachable!();

@@ -1,7 +1,8 @@
 //! The rules of `bracket`, one method each, named as in the table.
 ghost use Rattle.std.specs.Prelude.{◌≡◌, ◌^◌, ◌<◌};
 ghost use Rattle.fx_model.specs.Row.{after_release};
-ghost use Rattle.fx_fiber.specs.Methods.{MakesRule, IsSame, ReturnsInto, IsBracketAt};
+ghost use Rattle.fx_fiber.specs.Places.{IsSame, ReturnsInto, IsBracketAt};
+ghost use Rattle.fx_fiber.specs.Makes.{MakesRule};
 
 use crate::machine::Machine;
 use crate::machine::focus::Focus;

@@ -2,7 +2,9 @@
 ghost use Rattle.std.specs.Prelude.{◌≡◌, Some, None, ◌∷◌};
 ghost use Rattle.fx_fiber.specs.declared.machine.unwound.Unwound.{Unwound};
 ghost use Rattle.fx_fiber.specs.Sound.{IsSoundMachine};
-ghost use Rattle.fx_fiber.specs.Methods.{MakesRule, IsSame, ReturnsOut, Interrupts, IsInterrupted};
+ghost use Rattle.fx_fiber.specs.Places.{IsSame, ReturnsOut};
+ghost use Rattle.fx_fiber.specs.Makes.{MakesRule};
+ghost use Rattle.fx_fiber.specs.Interruption.{Interrupts, IsInterrupted};
 
 use crate::machine::Machine;
 use crate::machine::focus::Focus;

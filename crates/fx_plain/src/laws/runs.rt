@@ -7,7 +7,7 @@ ghost use Rattle.fx_model.specs.Origin.{Origin};
 ghost use Rattle.fx_model.specs.Work.{work};
 ghost use Rattle.fx_model.specs.Report.{ReportView};
 ghost use Rattle.fx_model.specs.LawfulReport.{IsLawfulReport};
-ghost use Rattle.fx_model.specs.Causes.{IsLawfulInOneOrder};
+ghost use Rattle.fx_model.specs.Happenings.{IsLawfulInOneList};
 ghost use Rattle.fx_model.specs.Headline.{KeepsWhatIsPromised};
 ghost use Rattle.fx_text.specs.declared.pick.Pick.{Pick};
 ghost use Rattle.fx_plain.specs.WholeMachine.{WholeMachine, Move, opening, can_step_in, FiberSteps, IsWholeMachineRun, steps_in, FindsItsNumber};
@@ -21,22 +21,23 @@ pub fn settled_run_is_lawful()
         → IsLawfulReport s (λ f. true) r }
 {}
 
-/// Where all fibers of that report have ended, each element of each queue is accounted for, each
-/// trace stops at its outcome and released each resource that it acquired once, inner before outer,
-/// and cancellation acted only where each mask round it was opened by its own poll. The script's term
-/// is core, as that of each code is.
+/// In that report each element of each queue is accounted for; the trace of each fiber that has ended
+/// stops at its outcome and released each resource that it acquired once, inner before outer; and
+/// cancellation acted only where each mask round it was opened by its own poll. The script's term is
+/// core, as that of each code is.
 pub fn settled_run_keeps_what_is_promised()
     ensures { (s : ScriptView) (r : ReportView) → IsCore s.term → HasSettledRun s r
         → KeepsWhatIsPromised s (λ f. true) r }
 {}
 
-/// The events of all fibers of that report have one order, by runs and histories that make it lawful:
-/// it keeps each fiber's own order, and has each take after the put of what was taken, each join,
-/// await and first of two after the outcome that was learnt, each request seen after some request,
-/// unless that came from outside, and each fiber's first event after its start.
+/// The events of all fibers of that report stand in one list, by runs and histories that make it
+/// lawful. Cut to a fiber it is the fiber's trace, and cut to a queue the queue's history; each take
+/// stands after the put of what was taken, each join, await and first of two after the outcome that was
+/// learnt, each request seen after some request, unless that came from outside, and each fiber's first
+/// event after its start.
 pub fn settled_run_has_one_order()
     ensures { (s : ScriptView) (r : ReportView) → HasSettledRun s r
-        → IsLawfulInOneOrder s (λ f. true) r }
+        → IsLawfulInOneList s (λ f. true) r }
 {}
 
 /// The run that picks choose is such a run: at its end no fiber can step.
@@ -51,16 +52,16 @@ pub fn replay_is_lawful()
         → IsLawfulReport s (λ f. true) r }
 {}
 
-/// Where all its fibers have ended, it has what is promised.
+/// It has what is promised.
 pub fn replay_keeps_what_is_promised()
     ensures { (s : ScriptView) (ps : List Pick) (r : ReportView) → IsCore s.term → IsReplay s ps r
         → KeepsWhatIsPromised s (λ f. true) r }
 {}
 
-/// Its events have one order.
+/// Its events stand in one list.
 pub fn replay_has_one_order()
     ensures { (s : ScriptView) (ps : List Pick) (r : ReportView) → IsReplay s ps r
-        → IsLawfulInOneOrder s (λ f. true) r }
+        → IsLawfulInOneList s (λ f. true) r }
 {}
 
 /// A run that picks choose is a run of the whole machine.

@@ -1,7 +1,7 @@
 //! Reads the forms that do one term after another.
 ghost use Rattle.std.specs.Prelude.{◌≤◌, ◌+◌, ◌∷◌, length, IfOk};
 ghost use Rattle.fx_text.specs.Limits.{most_nodes, form_spares};
-ghost use Rattle.fx_text.specs.Head.{ReadsHead};
+ghost use Rattle.fx_text.specs.Head.{ReadsHead, CanGoOn, GoesOn};
 ghost use Rattle.fx_text.specs.Shape.{shape};
 ghost use Rattle.fx_text.specs.Reading.{group_at, parts_at};
 ghost use Rattle.fx_text.specs.Needs.{AreMade};
@@ -10,9 +10,9 @@ ghost use Rattle.fx_text.specs.ReaderState.{scope_of, ids, IsReady, ReadsTerm, J
 
 use crate::fault::ReadError;
 use crate::form::Form;
-use crate::part::{binder, closing};
+use crate::part::{binder, closing, is_closing};
 use crate::reader::Reader;
-use crate::reader::head::{Double, Head, Inner};
+use crate::reader::head::{Ahead, Double, Head, Inner, Then};
 use fx_term::{Arg, NameKind, Node, NodeId};
 use std::alloc::AllocError;
 
@@ -24,48 +24,38 @@ impl<'a> Reader<'a> {
     {
         let (x, rest) = binder(&self.names, self.place, bytes)?;
         let slot = self.names.len() as u32;
-        Ok((
-            Head::Two(
-                Inner::Same,
-                Inner::Name(NameKind::Value, x),
-                Double::Let(slot),
-            ),
-            rest,
-        ))
+        let then = Then::Two(Inner::Name(NameKind::Value, x), Double::Let(slot));
+        Ok((Head::Part(Inner::Same, then), rest))
     }
 
-    #[cycle(terms)]
+    /// The name of the error of a `handle`.
     pub(super) fn handle(
-        &mut self,
-        room: usize,
+        &self,
+        handled: NodeId,
         bytes: &'a [u8],
-    ) -> Result<(NodeId, &'a [u8]), ReadError>
-        requires { IsReady 2 self.old bytes.now }
-        ensures { ReadsTerm form_spares self.old self.new bytes.now
-            (parts_at (group_at room) (shape Form.Handle (scope_of self.old)) bytes.now) result }
+    ) -> Result<(Ahead<'a>, &'a [u8]), ReadError>
+        requires { CanGoOn self.now Then.Handle handled }
+        ensures { GoesOn self.now self.now Then.Handle handled bytes.now result }
     {
-        let (a, rest) = self.term(room, bytes)?;
-        let (x, rest) = binder(&self.names, self.place, rest)?;
+        let (x, rest) = binder(&self.names, self.place, bytes)?;
         let slot = self.names.len() as u32;
-        let (b, rest) = self.term_in(Inner::Name(NameKind::Value, x), room, rest)?;
-        self.end(Node::Handle(a, Some(slot), b), rest)
+        let then = Then::SecondOfTwo(Double::Handle(slot), handled);
+        Ok((Ahead::Part(Inner::Name(NameKind::Value, x), then), rest))
     }
 
-    #[cycle(terms)]
+    /// The first part of a `forcer`, which goes on after an error as after the value 0.
     pub(super) fn forcer(
         &mut self,
-        room: usize,
+        forced: NodeId,
         bytes: &'a [u8],
-    ) -> Result<(NodeId, &'a [u8]), ReadError>
-        requires { IsReady 2 self.old bytes.now }
-        ensures { ReadsTerm form_spares self.old self.new bytes.now
-            (parts_at (group_at room) (shape Form.Forcer (scope_of self.old)) bytes.now) result }
+    ) -> Result<(Ahead<'a>, &'a [u8]), ReadError>
+        requires { CanGoOn self.old Then.Forcer forced }
+        ensures { GoesOn self.old self.new Then.Forcer forced bytes.now result }
     {
-        let (forced, rest) = self.term(room, bytes)?;
         let zero = self.add(Node::Pure(Arg::Number(0)))?;
         let handled = self.add(Node::Handle(forced, None, zero))?;
-        let (then, rest) = self.term(room, rest)?;
-        self.end(Node::Let(None, handled, then), rest)
+        let then = Then::SecondOfTwo(Double::Forcer, handled);
+        Ok((Ahead::Part(Inner::Same, then), bytes))
     }
 
     #[cycle(terms)]
@@ -74,12 +64,17 @@ impl<'a> Reader<'a> {
         room: usize,
         bytes: &'a [u8],
     ) -> Result<(NodeId, &'a [u8]), ReadError>
-        requires { IsReady 2 self.old bytes.now }
+        requires { IsReady 0 self.old bytes.now }
         ensures { ReadsTerm form_spares self.old self.new bytes.now
             (parts_at (group_at room) (shape Form.Seq (scope_of self.old)) bytes.now) result }
     {
-        let (first, rest) = self.term(room, bytes)?;
-        let (others, rest) = self.terms(room, rest)?;
+        let (first, mut rest) = self.term(Inner::Same, room, bytes)?;
+        let mut others = Vec::new(self.alloc);
+        while !is_closing(rest) {
+            let (other, after) = self.term(Inner::Same, room, rest)?;
+            others.push(other)?;
+            rest = after;
+        }
         let rest = closing(rest)?;
         Ok((self.in_order(first, others)?, rest))
     }

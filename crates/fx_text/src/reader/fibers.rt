@@ -1,16 +1,13 @@
 //! Reads the forms that start fibers and wait for them.
-ghost use Rattle.fx_text.specs.Limits.{term_spares, form_spares};
-ghost use Rattle.fx_text.specs.Group.{OfOutcome};
-ghost use Rattle.fx_text.specs.Reading.{group_at, parts_at};
-ghost use Rattle.fx_text.specs.ReaderState.{scope_of, IsReady, ReadsTerm};
-ghost use Rattle.fx_text.specs.Head.{ReadsHead, still};
+ghost use Rattle.fx_text.specs.ReaderState.{IsReady};
+ghost use Rattle.fx_text.specs.Head.{ReadsHead};
 
 use crate::fault::ReadError;
 use crate::form::Form;
-use crate::part::{binder, closing, name, opening, too_deep};
+use crate::part::{binder, name};
 use crate::reader::Reader;
-use crate::reader::head::{Double, Head, Inner};
-use fx_term::{NameKind, Node, NodeId};
+use crate::reader::head::{Double, Head, Inner, Then, Triple};
+use fx_term::{NameKind, Node};
 
 impl<'a> Reader<'a> {
     #[tactic(auto, using(crate::proofs::ScopeLaws::slot_at))]
@@ -20,8 +17,8 @@ impl<'a> Reader<'a> {
     {
         let (h, rest) = binder(&self.names, self.place, bytes)?;
         let slot = self.names.len() as u32;
-        let then = Inner::Name(NameKind::Fiber, h);
-        Ok((Head::Two(Inner::Elsewhere, then, Double::Start(slot)), rest))
+        let then = Then::Two(Inner::Name(NameKind::Fiber, h), Double::Start(slot));
+        Ok((Head::Part(Inner::Elsewhere, then), rest))
     }
 
     pub(super) fn cancel_head(&self, bytes: &'a [u8]) -> Result<(Head<'a>, &'a [u8]), ReadError>
@@ -41,49 +38,14 @@ impl<'a> Reader<'a> {
         Ok((Head::Leaf(Node::First(left, right)), rest))
     }
 
+    #[tactic(auto, using(crate::proofs::ScopeLaws::slot_at))]
     pub(super) fn join_head(&self, bytes: &'a [u8]) -> Result<(Head<'a>, &'a [u8]), ReadError>
         requires { IsReady 2 self.now bytes.now }
         ensures { ReadsHead Form.Join self.now bytes.now result }
     {
         let (fiber, rest) = name(&self.names, self.place, NameKind::Fiber, bytes)?;
-        Ok((Head::Join(fiber), rest))
-    }
-
-    #[cycle(terms)]
-    pub(super) fn join(
-        &mut self,
-        fiber: u32,
-        room: usize,
-        bytes: &'a [u8],
-    ) -> Result<(NodeId, &'a [u8]), ReadError>
-        requires { IsReady 2 self.old bytes.now }
-        ensures { ReadsTerm form_spares self.old self.new bytes.now
-            (parts_at (group_at room) (still (Head.Join fiber) (scope_of self.old)) bytes.now)
-            result }
-    {
         let slot = self.names.len() as u32;
-        let (succeeded, rest) = self.outcome(room, bytes)?;
-        let (errored, rest) = self.outcome(room, rest)?;
-        let (canceled, rest) = self.term(room, rest)?;
-        let node = Node::Join(fiber, slot, succeeded, slot, errored, canceled);
-        self.end(node, rest)
-    }
-
-    /// What comes after an outcome that has a number: the name of the number, and a term.
-    #[cycle(terms)]
-    #[tactic(auto, using(crate::proofs::GroupLaws::group_is))]
-    fn outcome(&mut self, room: usize, bytes: &'a [u8]) -> Result<(NodeId, &'a [u8]), ReadError>
-        requires { IsReady 0 self.old bytes.now }
-        ensures { ReadsTerm term_spares self.old self.new bytes.now
-            (group_at room OfOutcome (scope_of self.old) bytes.now) result }
-    {
-        if room == 0 {
-            return Err(too_deep(bytes));
-        }
-        let rest = opening(bytes)?;
-        let (x, rest) = binder(&self.names, self.place, rest)?;
-        let (root, rest) = self.term_in(Inner::Name(NameKind::Value, x), room - 1, rest)?;
-        let rest = closing(rest)?;
-        Ok((root, rest))
+        let then = Then::Three(Inner::Outcome, Inner::Same, Triple::Join(fiber, slot));
+        Ok((Head::Part(Inner::Outcome, then), rest))
     }
 }

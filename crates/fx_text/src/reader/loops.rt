@@ -6,7 +6,7 @@ use crate::fault::ReadError;
 use crate::form::Form;
 use crate::part::{binder, count, value};
 use crate::reader::Reader;
-use crate::reader::head::{Double, Head, Inner, Single};
+use crate::reader::head::{Double, Head, Inner, Single, Then};
 
 impl<'a> Reader<'a> {
     pub(super) fn if_head(&self, bytes: &'a [u8]) -> Result<(Head<'a>, &'a [u8]), ReadError>
@@ -14,7 +14,8 @@ impl<'a> Reader<'a> {
         ensures { ReadsHead Form.If self.now bytes.now result }
     {
         let (v, rest) = value(&self.names, self.place, bytes)?;
-        Ok((Head::Two(Inner::Same, Inner::Same, Double::If(v)), rest))
+        let then = Then::Two(Inner::Same, Double::If(v));
+        Ok((Head::Part(Inner::Same, then), rest))
     }
 
     #[tactic(auto, using(crate::proofs::ScopeLaws::slot_at))]
@@ -25,6 +26,7 @@ impl<'a> Reader<'a> {
         let (i, rest) = binder(&self.names, self.place, bytes)?;
         let slot = self.names.len() as u32;
         let (n, rest) = count(self.place, rest)?;
-        Ok((Head::One(Inner::Loop(n, i), Single::For(slot, n)), rest))
+        let then = Then::One(Single::For(slot, n));
+        Ok((Head::Part(Inner::Loop(n, i), then), rest))
     }
 }

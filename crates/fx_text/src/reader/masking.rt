@@ -6,7 +6,7 @@ use crate::fault::ReadError;
 use crate::form::Form;
 use crate::part::{binder, name};
 use crate::reader::Reader;
-use crate::reader::head::{Head, Inner, Single};
+use crate::reader::head::{Head, Inner, Single, Then};
 use fx_term::NameKind;
 
 impl<'a> Reader<'a> {
@@ -17,10 +17,8 @@ impl<'a> Reader<'a> {
     {
         let (p, rest) = binder(&self.names, self.place, bytes)?;
         let slot = self.names.len() as u32;
-        Ok((
-            Head::One(Inner::Name(NameKind::Poll, p), Single::Mask(slot)),
-            rest,
-        ))
+        let then = Then::One(Single::Mask(slot));
+        Ok((Head::Part(Inner::Name(NameKind::Poll, p), then), rest))
     }
 
     pub(super) fn poll_head(&self, bytes: &'a [u8]) -> Result<(Head<'a>, &'a [u8]), ReadError>
@@ -28,6 +26,6 @@ impl<'a> Reader<'a> {
         ensures { ReadsHead Form.Poll self.now bytes.now result }
     {
         let (slot, rest) = name(&self.names, self.place, NameKind::Poll, bytes)?;
-        Ok((Head::One(Inner::Same, Single::Poll(slot)), rest))
+        Ok((Head::Part(Inner::Same, Then::One(Single::Poll(slot))), rest))
     }
 }

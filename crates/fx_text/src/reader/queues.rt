@@ -6,7 +6,7 @@ use crate::fault::ReadError;
 use crate::form::Form;
 use crate::part::{binder, queue, value};
 use crate::reader::Reader;
-use crate::reader::head::{Double, Head, Inner};
+use crate::reader::head::{Double, Head, Inner, Then};
 use fx_term::{NameKind, Node};
 
 impl<'a> Reader<'a> {
@@ -45,9 +45,7 @@ impl<'a> Reader<'a> {
         let (x, rest) = binder(&self.names, self.place, rest)?;
         let slot = self.names.len() as u32;
         let taken = Inner::Name(NameKind::Value, x);
-        Ok((
-            Head::Two(taken, Inner::Same, Double::TryTake(queue, slot)),
-            rest,
-        ))
+        let then = Then::Two(Inner::Same, Double::TryTake(queue, slot));
+        Ok((Head::Part(taken, then), rest))
     }
 }

@@ -5,7 +5,7 @@ ghost use Rattle.fx_term.specs.Term.{Let, Cancel};
 ghost use Rattle.fx_term.specs.Meaning.{term_of};
 ghost use Rattle.fx_term.specs.Tree.{children};
 ghost use Rattle.fx_text.specs.Limits.{most_nodes};
-ghost use Rattle.fx_text.specs.Race.{race_slots, cancel_both, outcome_of, decided, deciding};
+ghost use Rattle.fx_text.specs.Race.{race_slots, cancel_both, outcome_of, decided, waited, deciding};
 ghost use Rattle.fx_text.specs.Needs.{AreMade};
 ghost use Rattle.fx_text.specs.ReaderState.{IsReady};
 ghost use Rattle.fx_text.specs.Head.{ReadsHead, leaf_term, double_term};
@@ -14,7 +14,7 @@ ghost use Rattle.fx_text.specs.Made.{CanMake, Makes, MakesTree};
 use crate::fault::ReadError;
 use crate::form::Form;
 use crate::reader::Reader;
-use crate::reader::head::{Double, Head, Inner};
+use crate::reader::head::{Double, Head, Inner, Then};
 use fx_term::{Arg, Node, NodeId};
 use std::alloc::AllocError;
 
@@ -52,8 +52,8 @@ impl<'a> Reader<'a> {
         ensures { ReadsHead Form.Race self.now bytes.now result }
     {
         let slots = race_slots(self.names.len() as u32);
-        let head = Head::Two(Inner::RaceLeft, Inner::RaceRight, Double::Race(slots));
-        Ok((head, bytes))
+        let then = Then::Two(Inner::RaceRight, Double::Race(slots));
+        Ok((Head::Part(Inner::RaceLeft, then), bytes))
     }
 
     /// Cancels both fibers, and waits for each.
@@ -114,6 +114,19 @@ impl<'a> Reader<'a> {
         Ok(self.add(Node::Join(first, number, succeeded, number, errored, canceled))?)
     }
 
+    /// Waits until one has ended. Where that is canceled, both are.
+    fn waited(&mut self, slots: RaceSlots) -> Result<NodeId, AllocError>
+        requires made { AreMade self.old.nodes.items self.old.needs.items }
+        requires small { length self.old.nodes.items + 6 ≤ most_nodes }
+        ensures { IfOk result
+            (λ root. MakesTree self.old self.new 6 (waited slots) root.0) }
+    {
+        let first = self.add(Node::First(slots.left, slots.right))?;
+        let polled = self.add(Node::Poll(slots.mask, first))?;
+        let both = self.cancel_both(slots)?;
+        Ok(self.add(Node::OnCancel(polled, both))?)
+    }
+
     /// Waits until one has ended, and goes on by which one it was.
     fn deciding(&mut self, slots: RaceSlots) -> Result<NodeId, AllocError>
         requires made { AreMade self.old.nodes.items self.old.needs.items }
@@ -121,10 +134,7 @@ impl<'a> Reader<'a> {
         ensures { IfOk result
             (λ root. MakesTree self.old self.new 44 (deciding slots) root.0) }
     {
-        let first = self.add(Node::First(slots.left, slots.right))?;
-        let polled = self.add(Node::Poll(slots.mask, first))?;
-        let both = self.cancel_both(slots)?;
-        let waited = self.add(Node::OnCancel(polled, both))?;
+        let waited = self.waited(slots)?;
         let right = self.decided(slots, slots.right, slots.left)?;
         let left = self.decided(slots, slots.left, slots.right)?;
         let chosen = self.add(Node::If(Arg::Slot(slots.ended), right, left))?;
@@ -138,9 +148,9 @@ impl<'a> Reader<'a> {
         left: NodeId,
         right: NodeId,
     ) -> Result<NodeId, AllocError>
-        requires { CanMake self.old (left ∷ right ∷ []) }
+        requires { CanMake 47 self.old (left ∷ right ∷ []) }
         ensures { let part = λ (id : NodeId). term_of self.old.nodes.items id.0 in
-            IfOk result (λ root. Makes self.old self.new (left ∷ right ∷ [])
+            IfOk result (λ root. Makes 47 self.old self.new (left ∷ right ∷ [])
             (double_term (Double.Race slots) (part left) (part right)) root.0) }
     {
         let deciding = self.deciding(slots)?;

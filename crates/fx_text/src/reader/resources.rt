@@ -1,15 +1,16 @@
 //! Reads the forms that acquire and release.
-ghost use Rattle.std.specs.Prelude.{◌<◌, ◌≤◌, ◌+◌, ◌*◌, [], ◌∷◌, ◌++◌, length, IfOk};
+ghost use Rattle.std.specs.Prelude.{◌<◌, ◌≤◌, ◌+◌, ◌*◌, None, [], ◌∷◌, ◌++◌, length, IfOk};
+ghost use Rattle.fx_term.specs.Term.{Bracket};
 ghost use Rattle.fx_term.specs.Meaning.{term_of};
 ghost use Rattle.fx_text.specs.Limits.{most_nodes, form_spares};
 ghost use Rattle.fx_text.specs.Group.{OfResource, OfResources};
-ghost use Rattle.fx_text.specs.Shape.{shape};
+ghost use Rattle.fx_text.specs.Shape.{shape, pure_zero};
 ghost use Rattle.fx_text.specs.Reading.{group_at, parts_at};
 ghost use Rattle.fx_text.specs.Given.{Gives};
 ghost use Rattle.fx_text.specs.Needs.{AreMade};
 ghost use Rattle.fx_text.specs.Trees.{AllBelow, GrowsBy};
 ghost use Rattle.fx_text.specs.ReaderState.{scope_of, IsReady, ReadsTerm, WentThrough};
-ghost use Rattle.fx_text.specs.Head.{ReadsHead, still, double_term};
+ghost use Rattle.fx_text.specs.Head.{ReadsHead};
 ghost use Rattle.fx_text.specs.Made.{CanMake, Makes};
 ghost use Rattle.fx_text.specs.ResourceState.{resource_of, resources_of, roots_of, Binds, Nests};
 
@@ -17,7 +18,7 @@ use crate::fault::ReadError;
 use crate::form::Form;
 use crate::part::{binder, closing, is_closing, opening, too_deep};
 use crate::reader::Reader;
-use crate::reader::head::{Double, Head, Inner};
+use crate::reader::head::{Head, Inner, Then, Triple};
 use crate::scope::Bound;
 use fx_term::{Arg, NameKind, Node, NodeId};
 use std::alloc::AllocError;
@@ -33,32 +34,16 @@ pub(crate) struct Resource<'a> {
 }
 
 impl<'a> Reader<'a> {
+    #[tactic(auto, using(crate::proofs::ScopeLaws::slot_at))]
     pub(super) fn bracket_head(&self, bytes: &'a [u8]) -> Result<(Head<'a>, &'a [u8]), ReadError>
         requires { IsReady 2 self.now bytes.now }
         ensures { ReadsHead Form.Bracket self.now bytes.now result }
     {
         let (x, rest) = binder(&self.names, self.place, bytes)?;
-        Ok((Head::Bracket(x), rest))
-    }
-
-    #[cycle(terms)]
-    pub(super) fn bracket(
-        &mut self,
-        x: &'a [u8],
-        room: usize,
-        bytes: &'a [u8],
-    ) -> Result<(NodeId, &'a [u8]), ReadError>
-        requires { IsReady 2 self.old bytes.now }
-        ensures { ReadsTerm form_spares self.old self.new bytes.now
-            (parts_at (group_at room) (still (Head.Bracket x.entry) (scope_of self.old)) bytes.now)
-            result }
-    {
         let slot = self.names.len() as u32;
-        let inner = Inner::Name(NameKind::Value, x);
-        let (acquire, rest) = self.term(room, bytes)?;
-        let (used, rest) = self.term_in(inner, room, rest)?;
-        let (release, rest) = self.term_in(inner, room, rest)?;
-        self.end(Node::Bracket(Some(slot), acquire, used, release), rest)
+        let named = Inner::Name(NameKind::Value, x);
+        let then = Then::Three(named, named, Triple::Bracket(slot));
+        Ok((Head::Part(Inner::Same, then), rest))
     }
 
     /// What is used, in a bracket whose resource is the value 0.
@@ -67,10 +52,10 @@ impl<'a> Reader<'a> {
         used: NodeId,
         finalizer: NodeId,
     ) -> Result<NodeId, AllocError>
-        requires { CanMake self.old (used ∷ finalizer ∷ []) }
+        requires { CanMake 47 self.old (used ∷ finalizer ∷ []) }
         ensures { let part = λ (id : NodeId). term_of self.old.nodes.items id.0 in
-            IfOk result (λ root. Makes self.old self.new (used ∷ finalizer ∷ [])
-            (double_term Double.Guarantee (part used) (part finalizer)) root.0) }
+            IfOk result (λ root. Makes 47 self.old self.new (used ∷ finalizer ∷ [])
+            (Bracket None pure_zero (part used) (part finalizer)) root.0) }
     {
         let zero = self.add(Node::Pure(Arg::Number(0)))?;
         self.add(Node::Bracket(None, zero, used, finalizer))
@@ -82,13 +67,13 @@ impl<'a> Reader<'a> {
         room: usize,
         bytes: &'a [u8],
     ) -> Result<(NodeId, &'a [u8]), ReadError>
-        requires { IsReady 2 self.old bytes.now }
+        requires { IsReady 0 self.old bytes.now }
         ensures { ReadsTerm form_spares self.old self.new bytes.now
             (parts_at (group_at room) (shape Form.Using (scope_of self.old)) bytes.now) result }
     {
         let outside = self.names.len();
         let (resources, rest) = self.resources(room, bytes)?;
-        let (used, rest) = self.term(room, rest)?;
+        let (used, rest) = self.term(Inner::Same, room, rest)?;
         self.names.truncate(outside);
         let rest = closing(rest)?;
         Ok((self.nested(resources, used)?, rest))
@@ -133,7 +118,7 @@ impl<'a> Reader<'a> {
 
     /// A resource. Its name is in scope in its release alone.
     #[cycle(terms)]
-    #[tactic(auto, using(crate::proofs::GroupLaws::group_is))]
+    #[tactic(auto, using(crate::proofs::GroupLaws::resource_is))]
     fn resource(
         &mut self,
         room: usize,
@@ -148,14 +133,10 @@ impl<'a> Reader<'a> {
             (x.0.acquire.0 ∷ x.0.release.0 ∷ [])) }
         ensures shorter { IfOk result (λ x. length x.1.now < length bytes.now) }
     {
-        if room == 0 {
-            return Err(too_deep(bytes));
-        }
-        let rest = opening(bytes)?;
-        let (name, rest) = binder(&self.names, self.place, rest)?;
+        let (name, inside, rest) = self.named(room, bytes)?;
         let slot = self.names.len() as u32;
-        let (acquire, rest) = self.term(room - 1, rest)?;
-        let (release, rest) = self.term_in(Inner::Name(NameKind::Value, name), room - 1, rest)?;
+        let (acquire, rest) = self.term(Inner::Same, inside, rest)?;
+        let (release, rest) = self.term(Inner::Name(NameKind::Value, name), inside, rest)?;
         let rest = closing(rest)?;
         let resource = Resource {
             name,

@@ -1,4 +1,5 @@
 use Rattle.std.proofs.lemmas.Result.{err_from_is_err_and}
+use Rattle.fx_command.specs.Call.{view_call}
 use Rattle.fx_command.proofs.Fetched.{schedule_kept}
 use Rattle.fx_command.proofs.CommandAnswer.{leaves_no_script, leaves_no_schedule, leaves_unwritten, writes_answer}
 use Rattle.fx_command.proofs.command.answer.Goals as goal
@@ -6,27 +7,28 @@ use Rattle.fx_command.proofs.command.answer.Goals as goal
 pub returns-in_err-script-clause-fault : goal.returns-in_err-script-clause-fault
 returns-in_err-script-clause-fault g c =
     let fault = err_from_is_err_and c.from_residual.result c.from_residual.ensures.1 in
-    rw (fault.1, fault.2) (leaves_no_script _ _ _ _ _ c.in_err-script.ensures.none)
+    rw (fault.1, fault.2) (leaves_no_script (g.F.Files.holds c.args.files.now) (view_call c.args.call) _ _ c.in_err-script.ensures.none)
 
 pub returns-in_err-picks-clause-fault : goal.returns-in_err-picks-clause-fault
 returns-in_err-picks-clause-fault g c =
     let fault = err_from_is_err_and c.from_residual-in_err-picks.result c.from_residual-in_err-picks.ensures.1 in
     let kept = schedule_kept _ _ c.args.call.schedule c.script_of.ensures.kept c.requires in
     let none = rw kept at c.in_err-picks.ensures.none in
-    rw (fault.1, fault.2) (leaves_no_schedule _ _ _ _ _ _ c.in_ok-script.ensures.found none)
+    rw (fault.1, fault.2)
+    (leaves_no_schedule (g.F.Files.holds c.args.files.now) (view_call c.args.call) _ _ _ c.in_ok-script.ensures.found none)
 
 pub returns-in_err-perform-clause-fault : goal.returns-in_err-perform-clause-fault
 returns-in_err-perform-clause-fault g c =
     let fault = err_from_is_err_and c.from_residual-in_err-perform.result c.from_residual-in_err-perform.ensures.1 in
     let kept = schedule_kept _ _ c.args.call.schedule c.script_of.ensures.kept c.requires in
     let found = rw (kept, ← c.deref.ensures.value) at c.in_ok-picks.ensures.found in
-    let unwritten = leaves_unwritten c.args.call.command _ _ _ _ c.in_err-perform.field-0.0 (g.W.Write.contents c.args.out.now)
-    (g.W.Write.contents c.perform.new.out) c.in_ok-script.ensures.found found c.in_err-perform.ensures in
+    let unwritten = leaves_unwritten (g.F.Files.holds c.args.files.now) (view_call c.args.call) _ _ c.in_err-perform.field-0.0
+    (g.W.Write.contents c.args.out.now) (g.W.Write.contents c.perform.new.out) c.in_ok-script.ensures.found found c.in_err-perform.ensures in
     rw (fault.1, fault.2) unwritten
 
 pub returns-clause-answered : goal.returns-clause-answered
 returns-clause-answered g c =
     let kept = schedule_kept _ _ c.args.call.schedule c.script_of.ensures.kept c.requires in
     let found = rw (kept, ← c.deref.ensures.value) at c.in_ok-picks.ensures.found in
-    writes_answer c.args.call.command _ _ _ _ c.in_ok-perform.field-0 (g.W.Write.contents c.args.out.now)
+    writes_answer (g.F.Files.holds c.args.files.now) (view_call c.args.call) _ _ c.in_ok-perform.field-0 (g.W.Write.contents c.args.out.now)
     (g.W.Write.contents c.perform.new.out) c.in_ok-script.ensures.found found c.in_ok-perform.ensures

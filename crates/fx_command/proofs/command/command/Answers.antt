@@ -1,31 +1,45 @@
-use Rattle.std.proofs.Common.{option_map}
+use Rattle.std.proofs.Common.{sym, ◌∙◌, ap, map, option_map, string_bytes}
 use Rattle.fx_report.proofs.Written.{keeps_same}
-use Rattle.fx_command.specs.CommandAnswer.Runs.{other_words, answered, unreadable, no_memory, not_taken}
-use Rattle.fx_command.proofs.CommandAnswer.{refusal_runs}
+use Rattle.fx_command.specs.Call.{view_call}
+use Rattle.fx_command.specs.CommandAnswer.Runs.{other_words, answered, no_memory, not_taken}
+use Rattle.fx_command.proofs.CommandAnswer.{call_is, refusal_runs, unread_runs}
 use Rattle.fx_command.proofs.command.command.Goals as goal
 
 pub returns-in_default : goal.returns-in_default
-returns-in_default g c = other_words (keeps_same _)
+returns-in_default g c = other_words (sym c.of.ensures.call ∙ ap (option_map view_call) c.in_default.is) (keeps_same _) c.say.ensures
 
 pub returns-in-Ok : goal.returns-in-Ok
-returns-in-Ok g c = answered c.in-Some.call.command _ (option_map (λ n. n.now) c.in-Some.call.schedule) c.in-Ok.ensures.answered
+returns-in-Ok g c =
+    let call = c.in-Some.call in
+    let is = call_is (map string_bytes c.args.words.now) _ call c.of.ensures.call c.in-Some.is in
+    answered (view_call call) is c.in-Ok.ensures.answered (rw c.deref.ensures at c.say-in-Ok.ensures)
 
 pub returns-in-Refused : goal.returns-in-Refused
 returns-in-Refused g c =
+    let words = map string_bytes c.args.words.now in
+    let call = c.in-Some.call in
+    let is = call_is words _ call c.of.ensures.call c.in-Some.is in
     let left = rw c.in-Refused.is at c.in-Err.ensures.fault in
-    refusal_runs _ c.in-Some.call.command _ (option_map (λ n. n.now) c.in-Some.call.schedule) c.in-Refused.refusal _ _ _ _ left c.tell_refusal.ensures
+    refusal_runs words _ (view_call call) c.in-Refused.refusal _ _ _ _ _ _ is left c.tell_refusal.ensures
 
 pub returns-in-Unreadable : goal.returns-in-Unreadable
 returns-in-Unreadable g c =
-    let kept = rw c.in-Unreadable.is at c.in-Err.ensures.fault in
-    rw c.tell.ensures (unreadable kept)
+    let words = map string_bytes c.args.words.now in
+    let call = c.in-Some.call in
+    let is = call_is words _ call c.of.ensures.call c.in-Some.is in
+    let left = rw c.in-Unreadable.is at c.in-Err.ensures.fault in
+    unread_runs words _ (view_call call) _ _ _ _ _ _ is left c.tell_unreadable.ensures
 
 pub returns-in-Memory : goal.returns-in-Memory
 returns-in-Memory g c =
+    let call = c.in-Some.call in
+    let is = call_is (map string_bytes c.args.words.now) _ call c.of.ensures.call c.in-Some.is in
     let kept = rw c.in-Memory.is at c.in-Err.ensures.fault in
-    rw c.tell-in-Memory.ensures (no_memory kept)
+    no_memory (view_call call) is kept c.say-in-Memory.ensures
 
 pub returns : goal.returns
 returns g c =
+    let call = c.in-Some.call in
+    let is = call_is (map string_bytes c.args.words.now) _ call c.of.ensures.call c.in-Some.is in
     let part = rw c.in-Write.is at c.in-Err.ensures.fault in
-    rw c.tell-in-Write.ensures (not_taken c.in-Some.call.command _ (option_map (λ n. n.now) c.in-Some.call.schedule) part)
+    not_taken (view_call call) is part.1 c.say-in-Write.ensures

@@ -1,4 +1,4 @@
-use Rattle.std.proofs.Common.{[], refl}
+use Rattle.std.proofs.Common.{◌≡◌, Some, [], refl}
 use Rattle.fx_text.specs.Schedule.{IsSchedule}
 use Rattle.fx_command.specs.Refused.{IsNoSchedule}
 use Rattle.fx_command.proofs.Fetched.{most_of_schedule, if_fetched, if_not_fetched, schedule_of_prefix, no_schedule_of_prefix, empty_schedule}
@@ -17,5 +17,6 @@ returns-clause-found g c =
 pub returns-clause-none : goal.returns-clause-none
 returns-clause-none g c =
     let read = rw (← c.deref.ensures.value) at c.in_ok-text.ensures.text in
-    let none = if_not_fetched IsNoSchedule most_of_schedule _ _ c.picks_in.result no_schedule_of_prefix read c.picks_in.ensures.refused in
+    let none = if_not_fetched (λ n. Some c.in-Some.name.now ≡ Some n) IsNoSchedule most_of_schedule _ _ c.picks_in.result no_schedule_of_prefix read
+    c.picks_in.ensures.refused in
     rw c.in-Some.is none

@@ -1,3 +1,4 @@
+use Rattle.std.proofs.Common.{◌≡◌}
 use Rattle.fx_text.specs.Grammar.{IsScript}
 use Rattle.fx_text.specs.View.{meaning}
 use Rattle.fx_report.specs.Answering.{most_read}
@@ -13,4 +14,4 @@ returns-clause-found g c =
 pub returns-clause-none : goal.returns-clause-none
 returns-clause-none g c =
     let read = rw (← c.deref.ensures.value) at c.in_ok-text.ensures.text in
-    if_not_fetched IsNoScript most_read _ _ c.script_in.result no_script_of_prefix read c.script_in.ensures.refused
+    if_not_fetched (λ n. n ≡ c.args.name.now) IsNoScript most_read _ _ c.script_in.result no_script_of_prefix read c.script_in.ensures.refused

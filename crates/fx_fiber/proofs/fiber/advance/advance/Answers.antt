@@ -1,7 +1,9 @@
 use Rattle.std.proofs.Common.{◌≡◌, refl, ap}
 use Rattle.std.proofs.lemmas.Result.{IfOk-weaker}
 use Rattle.fx_model.specs.Row.{Counts}
-use Rattle.fx_fiber.specs.Methods.{MakesRule, MakesCall, Interrupts}
+use Rattle.fx_fiber.specs.Makes.{MakesRule}
+use Rattle.fx_fiber.specs.Interruption.{Interrupts}
+use Rattle.fx_fiber.specs.MakesCall.{MakesCall}
 use Rattle.fx_fiber.proofs.Calls.{local_call}
 use Rattle.fx_fiber.proofs.Advances.{inside_leaf, inside_result, inside_loop, same_here, is_interrupted, is_free}
 use Rattle.fx_fiber.proofs.Advances.{interrupted_advances, rule_advances, await_advances}
@@ -12,7 +14,7 @@ pub interrupted-requires : goal.interrupted-requires
 interrupted-requires g c =
     let here = c.in_ok-id-in-Eval in
     let inside = inside_leaf g.P.Port.code c.enter.new.self here.id here.node.now _ here.ensures.at here.ensures.leaf c.is_canceled.ensures in
-    is_interrupted g.P.Port.calls g.P.Port.agrees g.P.Port.puts g.P.Port.code c.args.machine.now c.enter.new.self _ _ _ _ _
+    is_interrupted g.P.Port.calls g.P.Port.agrees g.P.Port.facts g.P.Port.code c.args.machine.now c.enter.new.self _ _ _ _ _
     here.ensures.same inside c.in-Some.first c.in-Some.ensures.first
 
 pub leaf_rule-requires : goal.leaf_rule-requires
@@ -23,14 +25,14 @@ leaf_rule-requires g c =
       at = record {
         at = here.ensures.at;
         free =
-            is_free g.P.Port.calls g.P.Port.agrees g.P.Port.puts g.P.Port.code c.args.machine.now c.enter.new.self _ _ _ _ _ here.ensures.same inside
+            is_free g.P.Port.calls g.P.Port.agrees g.P.Port.facts g.P.Port.code c.args.machine.now c.enter.new.self _ _ _ _ _ here.ensures.same inside
             c.in-None.ensures.first;
       };
       leaf = here.ensures.leaf;
       countable =
           let masks : c.enter.new.self.masks.entries ≡ c.args.machine.now.masks.entries = ap (λ (k : Counts). k.masks) here.ensures.same.counts in
           rw masks c.requires.masks_countable;
-      puts_countable = rw c.interruption.ensures.puts c.requires.puts_countable;
+      puts_countable = rw c.interruption.ensures.facts c.requires.puts_countable;
       scoped = rw here.ensures.same.progress c.requires.scoped;
     }
 
@@ -42,8 +44,8 @@ returns-in-Some-clause-ok g c =
     let here = c.in_ok-id-in-Eval in
     let inside = inside_leaf g.P.Port.code c.enter.new.self here.id here.node.now _ here.ensures.at here.ensures.leaf c.is_canceled.ensures in
     IfOk-weaker c.interrupted.result (λ m. Interrupts g.P.Port.code c.enter.new.self c.in-Some.first m c.interrupted.new.self) _
-    (λ m h. interrupted_advances g.P.Port.calls g.P.Port.agrees g.P.Port.puts g.P.Port.code c.args.machine.now c.enter.new.self _ _ _ _ _
-    here.ensures.same inside c.in-Some.first m _ c.in-Some.ensures.first c.in-Some.ensures.saw c.interruption.ensures.puts h)
+    (λ m h. interrupted_advances g.P.Port.calls g.P.Port.agrees g.P.Port.facts g.P.Port.code c.args.machine.now c.enter.new.self _ _ _ _ _
+    here.ensures.same inside c.in-Some.first m _ c.in-Some.ensures.first c.in-Some.ensures.saw c.interruption.ensures.facts h)
     c.interrupted.ensures.ok
 
 pub returns-in-None-clause-ok : goal.returns-in-None-clause-ok
@@ -51,9 +53,9 @@ returns-in-None-clause-ok g c =
     let here = c.in_ok-id-in-Eval in
     let inside = inside_leaf g.P.Port.code c.enter.new.self here.id here.node.now _ here.ensures.at here.ensures.leaf c.is_canceled.ensures in
     IfOk-weaker c.leaf_rule.result
-    (λ m. MakesCall g.P.Port.calls g.P.Port.agrees g.P.Port.puts g.P.Port.code c.enter.new.self c.interruption.new.port c.interruption.new.shared
+    (λ m. MakesCall g.P.Port.calls g.P.Port.agrees g.P.Port.facts g.P.Port.code c.enter.new.self c.interruption.new.port c.interruption.new.shared
     m c.leaf_rule.new.self c.leaf_rule.new.port c.leaf_rule.new.shared) _
-    (λ m h. rule_advances g.P.Port.calls g.P.Port.agrees g.P.Port.puts g.P.Port.code c.args.machine.now c.enter.new.self _ _ _ _ _
+    (λ m h. rule_advances g.P.Port.calls g.P.Port.agrees g.P.Port.facts g.P.Port.code c.args.machine.now c.enter.new.self _ _ _ _ _
     here.ensures.same inside m _ _ _ c.in-None.ensures.first h)
     c.leaf_rule.ensures.ok
 
@@ -62,9 +64,9 @@ returns-in-None-interruption-clause-ok g c =
     let s = c.args.machine.now in
     let inside = inside_result g.P.Port.code s c.in-Return.done c.requires.sound c.in-Return.is in
     IfOk-weaker c.result_rule.result (λ m. MakesRule g.P.Port.code s m c.result_rule.new.self) _
-    (λ m h. rule_advances g.P.Port.calls g.P.Port.agrees g.P.Port.puts g.P.Port.code s s _ _ _ _ _
+    (λ m h. rule_advances g.P.Port.calls g.P.Port.agrees g.P.Port.facts g.P.Port.code s s _ _ _ _ _
     (same_here g.P.Port.code s c.requires.sound) inside m _ _ _ c.in-None-interruption.ensures.first
-    (local_call g.P.Port.calls g.P.Port.agrees g.P.Port.puts g.P.Port.code s _ _ _ _ m _ refl refl h))
+    (local_call g.P.Port.calls g.P.Port.agrees g.P.Port.facts g.P.Port.code s _ _ _ _ m _ refl refl h))
     c.result_rule.ensures.ok
 
 pub returns-in-None-interruption-2-clause-ok : goal.returns-in-None-interruption-2-clause-ok
@@ -72,12 +74,12 @@ returns-in-None-interruption-2-clause-ok g c =
     let s = c.args.machine.now in
     let inside = inside_loop g.P.Port.code s c.in-Turn.id c.in-Turn.turn c.requires.sound c.in-Turn.is in
     IfOk-weaker c.turn_rule.result (λ m. MakesRule g.P.Port.code s m c.turn_rule.new.self) _
-    (λ m h. rule_advances g.P.Port.calls g.P.Port.agrees g.P.Port.puts g.P.Port.code s s _ _ _ _ _
+    (λ m h. rule_advances g.P.Port.calls g.P.Port.agrees g.P.Port.facts g.P.Port.code s s _ _ _ _ _
     (same_here g.P.Port.code s c.requires.sound) inside m _ _ _ c.in-None-interruption-2.ensures.first
-    (local_call g.P.Port.calls g.P.Port.agrees g.P.Port.puts g.P.Port.code s _ _ _ _ m _ refl refl h))
+    (local_call g.P.Port.calls g.P.Port.agrees g.P.Port.facts g.P.Port.code s _ _ _ _ m _ refl refl h))
     c.turn_rule.ensures.ok
 
 pub returns-in-Await-clause-ok : goal.returns-in-Await-clause-ok
 returns-in-Await-clause-ok g c =
-    await_advances g.P.Port.calls g.P.Port.agrees g.P.Port.puts g.P.Port.code c.args.machine.now c.in-Await.fiber _ _ _ _ _ _ c.requires.sound c.in-Await.is
-    c.awaits.ensures.made
+    await_advances g.P.Port.calls g.P.Port.agrees g.P.Port.facts g.P.Port.code c.args.machine.now c.in-Await.fiber _ _ _ _ _ _ c.requires.sound c.in-Await.is
+    c.awaits.ensures

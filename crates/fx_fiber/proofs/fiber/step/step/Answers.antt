@@ -1,14 +1,15 @@
-use Rattle.std.proofs.Common.{refl, ◌∙◌, arith}
+use Rattle.std.proofs.Common.{[], refl, ◌∙◌, ap, arith}
 use Rattle.std.proofs.lemmas.Result.{IfOk-from_err}
 use Rattle.fx_fiber.proofs.Advances.{same_here, same_trans}
 use Rattle.fx_fiber.proofs.Results.{on_any_error}
-use Rattle.fx_fiber.proofs.Telling.{going_at, is_made, same_is_unchanged, same_is_kept, told_keeps, told_steps, start_does}
+use Rattle.fx_fiber.proofs.Telling.{going_at, is_made, same_is_unchanged, same_is_kept, told_keeps, told_same, told_steps, start_does}
+use Rattle.fx_fiber.specs.PortFacts.{Facts}
 use Rattle.fx_fiber.proofs.fiber.step.step.Goals as goal
 
 pub advance-requires : goal.advance-requires
 advance-requires g c =
     let k = c.requires.kept in
-    let s = c.args.bare.now.machine in
+    let s = c.args.body.now.machine in
     record {
       code = c.requires.code;
       sound = k.sound;
@@ -22,15 +23,17 @@ advance-requires g c =
 pub returns-in_err-reserve : goal.returns-in_err-reserve
 returns-in_err-reserve g c =
     let k = c.requires.kept in
-    let s = c.args.bare.now.machine in
+    let s = c.args.body.now.machine in
     let p = c.args.port.now in
     let same = same_here g.P.Port.code s k.sound in
     let items = c.in_err-reserve.ensures.items in
     record {
       ok = IfOk-from_err c.from_residual.result _ c.from_residual.ensures.0;
-      err = on_any_error c.from_residual.result (same_is_unchanged g.P.Port.code p p _ _ s s same refl items, refl);
-      kept = same_is_kept g.P.Port.code g.P.Port.beginning g.P.Port.agrees g.P.Port.has_finished g.P.Port.rest g.P.Port.puts p p _ _ s s k same refl items;
+      err = on_any_error c.from_residual.result (same_is_unchanged g.P.Port.code p p _ _ s s _ _ same refl items, refl);
+      kept = same_is_kept g.P.Port.code g.P.Port.total g.P.Port.facts g.P.Port.agrees
+          p p _ _ s s k same refl items;
       id = refl;
+      source = refl;
       number = refl;
       beginning = refl;
     }
@@ -38,19 +41,20 @@ returns-in_err-reserve g c =
 pub returns-in_err-made : goal.returns-in_err-made
 returns-in_err-made g c =
     let k = c.requires.kept in
-    let s = c.args.bare.now.machine in
+    let s = c.args.body.now.machine in
     let p = c.args.port.now in
     let failed = c.in_err-made.ensures in
     let items = c.in_ok-reserve.ensures.items in
     record {
       ok = IfOk-from_err c.from_residual-in_err-made.result _ c.from_residual-in_err-made.ensures.0;
       err = on_any_error c.from_residual-in_err-made.result
-          (same_is_unchanged g.P.Port.code p c.advance.new.port _ _ s c.advance.new.machine failed.same failed.unchanged.0 items, failed.unchanged.1);
-      kept = same_is_kept g.P.Port.code g.P.Port.beginning g.P.Port.agrees g.P.Port.has_finished g.P.Port.rest g.P.Port.puts p c.advance.new.port _ _
-          s c.advance.new.machine k failed.same failed.unchanged.0 items;
+          (same_is_unchanged g.P.Port.code p c.advance.new.port _ _ s c.advance.new.machine _ _ failed.same failed.unchanged.0 items, failed.unchanged.1);
+      kept = same_is_kept g.P.Port.code g.P.Port.total g.P.Port.facts g.P.Port.agrees
+          p c.advance.new.port _ _ s c.advance.new.machine k failed.same failed.unchanged.0 items;
       id = refl;
-      number = c.advance.ensures.number;
-      beginning = c.advance.ensures.beginning;
+      source = refl;
+      number = rw failed.unchanged.0 refl;
+      beginning = rw failed.unchanged.0 refl;
     }
 
 pub start-requires-clause-stands : goal.start-requires-clause-stands
@@ -59,19 +63,19 @@ start-requires-clause-stands g c = let due = rw c.in-Starts.is at c.in_ok-made.e
 pub start-requires-clause-kept : goal.start-requires-clause-kept
 start-requires-clause-kept g c =
     let due = rw c.in-Starts.is at c.in_ok-made.ensures.ok in
-    same_is_kept g.P.Port.code g.P.Port.beginning g.P.Port.agrees g.P.Port.has_finished g.P.Port.rest g.P.Port.puts c.args.port.now c.advance.new.port _ _
-    c.args.bare.now.machine c.advance.new.machine c.requires.kept due.rule.same due.asks.1.0 c.in_ok-reserve.ensures.items
+    same_is_kept g.P.Port.code g.P.Port.total g.P.Port.facts g.P.Port.agrees c.args.port.now
+    c.advance.new.port _ _ c.args.body.now.machine c.advance.new.machine c.requires.kept due.rule.same due.asks.1.0 c.in_ok-reserve.ensures.items
 
 pub start-requires-clause-going : goal.start-requires-clause-going
-start-requires-clause-going g c = c.advance.ensures.finished ∙ c.requires.kept.ended ∙ c.requires.going
+start-requires-clause-going g c = ap (λ (f : Facts). f.has_finished) c.in_ok-made.ensures.ok.facts_are ∙ c.requires.kept.ended ∙ c.requires.going
 
 pub returns-in_err-child : goal.returns-in_err-child
 returns-in_err-child g c =
     let due = rw c.in-Starts.is at c.in_ok-made.ensures.ok in
     let failed = c.in_err-child.ensures in
-    let s = c.args.bare.now.machine in
+    let s = c.args.body.now.machine in
     let p = c.args.port.now in
-    let t = c.start.new.bare.machine in
+    let t = c.start.new.body.machine in
     let q = c.start.new.port in
     let same = same_trans g.P.Port.code s c.advance.new.machine t due.rule.same failed.same in
     let port = failed.unchanged.0 ∙ due.asks.1.0 in
@@ -79,12 +83,13 @@ returns-in_err-child g c =
     record {
       ok = IfOk-from_err c.from_residual-in_err-child.result _ c.from_residual-in_err-child.ensures.0;
       err = on_any_error c.from_residual-in_err-child.result
-          (same_is_unchanged g.P.Port.code p q _ _ s t same port items, failed.unchanged.1 ∙ due.asks.1.1);
-      kept = same_is_kept g.P.Port.code g.P.Port.beginning g.P.Port.agrees g.P.Port.has_finished g.P.Port.rest g.P.Port.puts p q _ _ s t c.requires.kept same
-          port items;
+          (same_is_unchanged g.P.Port.code p q _ _ s t _ _ same port items, failed.unchanged.1 ∙ due.asks.1.1);
+      kept = same_is_kept g.P.Port.code g.P.Port.total g.P.Port.facts g.P.Port.agrees
+          p q _ _ s t c.requires.kept same port items;
       id = c.start.ensures.id;
-      number = c.start.ensures.number ∙ c.advance.ensures.number;
-      beginning = c.start.ensures.beginning ∙ c.advance.ensures.beginning;
+      source = c.start.ensures.source;
+      number = c.start.ensures.number ∙ ap (λ (f : Facts). f.number) c.in_ok-made.ensures.ok.facts_are;
+      beginning = c.start.ensures.beginning ∙ ap (λ (f : Facts). f.beginning) c.in_ok-made.ensures.ok.facts_are;
     }
 
 pub returns-in-Starts : goal.returns-in-Starts
@@ -92,20 +97,21 @@ returns-in-Starts g c =
     let due = rw c.in-Starts.is at c.in_ok-made.ensures.ok in
     let started = c.in_ok-child.ensures in
     record {
-      ok = start_does g.P.Port.calls g.P.Port.agrees g.P.Port.puts g.P.Port.code _ _ _ _ _ _ _ _ _ _ _ _ c.in-Starts.slot c.in-Starts.started c.in-Starts.then
-          c.in_ok-child.child due started.started c.in_ok-reserve.ensures.items;
+      ok = start_does g.P.Port.calls g.P.Port.agrees g.P.Port.facts g.P.Port.code _ _ _ _ _ _ _ _ _ _ _ _ _ _
+          c.in-Starts.slot c.in-Starts.started c.in-Starts.then c.in_ok-child.child due started.started c.in_ok-reserve.ensures.items;
       err = tt;
       kept = started.kept;
       id = c.start.ensures.id;
-      number = c.start.ensures.number ∙ c.advance.ensures.number;
-      beginning = c.start.ensures.beginning ∙ c.advance.ensures.beginning;
+      source = c.start.ensures.source;
+      number = c.start.ensures.number ∙ ap (λ (f : Facts). f.number) c.in_ok-made.ensures.ok.facts_are;
+      beginning = c.start.ensures.beginning ∙ ap (λ (f : Facts). f.beginning) c.in_ok-made.ensures.ok.facts_are;
     }
 
 pub tell-requires-clause-made : goal.tell-requires-clause-made
 tell-requires-clause-made g c = is_made c.in_ok-made.made c.in_default.not-Starts
 
 pub tell-requires-clause-going : goal.tell-requires-clause-going
-tell-requires-clause-going g c = c.advance.ensures.finished ∙ c.requires.kept.ended ∙ c.requires.going
+tell-requires-clause-going g c = ap (λ (f : Facts). f.has_finished) c.in_ok-made.ensures.ok.facts_are ∙ c.requires.kept.ended ∙ c.requires.going
 
 pub returns : goal.returns
 returns g c =
@@ -115,14 +121,16 @@ returns g c =
     let a = c.in_ok-made.ensures.ok in
     let told = c.tell.ensures in
     let items = rw c.in_ok-reserve.ensures.items at told.trace in
+    let same = told_same g.P.Port.calls g.P.Port.agrees g.P.Port.facts g.P.Port.code _ _ _ _ _ _ [] [] _ _ m a told.told in
     record {
-      ok = told_steps g.P.Port.calls g.P.Port.agrees g.P.Port.has_finished g.P.Port.puts g.P.Port.code _ _ _ _ _ _ _ _ _ _ m c.tell.result
-          c.tell.new.bare.machine told.answer told.machine is a told.told items;
+      ok = told_steps g.P.Port.calls g.P.Port.agrees g.P.Port.facts g.P.Port.code
+          _ _ _ _ _ _ _ _ _ _ _ _ m c.tell.result
+          c.tell.new.body.machine told.answer told.machine is a told.told items;
       err = tt;
-      kept = rw told.machine (told_keeps g.P.Port.calls g.P.Port.agrees g.P.Port.has_finished g.P.Port.puts g.P.Port.code _ _ _ _ _ _ _ _ _ _ _ _ _ _
-          (told.beginning ∙ c.advance.ensures.beginning) k c.requires.going c.advance.ensures.finished (told.rest ∙ c.advance.ensures.rest) m is a told.told
-          told.puts items);
+      kept = rw told.machine (told_keeps g.P.Port.calls g.P.Port.agrees g.P.Port.facts g.P.Port.code
+          _ _ _ _ _ _ _ _ _ _ g.P.Port.total k c.requires.going m is a told.told items);
       id = told.id;
-      number = told.number ∙ c.advance.ensures.number;
-      beginning = told.beginning ∙ c.advance.ensures.beginning;
+      source = told.source;
+      number = same.0;
+      beginning = same.1;
     }

@@ -17,37 +17,37 @@ pub fiber_of-right-requires-clause-fits : goal.fiber_of-right-requires-clause-fi
 fiber_of-right-requires-clause-fits g c =
     right_fits g.P.Port.code c.args.self.now c.requires.at.0 c.args.left c.args.right c.requires.at.1.at c.requires.scoped
 
-pub returns-in-Some-clause-made : goal.returns-in-Some-clause-made
-returns-in-Some-clause-made g c =
+pub returns-in-Some : goal.returns-in-Some
+returns-in-Some g c =
     let s = c.args.self.now in
     let stands = c.requires.at.1 in
-    learns_call g.P.Port.calls g.P.Port.agrees g.P.Port.puts g.P.Port.code s _ _ _ _ _ _ _ _
+    learns_call g.P.Port.calls g.P.Port.agrees g.P.Port.facts g.P.Port.code s _ _ _ _ _ _ _ _
     (result_sound g.P.Port.code s c.requires.at.0 c.args.left c.args.right stands.at 0)
     (left_step g.P.Port.code s c.requires.at.0 c.args.left c.args.right stands.at _ _ c.fiber_of-left.ensures c.fiber_of-right.ensures stands.free
     c.in-Some.outcome)
-    tt c.in-Some.ensures.told c.in-Some.ensures.deed c.in-Some.ensures.puts
+    tt c.in-Some.ensures.told c.in-Some.ensures.deed c.in-Some.ensures.facts
 
-pub returns-in-Some-peek-clause-made : goal.returns-in-Some-peek-clause-made
-returns-in-Some-peek-clause-made g c =
+pub returns-in-Some-peek : goal.returns-in-Some-peek
+returns-in-Some-peek g c =
     let s = c.args.self.now in
     let stands = c.requires.at.1 in
     let same = c.in-None.ensures.unchanged in
-    learns_call g.P.Port.calls g.P.Port.agrees g.P.Port.puts g.P.Port.code s _ _ _ _ _ _ _ _
+    learns_call g.P.Port.calls g.P.Port.agrees g.P.Port.facts g.P.Port.code s _ _ _ _ _ _ _ _
     (result_sound g.P.Port.code s c.requires.at.0 c.args.left c.args.right stands.at 1)
     (right_step g.P.Port.code s c.requires.at.0 c.args.left c.args.right stands.at _ _ c.fiber_of-left.ensures c.fiber_of-right.ensures stands.free
     c.in-Some-peek.outcome)
     (rw (first_leaf g.P.Port.code s c.requires.at.0 c.args.left c.args.right stands.at _ _ c.fiber_of-left.ensures c.fiber_of-right.ensures stands.free)
     (rw (same.0, same.1) at c.in-None.ensures.told))
     (rw (same.0, same.1) at c.in-Some-peek.ensures.told) (rw same.0 at c.in-Some-peek.ensures.deed)
-    (rw same.0 at c.in-Some-peek.ensures.puts)
+    (rw same.0 at c.in-Some-peek.ensures.facts)
 
-pub returns-in-None-peek-clause-made : goal.returns-in-None-peek-clause-made
-returns-in-None-peek-clause-made g c =
+pub returns-in-None-peek : goal.returns-in-None-peek
+returns-in-None-peek g c =
     let s = c.args.self.now in
     let stands = c.requires.at.1 in
     let same = c.in-None.ensures.unchanged in
     let again = c.in-None-peek.ensures.unchanged in
     let second = rw (again.0, again.1) at c.in-None-peek.ensures.told in
-    waits_call g.P.Port.calls g.P.Port.agrees g.P.Port.puts g.P.Port.code s s _ _ _ _ _
+    waits_call g.P.Port.calls g.P.Port.agrees g.P.Port.facts g.P.Port.code s s _ _ _ _ _
     (first_waits g.P.Port.code s c.requires.at.0 c.args.left c.args.right stands.at _ _ c.fiber_of-left.ensures c.fiber_of-right.ensures stands.free)
     (rw (same.0, same.1) at c.in-None.ensures.told, rw (same.0, same.1) at second) (again.0 ∙ same.0) (again.1 ∙ same.1)

@@ -24,8 +24,8 @@ returns-in-Some-clause-ok g c =
     let stands = rw c.in-Join.is at c.requires.at in
     let on = join_goes_on g.P.Port.code c.args.self.now c.args.id _ _ _ _ _ _ stands.at c.fiber_of-fiber.result c.fiber_of-fiber.ensures stands.free
     c.in-Some.outcome _ (rw (c.goes_on_after.ensures, c.in_ok-bind.ensures.ok) refl) in
-    learns_call g.P.Port.calls g.P.Port.agrees g.P.Port.puts g.P.Port.code _ _ _ _ _ _ _ _ _ on.0 on.1 tt c.in-Some.ensures.told c.in-Some.ensures.deed
-    c.in-Some.ensures.puts
+    learns_call g.P.Port.calls g.P.Port.agrees g.P.Port.facts g.P.Port.code _ _ _ _ _ _ _ _ _ on.0 on.1 tt c.in-Some.ensures.told c.in-Some.ensures.deed
+    c.in-Some.ensures.facts
 
 pub returns-in-None-clause-ok : goal.returns-in-None-clause-ok
 returns-in-None-clause-ok g c =
@@ -33,4 +33,4 @@ returns-in-None-clause-ok g c =
     let waits = join_waits g.P.Port.code c.args.self.now c.args.id _ _ _ _ _ _ stands.at c.fiber_of-fiber.result c.fiber_of-fiber.ensures stands.free
     _ (rw c.in_ok-bind.ensures.ok refl) in
     let same = c.in-None.ensures.unchanged in
-    waits_call g.P.Port.calls g.P.Port.agrees g.P.Port.puts g.P.Port.code _ _ _ _ _ _ _ waits (rw (same.0, same.1) at c.in-None.ensures.told) same.0 same.1
+    waits_call g.P.Port.calls g.P.Port.agrees g.P.Port.facts g.P.Port.code _ _ _ _ _ _ _ waits (rw (same.0, same.1) at c.in-None.ensures.told) same.0 same.1

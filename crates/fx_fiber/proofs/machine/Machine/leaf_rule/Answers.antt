@@ -3,7 +3,7 @@ use Rattle.fx_term.specs.declared.node.NodeId.{NodeId}
 use Rattle.fx_term.specs.declared.node.Arg.{Arg}
 use Rattle.fx_term.specs.declared.node.Node.{Node}
 use Rattle.fx_term.specs.declared.node.Node.TheVariants as node
-use Rattle.fx_fiber.specs.Methods.{IsLeafNode, IsLocalLeaf}
+use Rattle.fx_fiber.specs.Leaves.{IsLeafNode, IsLocalLeaf}
 use Rattle.fx_fiber.proofs.Calls.{waits_call}
 use Rattle.fx_fiber.proofs.Leaves.{never_waits}
 use Rattle.fx_fiber.proofs.machine.Machine.leaf_rule.Goals as goal
@@ -37,7 +37,7 @@ local_rule-requires g c =
 pub returns-in-Never-clause-ok : goal.returns-in-Never-clause-ok
 returns-in-Never-clause-ok g c =
     let stands = rw c.in-Never.is at c.requires.at in
-    waits_call g.P.Port.calls g.P.Port.agrees g.P.Port.puts g.P.Port.code _ _ _ _ _ _ _
+    waits_call g.P.Port.calls g.P.Port.agrees g.P.Port.facts g.P.Port.code _ _ _ _ _ _ _
     (never_waits g.P.Port.code c.args.self.now c.args.id stands.at stands.free) tt refl
     refl
 
@@ -50,5 +50,5 @@ returns-in-Start-clause-ok g c =
       own = tt;
       told = (refl, refl);
       agreed = λ deeds k. rw append-nil k;
-      counted = refl;
+      facts_are = refl;
     }

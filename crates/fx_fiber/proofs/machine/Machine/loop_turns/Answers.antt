@@ -1,5 +1,5 @@
 use Rattle.std.proofs.Common.{refl}
-use Rattle.fx_fiber.specs.Methods.{IsSame}
+use Rattle.fx_fiber.specs.Places.{IsSame}
 use Rattle.fx_fiber.proofs.Loops.{turn_is_no_cede, turn_register_stays, turned_sound, turned_step}
 use Rattle.fx_fiber.proofs.Results.{on_any_error}
 use Rattle.fx_fiber.proofs.machine.Machine.loop_turns.Goals as goal

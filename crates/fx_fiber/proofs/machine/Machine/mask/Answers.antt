@@ -1,6 +1,6 @@
 use Rattle.std.proofs.Common.{refl}
 use Rattle.fx_term.specs.declared.node.Node.TheVariants as node
-use Rattle.fx_fiber.specs.Methods.{IsSame}
+use Rattle.fx_fiber.specs.Places.{IsSame}
 use Rattle.fx_fiber.proofs.Leaves.{leaf_is_no_cede, mask_reaches, mask_register_stays, mask_sound, mask_step}
 use Rattle.fx_fiber.proofs.Results.{on_any_error}
 use Rattle.fx_fiber.proofs.machine.Machine.mask.Goals as goal

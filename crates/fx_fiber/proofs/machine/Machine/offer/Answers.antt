@@ -18,7 +18,7 @@ returns-in-Done-clause-ok g c =
       own = tt;
       told = rw c.in-Done.is at c.in_ok-offer.ensures.told;
       agreed = rw c.in-Done.is at c.in_ok-offer.ensures.deed;
-      counted = rw c.in-Done.is at c.in_ok-offer.ensures.puts;
+      facts_are = rw c.in-Done.is at c.in_ok-offer.ensures.facts;
     }
 
 pub returns-in-Full-clause-ok : goal.returns-in-Full-clause-ok
@@ -28,7 +28,7 @@ returns-in-Full-clause-ok g c =
     let stands = c.requires.at.1 in
     let same = rw c.in-Full.is at c.in_ok-offer.ensures.full in
     let told = rw c.in-Full.is at c.in_ok-offer.ensures.told in
-    waits_call g.P.Port.calls g.P.Port.agrees g.P.Port.puts g.P.Port.code s s _ _ _ _ _
+    waits_call g.P.Port.calls g.P.Port.agrees g.P.Port.facts g.P.Port.code s s _ _ _ _ _
     (offer_waits g.P.Port.code s id c.args.queue c.args.value stands.at c.number_of-value.result c.number_of-value.ensures stands.free)
     (rw (offered_value g.P.Port.code s id c.args.queue c.args.value stands.at c.number_of-value.result c.number_of-value.ensures)
     (rw (same.0, same.1) at told)) same.0 same.1

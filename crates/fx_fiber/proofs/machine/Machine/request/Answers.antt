@@ -8,8 +8,8 @@ pub fiber_of-fiber-requires-clause-fits : goal.fiber_of-fiber-requires-clause-fi
 fiber_of-fiber-requires-clause-fits g c =
     request_fits g.P.Port.code c.args.self.now c.requires.at.0 c.args.slot c.requires.at.1.at c.requires.scoped
 
-pub returns-clause-made : goal.returns-clause-made
-returns-clause-made g c =
+pub returns : goal.returns
+returns g c =
     let stands = c.requires.at.1 in
     record {
       sound = request_sound g.P.Port.code c.args.self.now c.requires.at.0 c.args.slot stands.at c.fiber_of-fiber.result;
@@ -17,5 +17,5 @@ returns-clause-made g c =
       own = tt;
       told = c.request.ensures.told;
       agreed = c.request.ensures.deed;
-      counted = c.request.ensures.puts;
+      facts_are = c.request.ensures.facts;
     }

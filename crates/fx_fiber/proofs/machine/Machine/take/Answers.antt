@@ -4,8 +4,8 @@ use Rattle.fx_fiber.proofs.Calls.{waits_call}
 use Rattle.fx_fiber.proofs.QueueLeaves.{returned_sound, take_step, take_waits}
 use Rattle.fx_fiber.proofs.machine.Machine.take.Goals as goal
 
-pub returns-in-Some-clause-made : goal.returns-in-Some-clause-made
-returns-in-Some-clause-made g c =
+pub returns-in-Some : goal.returns-in-Some
+returns-in-Some g c =
     let s = c.args.self.now in
     let id = c.requires.at.0 in
     let stands = c.requires.at.1 in
@@ -15,14 +15,14 @@ returns-in-Some-clause-made g c =
       own = tt;
       told = c.in-Some.ensures.told;
       agreed = c.in-Some.ensures.deed;
-      counted = c.in-Some.ensures.puts;
+      facts_are = c.in-Some.ensures.facts;
     }
 
-pub returns-in-None-clause-made : goal.returns-in-None-clause-made
-returns-in-None-clause-made g c =
+pub returns-in-None : goal.returns-in-None
+returns-in-None g c =
     let s = c.args.self.now in
     let stands = c.requires.at.1 in
     let same = c.in-None.ensures.unchanged in
-    waits_call g.P.Port.calls g.P.Port.agrees g.P.Port.puts g.P.Port.code s s _ _ _ _ _
+    waits_call g.P.Port.calls g.P.Port.agrees g.P.Port.facts g.P.Port.code s s _ _ _ _ _
     (take_waits g.P.Port.code s c.requires.at.0 c.args.queue stands.at stands.free)
     (rw (same.0, same.1) at c.in-None.ensures.told) same.0 same.1

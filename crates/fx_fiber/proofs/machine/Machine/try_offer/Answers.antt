@@ -19,7 +19,7 @@ returns-in-Done-clause-ok g c =
       own = tt;
       told = rw c.in-Done.is at c.in_ok-offer.ensures.told;
       agreed = rw c.in-Done.is at c.in_ok-offer.ensures.deed;
-      counted = rw c.in-Done.is at c.in_ok-offer.ensures.puts;
+      facts_are = rw c.in-Done.is at c.in_ok-offer.ensures.facts;
     }
 
 pub returns-in-Full-clause-ok : goal.returns-in-Full-clause-ok
@@ -35,5 +35,5 @@ returns-in-Full-clause-ok g c =
           (sym (tried_value g.P.Port.code s id c.args.queue c.args.value stands.at c.number_of-value.result c.number_of-value.ensures))
           (rw c.in-Full.is at c.in_ok-offer.ensures.told);
       agreed = rw c.in-Full.is at c.in_ok-offer.ensures.deed;
-      counted = rw c.in-Full.is at c.in_ok-offer.ensures.puts;
+      facts_are = rw c.in-Full.is at c.in_ok-offer.ensures.facts;
     }

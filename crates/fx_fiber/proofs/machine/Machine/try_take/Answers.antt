@@ -21,7 +21,7 @@ returns-in-Some-clause-ok g c =
       own = tt;
       told = c.in-Some.ensures.told;
       agreed = c.in-Some.ensures.deed;
-      counted = c.in-Some.ensures.puts;
+      facts_are = c.in-Some.ensures.facts;
     }
 
 pub returns-in-None-clause-ok : goal.returns-in-None-clause-ok
@@ -34,5 +34,5 @@ returns-in-None-clause-ok g c =
       own = tt;
       told = c.in-None.ensures.told;
       agreed = c.in-None.ensures.empty;
-      counted = c.in-None.ensures.puts;
+      facts_are = c.in-None.ensures.facts;
     }

@@ -1,0 +1,33 @@
+-- Which call of the program the words after its name make.
+use Rattle.std.specs.Prelude.{ℕ, if◌then◌else◌, Option, Some, None, List, [], ◌∷◌, codes, bytes_eq, option_map}
+use Rattle.fx_command.specs.declared.call.Command.{Command}
+use Rattle.fx_command.specs.declared.call.Command.TheVariants.{Check, Replay, Trace}
+use Rattle.fx_command.specs.declared.call.Call.{Call}
+
+-- what is done with the script of this name, by the schedule of that name, if there is one
+pub record CallView : Type 0 where
+  pub command : Command
+  pub script : List ℕ
+  pub schedule : Option (List ℕ)
+
+abbrev pub view_call : Call → CallView
+view_call c = record { command = c.command; script = c.script.now; schedule = option_map (λ name. name.now) c.schedule }
+
+-- with the name of a script alone
+abbrev pub call_with_script : Command → List (List ℕ) → Option CallView
+call_with_script c (script ∷ []) = Some (record { command = c; script = script; schedule = None })
+call_with_script c names = None
+
+-- or with that of a schedule after it, which is no standard input
+abbrev pub call_with_names : Command → List (List ℕ) → Option CallView
+call_with_names c (script ∷ schedule ∷ []) =
+    if bytes_eq schedule (codes "-") then None else Some (record { command = c; script = script; schedule = Some schedule })
+call_with_names c names = call_with_script c names
+
+-- no words replay the script on standard input, and other words make no call
+abbrev pub call_of : List (List ℕ) → Option CallView
+call_of [] = Some (record { command = Replay; script = codes "-"; schedule = None })
+call_of (word ∷ names) =
+    if bytes_eq word (codes "check") then call_with_script Check names
+    else if bytes_eq word (codes "replay") then call_with_names Replay names
+    else if bytes_eq word (codes "trace") then call_with_names Trace names else None

@@ -1,0 +1,91 @@
+-- What the steps of a turn come to.
+use Rattle.std.proofs.Common.{◌≡◌, ◌∙◌, ◌<◌, ◌≤◌, ◌+◌, ℕ, Bool, true, false, List, Option, Some, refl, ap, sym, subst, arith}
+use Rattle.std.specs.Prelude.{option_and_then}
+use Rattle.std.proofs.Math.Numerals.{add-one}
+use Rattle.fx_term.specs.declared.node.Node.{Node}
+use Rattle.fx_term.specs.declared.event.Event.TheVariants as event
+use Rattle.fx_term.specs.Term.{Term}
+use Rattle.fx_model.specs.Row.{Label, Shows}
+use Rattle.fx_model.specs.Step.{Progress, leaf_at, has_ended}
+use Rattle.fx_model.specs.Waiting.{wait_at}
+use Rattle.fx_model.specs.declared.source.Source.{Source}
+use Rattle.fx_model.proofs.Ends.{ended_after, shows_end}
+use Rattle.fx_fiber.specs.Calls.{PortCalls}
+use Rattle.fx_fiber.specs.PortFacts.{Facts}
+use Rattle.fx_fiber.specs.Fiber.{FiberView, progress}
+use Rattle.fx_fiber.specs.MakesStep.{MakesStep, OnlyWaits, Answers}
+use Rattle.fx_fiber.specs.Turns.{Goes, Registers, Waited}
+use Rattle.fx_fiber.specs.declared.stepped.Stepped.TheVariants as stepped
+
+-- a label of a step that went on shows no end
+goes_on_with : (P S : Type 0) (nodes : List Node) (leaf : Option Term) (l : Label) → Answers {P = P} {S = S} nodes leaf l stepped.Went → shows_end l ≡ false
+goes_on_with P S nodes leaf (Shows (event.Ended o)) a = absurd (let no : stepped.Went ≡ stepped.Ended = a in cc)
+goes_on_with P S nodes leaf _ a = refl
+
+module _ {P S : Type 0} (calls : PortCalls P S) (facts : P → Facts) (nodes : List Node) where
+  -- a step that went on has not ended its fiber
+  goes_on : (f : FiberView P) (s : S) (g : FiberView P) (t : S) → MakesStep calls facts nodes f s stepped.Went g t
+      → has_ended (progress nodes g) ≡ false
+  goes_on f s g t made = ended_after made.step ∙ goes_on_with P S nodes _ made.label made.answers
+
+  -- a fiber that waits has not ended
+  still_waits : (f : FiberView P) (s : S) (wait : Source) (g : FiberView P) (t : S) → OnlyWaits calls nodes f s wait g t → has_ended (progress nodes f) ≡ false
+      → has_ended (progress nodes g) ≡ false
+  still_waits f s wait g t w on = rw w.unchanged.progress_is on
+
+  module _ (first : FiberView P) (shared : S) where
+    -- so many steps after the first place the turn goes on here: the fiber has not ended, and it is the one that it was
+    pub record Reached (n : ℕ) (registered : Bool) (f : FiberView P) (s : S) : Type 0 where
+      pub goes : Goes calls facts nodes first shared n registered f s
+      pub going : has_ended (progress nodes f) ≡ false
+      pub number_is : (facts f.port).number ≡ (facts first.port).number
+      pub beginning_is : (facts f.port).beginning ≡ (facts first.port).beginning
+
+    pub one_more : (n : ℕ) (b : Bool) (f g : FiberView P) (s t : S) → Reached n b f s → MakesStep calls facts nodes f s stepped.Went g t
+        → (facts g.port).number ≡ (facts f.port).number → (facts g.port).beginning ≡ (facts f.port).beginning → Reached (n + 1) false g t
+    one_more n b f g s t r made same begun = rw add-one (record {
+      goes = Goes.went r.goes made;
+      going = goes_on f s g t made;
+      number_is = same ∙ r.number_is;
+      beginning_is = begun ∙ r.beginning_is;
+    })
+
+    pub one_wait : (n : ℕ) (f g h : FiberView P) (s t u : S) (wait : Source) → Reached n false f s → OnlyWaits calls nodes f s wait g t
+        → Registers calls facts nodes g t wait h u → (facts h.port).number ≡ (facts f.port).number → (facts h.port).beginning ≡ (facts f.port).beginning
+        → Reached (n + 1) true h u
+    one_wait n f g h s t u wait r w k same begun = rw add-one (record {
+      goes = Goes.waited r.goes w k;
+      going = ap (λ (v : FiberView P). has_ended (progress nodes v)) k.same ∙ still_waits f s wait g t w r.going;
+      number_is = same ∙ r.number_is;
+      beginning_is = begun ∙ r.beginning_is;
+    })
+
+    -- a fiber that waits again after it was registered is registered for what it waits for
+    registered_for : {n : ℕ} {b : Bool} {f : FiberView P} {s : S} → Goes calls facts nodes first shared n b f s → b ≡ true
+        → (wait : Source) (g : FiberView P) (t : S) → OnlyWaits calls nodes f s wait g t → f.source ≡ Some wait
+    registered_for Goes.begins e wait g t again = absurd (let no : false ≡ true = e in cc)
+    registered_for (Goes.went r m) e wait g t again = absurd (let no : false ≡ true = e in cc)
+    registered_for (Goes.waited r w k) e wait g t again =
+        let same = ap (λ (v : FiberView P). option_and_then wait_at (leaf_at (progress nodes v))) k.same in
+        let stood = ap (λ (p : Progress). option_and_then wait_at (leaf_at p)) w.unchanged.progress_is in
+        ap (λ (v : FiberView P). v.source) k.same ∙ sym (same ∙ stood ∙ w.waits) ∙ again.waits
+
+    -- the fiber that waited and was registered, and waits again
+    pub waits_on : (n : ℕ) (f g : FiberView P) (s t : S) (wait : Source) → n < 64 → Reached n true f s → OnlyWaits calls nodes f s wait g t
+        → g.source ≡ f.source → Waited calls facts nodes first shared g t
+    waits_on n f g s t wait few r w e = record {
+      steps = n;
+      few = few;
+      before = f;
+      between = s;
+      goes = r.goes;
+      wait = wait;
+      last = w;
+      source = e ∙ registered_for r.goes refl wait g t w;
+    }
+
+    -- as many steps as a turn has
+    pub all_steps : (n : ℕ) (b : Bool) (f : FiberView P) (s : S) → 64 ≤ n → n ≤ 64 → Reached n b f s
+        → Goes calls facts nodes first shared 64 b f s
+    all_steps n b f s most least r =
+        let e : n ≡ 64 = omega arith in subst (λ (k : ℕ). Goes calls facts nodes first shared k b f s) e r.goes

@@ -1,0 +1,41 @@
+-- What a machine made: one rule of its place, or none where the fiber waits or is to start another.
+use Rattle.std.specs.Prelude.{◌≡◌, false, Some, option_and_then, List}
+use Rattle.fx_term.specs.declared.node.Node.{Node}
+use Rattle.fx_term.specs.Term.{Cede}
+use Rattle.fx_model.specs.Row.{Label, Silent, Shows, Learns}
+use Rattle.fx_model.specs.Step.{leaf_at, must_cancel_at, Step}
+use Rattle.fx_model.specs.declared.source.Source.{Source}
+use Rattle.fx_model.specs.Waiting.{wait_at}
+use Rattle.fx_fiber.specs.MakesStep.{is_yielding}
+use Rattle.fx_fiber.specs.declared.machine.made.Made.{Made}
+use Rattle.fx_fiber.specs.declared.machine.made.Made.TheVariants as made
+use Rattle.fx_fiber.specs.declared.machine.Machine.{Machine}
+use Rattle.fx_fiber.specs.Machine.{counts_of, progress_of}
+use Rattle.fx_fiber.specs.Sound.{IsSoundMachine}
+use Rattle.fx_fiber.specs.Made.{IsLocal}
+use Rattle.fx_fiber.specs.Places.{IsSame, StandsAtStart}
+
+-- one step of the rules, with this label
+abbrev pub Steps : List Node → Machine → Label → Machine → Type 0
+Steps nodes s label s' = Step (counts_of s) (progress_of nodes s) label (counts_of s') (progress_of nodes s')
+
+-- the fiber waits for this: at a leaf that waits for it, with no cancellation due, and come no further
+pub record WaitsFor (nodes : List Node) (s s' : Machine) (w : Source) : Type 0 where
+  pub leaf : option_and_then wait_at (leaf_at (progress_of nodes s)) ≡ Some w
+  pub free : must_cancel_at s.known (progress_of nodes s) ≡ false
+  pub same : IsSame nodes s s'
+
+-- what was made: no rule where the fiber waits, or where it is to start another; the rule of `cede`; or another rule
+abbrev pub Makes : List Node → Machine → Made → Machine → Type 0
+Makes nodes s (made.Waits w) s' = WaitsFor nodes s s' w
+Makes nodes s made.Yielded s' = (leaf_at (progress_of nodes s) ≡ Some Cede) × Steps nodes s Silent s'
+Makes nodes s made.Silent s' = (is_yielding (leaf_at (progress_of nodes s)) ≡ false) × Steps nodes s Silent s'
+Makes nodes s (made.Shows e) s' = Steps nodes s (Shows e) s'
+Makes nodes s (made.Learns f o e) s' = Steps nodes s (Learns f o e) s'
+Makes nodes s (made.Starts h a b) s' = StandsAtStart nodes s s' h a b
+
+-- a rule was made with no question to the port
+pub record MakesRule (nodes : List Node) (s : Machine) (m : Made) (s' : Machine) : Type 0 where
+  pub sound : IsSoundMachine nodes s'
+  pub rule : Makes nodes s m s'
+  pub is_local : IsLocal m

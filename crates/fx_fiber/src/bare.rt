@@ -1,0 +1,103 @@
+//! A fiber without its port.
+ghost use Rattle.std.specs.Prelude.{◌≡◌};
+
+use crate::fiber::body::Body;
+use crate::machine::focus::Focus;
+use fx_model::Closed;
+use fx_term::{Code, Event};
+use std::marker::Model;
+use std::snapshot::Snapshot;
+
+/// A fiber without its port, as [`Fiber::part`](crate::Fiber::part) leaves it. By its type its trace is
+/// that of a run of its code, which is known to proofs alone. It holds on to nothing that a port does.
+#[derive(Drop)]
+pub struct Bare {
+    body: Box<Body>,
+    code: Snapshot<Code>,
+}
+
+impl Model for Bare {
+    ghost use Rattle.fx_fiber.specs.Bare.{BareView, bare_at, HasOwnRun};
+    ghost use Rattle.fx_fiber.specs.Fiber.{is_fiber_number};
+    ghost use Rattle.fx_fiber.specs.Machine.{counts_of, progress_of};
+    ghost use Rattle.fx_fiber.specs.Sound.{IsSoundMachine};
+    ghost use Rattle.fx_model.specs.Scopes.{IsProgressScopedOver};
+
+    ghost Value = { BareView };
+
+    ghost view = { λ b.
+        bare_at b.code.value.nodes b.body.value.id b.body.value.trace.items b.body.value.machine };
+
+    ghost invariant = { λ b. IsSoundMachine b.code.value.nodes b.body.value.machine
+        × IsProgressScopedOver is_fiber_number
+        (progress_of b.code.value.nodes b.body.value.machine)
+        × HasOwnRun b.code.value.nodes b.body.value.trace.items (counts_of b.body.value.machine)
+        (progress_of b.code.value.nodes b.body.value.machine) };
+}
+
+impl Bare {
+    ghost use Rattle.fx_fiber.specs.Bare.{bare_at, HasOwnRun, reached};
+    ghost use Rattle.fx_fiber.specs.Fiber.{is_fiber_number};
+    ghost use Rattle.fx_fiber.specs.Machine.{counts_of, progress_of};
+    ghost use Rattle.fx_fiber.specs.Sound.{IsSoundMachine};
+    ghost use Rattle.fx_model.specs.Closed.{outside_of};
+    ghost use Rattle.fx_model.specs.Outside.{can_step};
+    ghost use Rattle.fx_model.specs.Scopes.{IsProgressScopedOver};
+    ghost use Rattle.fx_model.specs.Step.{has_ended};
+
+    /// The fiber of this code that has this beside its port.
+    pub(crate) fn new(body: Box<Body>, code: &Code) -> Bare
+        requires sound { IsSoundMachine code.now.nodes body.value.machine }
+        requires scoped { IsProgressScopedOver is_fiber_number
+            (progress_of code.now.nodes body.value.machine) }
+        requires run { HasOwnRun code.now.nodes body.value.trace.items
+            (counts_of body.value.machine) (progress_of code.now.nodes body.value.machine) }
+        ensures { result
+            ≡ bare_at code.now.nodes body.value.id body.value.trace.items body.value.machine }
+    {
+        Bare {
+            body,
+            code: Snapshot::of(code),
+        }
+    }
+
+    /// The fiber's number.
+    pub fn id(&self) -> u32
+        ensures { result ≡ self.now.id }
+    {
+        self.body.id
+    }
+
+    /// The events, the first one first.
+    pub fn trace(&self) -> &[Event]
+        ensures events { result.now ≡ self.now.trace }
+        ensures run { HasOwnRun self.now.nodes self.now.trace self.now.counts
+            (reached self.now) }
+    {
+        &self.body.trace
+    }
+
+    /// The events, the first one first, where the fiber is not needed any more.
+    pub fn into_trace(self) -> Vec<Event>
+        ensures { result.items ≡ self.trace }
+    {
+        Box::into_inner(self.body).trace
+    }
+
+    /// Whether the fiber has ended.
+    pub fn has_ended(&self) -> bool
+        ensures { result ≡ has_ended (reached self.now) }
+    {
+        matches!(self.body.machine.focus, Focus::Ended(_))
+    }
+
+    /// Whether the fiber can step where the outside is as a run left it, as
+    /// [`Fiber::can_step`](crate::Fiber::can_step) tells.
+    pub fn can_step(&self, code: &Code, closed: &Closed) -> bool
+        requires code { code.now.nodes ≡ self.now.nodes }
+        ensures { result ≡ can_step (outside_of closed.now) self.now.id self.now.counts
+            (reached self.now) }
+    {
+        self.body.machine.can_step(code, self.body.id, closed)
+    }
+}

@@ -1,0 +1,49 @@
+//! What a fiber has beside its port.
+ghost use Rattle.std.specs.Prelude.{IfOk};
+
+use crate::machine::Machine;
+use fx_model::Source;
+use fx_term::{Begin, Event, Memory};
+use std::alloc::Global;
+
+/// What a fiber has beside its port. No port is named here, so a child's is made before its port is.
+#[derive(Drop)]
+pub(crate) struct Body {
+    /// The fiber's number.
+    pub id: u32,
+    /// The events so far, the first one first.
+    pub trace: Vec<Event>,
+    /// Where the fiber stands.
+    pub machine: Machine,
+    /// What it last registered for, where it has not yielded since.
+    pub source: Option<Source>,
+}
+
+impl Body {
+    ghost use Rattle.std.specs.Prelude.{List};
+    ghost use Rattle.fx_term.specs.declared.node.Node.{Node};
+    ghost use Rattle.fx_fiber.specs.Sound.{IsSoundBegin};
+    ghost use Rattle.fx_fiber.specs.Body.{IsFirstBody};
+
+    /// That of a fiber with this number, which begins so, before its first step.
+    pub fn beginning(alloc: Global, id: u32, begin: &Begin) -> Result<Box<Body>, Memory>
+        ghost nodes: { List Node }
+        requires { IsSoundBegin nodes begin.now }
+        ensures { IfOk result (λ body. IsFirstBody nodes id begin.now body.value) }
+    {
+        let mut trace = Vec::new(alloc);
+        // A fiber has at least one event, its end.
+        trace.reserve(1)?;
+        let machine = Machine::beginning(alloc, begin)?;
+        let source = None;
+        Ok(Box::new(
+            alloc,
+            Body {
+                id,
+                trace,
+                machine,
+                source,
+            },
+        )?)
+    }
+}

@@ -1,0 +1,106 @@
+//! A turn of a fiber, as a future.
+ghost use Rattle.std.specs.Prelude.{◌≡◌, ⊤};
+ghost use Rattle.futures.specs.Poll.{IfReady, OnPending};
+ghost use Rattle.futures.specs.Task.{Covers, Keeps};
+ghost use Rattle.fx_fiber.specs.Turns.{Turns, come_to};
+ghost use Rattle.fx_fiber.specs.declared.turned.Turned.{Turned};
+
+use crate::fiber::Fiber;
+use crate::port::Port;
+use crate::stepped::Stepped;
+use crate::turned::Turned;
+use futures::Future;
+use futures::task::{Context, Poll};
+use fx_term::{Code, Memory};
+
+/// A turn of a fiber, as a future: one poll makes at most 64 steps. A pending poll has asked for the next
+/// one, also where the fiber waits: who has it wakes it, by its port. Whether it waits is told by
+/// [`Fiber::source`]: what it registered for, or none where it yields.
+#[derive(Drop)]
+pub struct Turn<'a, P: Port> {
+    fiber: &'a mut Fiber<P>,
+    code: &'a Code,
+    shared: &'a mut P::Shared,
+    ghost fits: { code.now.nodes ≡ P.code },
+}
+
+impl<'a, P: Port> Turn<'a, P> {
+    /// A turn of this fiber, over what its port shares.
+    pub fn new(fiber: &'a mut Fiber<P>, code: &'a Code, shared: &'a mut P::Shared) -> Turn<'a, P>
+        requires { code.now.nodes ≡ P.code }
+        ensures fiber { (result.fiber.ghost_name ≡ fiber.entry.ghost_name)
+            × (result.fiber.now ≡ fiber.entry.now) }
+        ensures shared { (result.shared.ghost_name ≡ shared.entry.ghost_name)
+            × (result.shared.now ≡ shared.entry.now) }
+    {
+        Turn {
+            fiber,
+            code,
+            shared,
+        }
+    }
+}
+
+impl<'a, P: Port> Future for Turn<'a, P> {
+    type Output = Turned<P>;
+
+    fn poll(&mut self, cx: &mut Context<'_>) -> Poll<Turned<P>>
+        ensures value { IfReady result (λ _. ⊤) }
+        ensures again { OnPending result ⊤ }
+        ensures same { OnPending result ((x : Turned P P.Shared) → ⊤ → ⊤) }
+        ensures registered { OnPending result (Covers cx.new (λ _. ⊥)) }
+        ensures kept { Keeps cx.old cx.new }
+        ensures same_fiber { (self.new.fiber.ghost_name ≡ self.old.fiber.ghost_name)
+            × (self.new.shared.ghost_name ≡ self.old.shared.ghost_name) }
+        ensures number { (P.facts self.new.fiber.now.port).number ≡ (P.facts self.old.fiber.now.port).number }
+        ensures beginning { (P.facts self.new.fiber.now.port).beginning
+            ≡ (P.facts self.old.fiber.now.port).beginning }
+        ensures turns { Turns P.calls P.facts P.code self.old.fiber.now
+            self.old.shared.now (come_to result) self.new.fiber.now self.new.shared.now }
+    {
+        match stepped(self.fiber, self.code, self.shared) {
+            Some(turned) => Poll::Ready(turned),
+            None => cx.yield_now(),
+        }
+    }
+}
+
+/// Steps the fiber until its turn has come to something, or until it waits, has given way or has gone on
+/// for long enough, which is none.
+fn stepped<P: Port>(fiber: &mut Fiber<P>, code: &Code, shared: &mut P::Shared) -> Option<Turned<P>>
+    requires { code.now.nodes ≡ P.code }
+    ensures number { (P.facts fiber.new.port).number ≡ (P.facts fiber.old.port).number }
+    ensures beginning { (P.facts fiber.new.port).beginning ≡ (P.facts fiber.old.port).beginning }
+    ensures turns { Turns P.calls P.facts P.code fiber.old shared.old result
+        fiber.new shared.new }
+{
+    if fiber.has_ended() {
+        return Some(Turned::Ended);
+    }
+    let mut is_registered = false;
+    for _ in 0..64u32 {
+        match fiber.step(code, shared) {
+            Err(Memory) => return Some(Turned::Memory),
+            Ok(Stepped::Child(child)) => return Some(Turned::Child(child)),
+            Ok(Stepped::Ended) => return Some(Turned::Ended),
+            Ok(Stepped::Gave) => {
+                fiber.yields();
+                return None;
+            }
+            Ok(Stepped::Went) => {
+                is_registered = false;
+                continue;
+            }
+            Ok(Stepped::Waits(source)) => {
+                if is_registered {
+                    return None;
+                }
+                fiber.wait_on(shared, source);
+                is_registered = true;
+                continue;
+            }
+        }
+    }
+    fiber.yields();
+    None
+}

@@ -1,0 +1,13 @@
+pub mod Places
+pub mod MarkLaws
+pub mod CountLaws
+pub mod PartRows
+pub mod SplitRows
+pub mod Gathers
+pub mod RowLaws
+pub mod Lefts
+pub mod WordsLaws
+pub mod PassesLaws
+pub mod RunLaws
+pub mod FirstLaws
+pub mod CallLaws

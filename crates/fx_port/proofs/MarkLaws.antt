@@ -1,0 +1,141 @@
+-- Marks, and the numbers that are marked.
+use Rattle.std.proofs.Common.{◌≡◌, ◌≢◌, ℕ, ◌+◌, ◌<◌, ◌≤◌, Bool, true, false, List, [], ◌∷◌, ◌++◌, ◌⊎◌}
+use Rattle.std.proofs.Common.{inl, inr, ⊎_elim, length, set, replicate, zero, suc, refl, sym, ◌∙◌, ap, subst, arith}
+use Rattle.std.proofs.lemmas.List.{get_or-set_same, get_or-set_other}
+use mathlib.Core.Logic.{dite}
+use native.Mathlib.Decide.{ℕ_discrete}
+use Rattle.fx_term.specs.Lists.{Among}
+use Rattle.fx_term.proofs.ListLaws.{Among-append_left, Among-append_right, Among-append}
+use Rattle.fx_queue.specs.WaitRing.{Apart}
+use Rattle.fx_port.specs.Marks.{is_marked, AreListed, KeepsMarks}
+
+no_mark : {P : Type 0} → false ≡ true → P
+no_mark e = let z : ⊥ = cc in absurd z
+
+pub unmarked : (n f : ℕ) → is_marked (replicate n false) f ≡ false
+unmarked zero f = refl
+unmarked (suc n) zero = refl
+unmarked (suc n) (suc f) = unmarked n f
+
+pub marked_within : (marks : List Bool) (f : ℕ) → is_marked marks f ≡ true → f < length marks
+marked_within [] f e = no_mark e
+marked_within (x ∷ marks) zero e = omega arith
+marked_within (x ∷ marks) (suc f) e = let k = marked_within marks f e in omega (arith, k)
+
+pub mark_there : (marks : List Bool) (f : ℕ) → f < length marks → is_marked (set marks f true) f ≡ true
+mark_there marks f lt = get_or-set_same marks f true false lt
+
+pub mark_stays : (marks : List Bool) (f : ℕ) → KeepsMarks marks (set marks f true)
+mark_stays marks f g m = dite (ℕ_discrete g f)
+    (λ e. ap (is_marked (set marks f true)) e ∙ mark_there marks f (subst (λ (k : ℕ). k < length marks) e (marked_within marks g m)))
+    (λ n. get_or-set_other marks f g true false n ∙ m)
+
+pub keeps : (marks marks' : List Bool) (f : ℕ) → marks' ≡ set marks f true → KeepsMarks marks marks'
+keeps marks marks' f e g m = ap (λ (l : List Bool). is_marked l g) e ∙ mark_stays marks f g m
+
+-- what is marked afterwards
+pub mark_cases : (marks : List Bool) (f g : ℕ) → is_marked (set marks f true) g ≡ true → (g ≡ f) ⊎ (is_marked marks g ≡ true)
+mark_cases marks f g m = dite (ℕ_discrete g f) inl (λ n. inr (sym (get_or-set_other marks f g true false n) ∙ m))
+
+-- a mark that was taken off is no more
+mark_gone : (marks : List Bool) (f g : ℕ) → is_marked marks f ≡ true → is_marked (set marks f false) g ≡ true → g ≢ f
+mark_gone marks f g there m e = no_mark (sym (get_or-set_same marks f false false (marked_within marks f there))
+    ∙ (ap (is_marked (set marks f false)) (sym e) ∙ m))
+
+apart_more : (l : List ℕ) (x : ℕ) → Apart l → (Among x l → ⊥) → Apart (l ++ x ∷ [])
+apart_more [] x a n = ((λ i. i), tt)
+apart_more (y ∷ l) x a n = (
+  (λ i. ⊎_elim a.0 (λ j. ⊎_elim (λ e. n (inl (sym e))) (λ z. z) j) (Among-append l (x ∷ []) y i)),
+  apart_more l x a.1 (λ i. n (inr i)),
+)
+
+apart_last : (l : List ℕ) (x : ℕ) → Apart (l ++ x ∷ []) → Apart l × (Among x l → ⊥)
+apart_last [] x a = (tt, λ i. i)
+apart_last (y ∷ l) x a = let r = apart_last l x a.1 in (
+  ((λ i. a.0 (Among-append_left l (x ∷ []) y i)), r.0),
+  (λ i. ⊎_elim (λ e. a.0 (Among-append_right l (x ∷ []) y (inl (sym e)))) r.1 i),
+)
+
+pub none_listed : (n : ℕ) → AreListed (replicate n false) []
+none_listed n = record {
+  marked = λ f i. absurd i;
+  listed = λ f m. no_mark (sym (unmarked n f) ∙ m);
+  apart = tt;
+}
+
+pub one_more : (marks : List Bool) (numbers : List ℕ) (f : ℕ) → f < length marks → is_marked marks f ≡ false → AreListed marks numbers
+    → AreListed (set marks f true) (numbers ++ f ∷ [])
+one_more marks numbers f lt new h = record {
+  marked = λ g i. ⊎_elim (λ j. mark_stays marks f g (h.marked g j))
+      (λ j. ⊎_elim (λ e. ap (is_marked (set marks f true)) e ∙ mark_there marks f lt) absurd j) (Among-append numbers (f ∷ []) g i);
+  listed = λ g m. ⊎_elim (λ e. Among-append_right numbers (f ∷ []) g (inl e)) (λ w. Among-append_left numbers (f ∷ []) g (h.listed g w))
+      (mark_cases marks f g m);
+  apart = apart_more numbers f h.apart (λ i. no_mark (sym new ∙ h.marked f i));
+}
+
+module _ (marks : List Bool) (numbers rest : List ℕ) (f : ℕ) (is : numbers ≡ rest ++ f ∷ []) (h : AreListed marks numbers) where
+  pub last_marked : is_marked marks f ≡ true
+  last_marked = h.marked f (subst (Among f) (sym is) (Among-append_right rest (f ∷ []) f (inl refl)))
+
+  apart : Apart rest × (Among f rest → ⊥)
+  apart = apart_last rest f (subst Apart is h.apart)
+
+  pub one_less : AreListed (set marks f false) rest
+  one_less = record {
+    marked = λ g i. get_or-set_other marks f g false false (λ e. apart.1 (subst (λ (k : ℕ). Among k rest) e i))
+        ∙ h.marked g (subst (Among g) (sym is) (Among-append_left rest (f ∷ []) g i));
+    listed = λ g m. let n : g ≢ f = mark_gone marks f g last_marked m in
+        ⊎_elim (λ i. i) (λ j. ⊎_elim (λ e. absurd (n e)) absurd j)
+        (Among-append rest (f ∷ []) g (subst (Among g) is (h.listed g (sym (get_or-set_other marks f g false false n) ∙ m))));
+    apart = apart.0;
+  }
+
+pub none_marked : (marks : List Bool) → AreListed marks [] → (f : ℕ) → is_marked marks f ≡ false
+none_marked marks h f = by_mark (is_marked marks f) refl
+  where
+    by_mark : (b : Bool) → is_marked marks f ≡ b → b ≡ false
+    by_mark false e = refl
+    by_mark true e = absurd (h.listed f e)
+
+-- how many are marked
+abbrev marks_in : List Bool → ℕ
+marks_in [] = 0
+marks_in (true ∷ marks) = suc (marks_in marks)
+marks_in (false ∷ marks) = marks_in marks
+
+marks_fit : (marks : List Bool) → marks_in marks ≤ length marks
+marks_fit [] = omega arith
+marks_fit (true ∷ marks) = let k = marks_fit marks in omega (arith, k)
+marks_fit (false ∷ marks) = let k = marks_fit marks in omega (arith, k)
+
+marks_after : (marks : List Bool) (f : ℕ) → is_marked marks f ≡ true → marks_in marks ≡ marks_in (set marks f false) + 1
+marks_after [] f e = no_mark e
+marks_after (true ∷ marks) zero e = omega arith
+marks_after (false ∷ marks) zero e = no_mark e
+marks_after (true ∷ marks) (suc f) e = let k = marks_after marks f e in omega (arith, k)
+marks_after (false ∷ marks) (suc f) e = marks_after marks f e
+
+marks_miss : (marks : List Bool) (f : ℕ) → f < length marks → is_marked marks f ≡ false → marks_in marks < length marks
+marks_miss [] f lt e = absurd (omega (arith, lt))
+marks_miss (true ∷ marks) zero lt e = no_mark (sym e)
+marks_miss (false ∷ marks) zero lt e = let k = marks_fit marks in omega (arith, k)
+marks_miss (true ∷ marks) (suc f) lt e = let k = marks_miss marks f (omega (arith, lt)) e in omega (arith, k)
+marks_miss (false ∷ marks) (suc f) lt e = let k = marks_miss marks f (omega (arith, lt)) e in omega (arith, k)
+
+listed_few : (marks : List Bool) (numbers : List ℕ) → ((g : ℕ) → Among g numbers → is_marked marks g ≡ true) → Apart numbers
+    → length numbers ≤ marks_in marks
+listed_few marks [] h a = omega arith
+listed_few marks (x ∷ numbers) h a =
+    let rest : (g : ℕ) → Among g numbers → is_marked (set marks x false) g ≡ true =
+    λ g i. get_or-set_other marks x g false false (λ e. a.0 (subst (λ (k : ℕ). Among k numbers) e i)) ∙ h g (inr i) in
+    let k = listed_few (set marks x false) numbers rest a.1 in
+    let c = marks_after marks x (h x (inl refl)) in
+    omega (arith, k, c)
+
+-- where a number is not marked, not all are listed
+pub has_room : (marks : List Bool) (numbers : List ℕ) (f : ℕ) → f < length marks → is_marked marks f ≡ false → AreListed marks numbers
+    → length numbers < length marks
+has_room marks numbers f lt new h =
+    let k = listed_few marks numbers h.marked h.apart in
+    let m = marks_miss marks f lt new in
+    omega (arith, k, m)

@@ -1,0 +1,17 @@
+use Rattle.std.proofs.Common.{◌≡◌, ◌∙◌, ℕ, [], false, replicate, sym, ap, subst}
+use Rattle.fx_word.specs.Words.{WordsId}
+use Rattle.fx_port.specs.PortView.{PortView, first_port}
+use Rattle.fx_port.specs.ThreadCalls.{ThreadAgrees}
+use Rattle.fx_port.proofs.FirstLaws.{first_puts, first_agrees}
+use Rattle.fx_port.proofs.thread_port.ThreadPort.new.Goals as goal
+
+pub returns-clause-puts : goal.returns-clause-puts
+returns-clause-puts g c = first_puts _ _ c.args.passes c.requires.passes
+
+pub returns-clause-fresh : goal.returns-clause-fresh
+returns-clause-fresh g c =
+    let marks = c.in_ok-noted.ensures ∙ ap (λ (n : ℕ). replicate n false) (c.fibers.ensures ∙ ap (λ (w : WordsId). w.fibers) c.requires.words.0) in
+    let made : first_port g.N.RunBrand.words.fibers c.args.passes
+    ≡ record { words = c.args.seat.view; passes = c.args.passes; noted = c.in_ok-noted.noted } =
+    λ i. record { words = sym c.requires.seat.1 i; passes = c.args.passes; noted = sym marks i } in
+    subst (λ (u : PortView). ThreadAgrees u []) made (first_agrees _ _ c.args.passes c.requires.passes)

@@ -1,0 +1,38 @@
+use Rattle.std.proofs.Common.{◌∙◌, suc, sym, ap, refl}
+use Rattle.fx_fiber.specs.Deed.{Put, FoundFull}
+use Rattle.fx_port.specs.Rows.{puts_in}
+use Rattle.fx_port.specs.PortView.{PortView, facts_of}
+use Rattle.fx_port.specs.ThreadCalls.{with_passes}
+use Rattle.fx_port.proofs.RunLaws.{whose, put_one}
+use Rattle.fx_port.proofs.CallLaws.{by_deed, puts, finds_full, count_put}
+use Rattle.fx_port.proofs.thread_port.ThreadPortPort.offer.Goals as goal
+
+pub offer-requires-clause-fiber : goal.offer-requires-clause-fiber
+offer-requires-clause-fiber g c q s at =
+    let p : PortView = record { words = c.self.inside.seat.view; passes = c.self.inside.passes; noted = c.self.inside.noted } in
+    whose _ _ _ p c.self.invariant.3 q s at ∙ sym c.id-fiber.ensures
+
+pub invariant_of-self : goal.invariant_of-self
+invariant_of-self g c =
+    let p : PortView = record { words = c.self.inside.seat.view; passes = c.self.inside.passes; noted = c.self.inside.noted } in
+    let inv = c.self.invariant in
+    (inv.0, inv.1, inv.2, put_one _ _ _ p inv.3 c.args.queue c.args.value c.offer.new.self c.in-Done.ensures)
+
+pub returns-in-Done-clause-facts : goal.returns-in-Done-clause-facts
+returns-in-Done-clause-facts g c =
+    let p : PortView = record { words = c.self.inside.seat.view; passes = c.self.inside.passes; noted = c.self.inside.noted } in
+    let counted = count_put _ _ _ _ c.in-Done.ensures in
+    (λ i. record (facts_of g.N.RunBrand.nodes p) { puts = counted i })
+    ∙ ap (λ (u : PortView). record (facts_of g.N.RunBrand.nodes u) { puts = suc (puts_in u.passes) }) c.self.view_is
+
+pub returns-in-Done-clause-deed : goal.returns-in-Done-clause-deed
+returns-in-Done-clause-deed g c =
+    let p : PortView = record { words = c.self.inside.seat.view; passes = c.self.inside.passes; noted = c.self.inside.noted } in
+    by_deed p _ (with_passes p c.offer.new.self) _ (Put c.args.queue c.args.value) c.self.view_is refl
+    (puts p (whose _ _ _ p c.self.invariant.3) c.args.queue c.args.value c.offer.new.self c.in-Done.ensures)
+
+pub returns-in-Full-clause-deed : goal.returns-in-Full-clause-deed
+returns-in-Full-clause-deed g c =
+    let p : PortView = record { words = c.self.inside.seat.view; passes = c.self.inside.passes; noted = c.self.inside.noted } in
+    by_deed p _ p _ (FoundFull c.args.queue) c.self.view_is (ap (with_passes p) c.in-Full.ensures.1)
+    (finds_full p c.args.queue c.in-Full.ensures.0)

@@ -1,0 +1,22 @@
+-- Marks of numbers, and numbers that are listed each once.
+use Rattle.std.specs.Prelude.{◌≡◌, ℕ, Bool, true, false, List, Option, Some, None, slice_index_or, slice_set}
+use Rattle.fx_term.specs.Lists.{Among}
+use Rattle.fx_queue.specs.WaitRing.{Apart}
+
+abbrev pub is_marked : List Bool → ℕ → Bool
+is_marked marks f = slice_index_or marks f false
+
+-- the numbers are those that are marked, each once
+pub record AreListed (marks : List Bool) (numbers : List ℕ) : Type 0 where
+  pub marked : (f : ℕ) → Among f numbers → is_marked marks f ≡ true
+  pub listed : (f : ℕ) → is_marked marks f ≡ true → Among f numbers
+  pub apart : Apart numbers
+
+-- a number that was marked still is
+abbrev pub KeepsMarks : List Bool → List Bool → Type 0
+KeepsMarks marks marks' = (f : ℕ) → is_marked marks f ≡ true → is_marked marks' f ≡ true
+
+-- a number that was marked is taken out, and the others stay; none, where none was marked
+abbrev pub TakesMark : List Bool → Option ℕ → List Bool → Type 0
+TakesMark marks (Some f) marks' = (is_marked marks f ≡ true) × (marks' ≡ slice_set marks f false)
+TakesMark marks None marks' = ((f : ℕ) → is_marked marks f ≡ false) × (marks' ≡ marks)

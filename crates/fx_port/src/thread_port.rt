@@ -1,0 +1,238 @@
+//! The port of a fiber on threads.
+ghost use Rattle.std.specs.Prelude.{◌≡◌, ◌<◌, [], length, IfOk};
+ghost use Rattle.fx_word.specs.SeatView.{first_view};
+ghost use Rattle.fx_word.specs.Words.{IsOf};
+ghost use Rattle.fx_port.specs.Rows.{AreFirst, IsRowOf, puts_in};
+ghost use Rattle.fx_port.specs.PortView.{first_port};
+ghost use Rattle.fx_port.specs.ThreadCalls.{ThreadAgrees};
+
+use crate::marks::Marks;
+use crate::notes::Notes;
+use crate::passes::Passes;
+use crate::run_brand::RunBrand;
+use crate::sources::Sources;
+use crate::waiting::{leave, wait, wake_at};
+use fx_fiber::{Port, Source};
+use fx_queue::{FiberQueue, Side};
+use fx_term::{Begin, Memory, Offered, Outcome};
+use fx_word::{WordSeat, Words};
+use std::alloc::Global;
+use std::marker::{Model, PhantomData};
+use std::sync::Wait;
+
+/// The port of a fiber on threads: its seat of the words, its pass of each queue, and the numbers that
+/// were requested from outside through it. By its type it is one of a run over these words and queues,
+/// and has noted no number but such as may be named from outside.
+#[derive(Drop)]
+pub struct ThreadPort<'a, R: Wait, N: RunBrand> {
+    rt: &'a R,
+    alloc: Global,
+    words: &'a Words,
+    queues: &'a [FiberQueue],
+    sources: &'a Sources,
+    seat: WordSeat,
+    passes: Passes,
+    noted: Marks,
+    /// What the fiber last registered for, and has not come by since.
+    waited: Option<Source>,
+    of: PhantomData<N>,
+}
+
+impl<'a, R: Wait, N: RunBrand> Model for ThreadPort<'a, R, N> {
+    ghost use Rattle.std.specs.Prelude.{◌≡◌};
+    ghost use Rattle.fx_port.specs.PortView.{PortView, IsOfRun};
+
+    ghost Value = { PortView };
+
+    ghost view = { λ p. record { words = p.seat.view; passes = p.passes; noted = p.noted } };
+
+    ghost invariant = { λ p. (p.words.now ≡ N.words) × (p.queues.now ≡ N.queues)
+        × (p.seat.table ≡ N.words.table) × IsOfRun N.words N.queues N.may
+        (record { words = p.seat.view; passes = p.passes; noted = p.noted }) };
+}
+
+impl<'a, R: Wait, N: RunBrand> ThreadPort<'a, R, N> {
+    /// The port of the main fiber.
+    pub fn new(
+        rt: &'a R,
+        alloc: Global,
+        words: &'a Words,
+        queues: &'a [FiberQueue],
+        sources: &'a Sources,
+        seat: WordSeat,
+        passes: Passes,
+    ) -> Result<ThreadPort<'a, R, N>, Memory>
+        requires words { (words.now ≡ N.words) × (0 < N.words.fibers) }
+        requires queues { queues.now ≡ N.queues }
+        requires seat { IsOf seat N.words × (seat.view ≡ first_view N.words.fibers) }
+        requires passes { AreFirst N.words.fibers N.queues passes }
+        ensures is { IfOk result (λ port. port ≡ first_port N.words.fibers passes) }
+        ensures puts { IfOk result (λ port. puts_in port.passes ≡ 0) }
+        ensures fresh { IfOk result (λ port. ThreadAgrees port []) }
+    {
+        let noted = Marks::new(alloc, words.fibers())?;
+        Ok(ThreadPort {
+            rt,
+            alloc,
+            words,
+            queues,
+            sources,
+            seat,
+            passes,
+            noted,
+            waited: None,
+            of: PhantomData,
+        })
+    }
+
+    /// The seat, the passes, and the numbers that were requested from outside.
+    pub fn into_parts(self) -> (WordSeat, Passes, Marks)
+        ensures seat { IsOf result.0 N.words × (result.0.view ≡ self.entry.words) }
+        ensures passes { (result.1 ≡ self.entry.passes) × IsRowOf N.queues result.1 }
+        ensures noted { result.2 ≡ self.entry.noted }
+    {
+        (self.seat, self.passes, self.noted)
+    }
+}
+
+impl<'a, R: Wait, N: RunBrand> Port for ThreadPort<'a, R, N> {
+    ghost use Rattle.fx_port.specs.PortView.{facts_of};
+    ghost use Rattle.fx_port.specs.ThreadCalls.{ThreadAgrees, thread_calls};
+
+    type Shared = Notes<N>;
+
+    ghost code = { N.nodes };
+
+    ghost total = { N.words.fibers };
+
+    ghost facts = { facts_of N.nodes };
+
+    ghost agrees = { ThreadAgrees };
+
+    ghost may = { N.may };
+
+    ghost calls = { thread_calls N.words.fibers };
+
+    fn look(&mut self, notes: &mut Notes<N>) -> bool {
+        let found = self.words.look(&mut self.seat);
+        if found {
+            let fiber = self.seat.id();
+            let waited = self.waited.take();
+            leave(
+                self.rt,
+                self.queues,
+                self.sources,
+                fiber,
+                waited,
+                None,
+                notes,
+            );
+            return true;
+        }
+        false
+    }
+
+    fn request(&mut self, notes: &mut Notes<N>, id: u32) {
+        if id < self.words.fibers() {
+            self.words.request(&mut self.seat, id);
+            notes.wake(id);
+        }
+    }
+
+    fn peek(&mut self, notes: &mut Notes<N>, id: u32) -> Option<Outcome> {
+        if id >= self.words.fibers() {
+            return None;
+        }
+        match self.words.peek(&mut self.seat, id) {
+            Some(outcome) => {
+                let fiber = self.seat.id();
+                let waited = self.waited.take();
+                leave(
+                    self.rt,
+                    self.queues,
+                    self.sources,
+                    fiber,
+                    waited,
+                    None,
+                    notes,
+                );
+                Some(outcome)
+            }
+            None => None,
+        }
+    }
+
+    fn offer(&mut self, notes: &mut Notes<N>, queue: u8, value: u64) -> Result<Offered, Memory> {
+        let (rt, queues, fiber) = (self.rt, self.queues, self.seat.id());
+        match self.passes.offer(rt, queues, queue, fiber, value) {
+            Offered::Done => {
+                let waited = self.waited.take();
+                let met = Some(Source::Room(queue));
+                leave(rt, queues, self.sources, fiber, waited, met, notes);
+                wake_at(rt, queues, queue, Side::Element, notes);
+                Ok(Offered::Done)
+            }
+            Offered::Full => Ok(Offered::Full),
+        }
+    }
+
+    fn take(&mut self, notes: &mut Notes<N>, queue: u8) -> Option<u64> {
+        let (rt, queues, fiber) = (self.rt, self.queues, self.seat.id());
+        match self.passes.take(rt, queues, queue) {
+            Some(value) => {
+                let waited = self.waited.take();
+                let met = Some(Source::Element(queue));
+                leave(rt, queues, self.sources, fiber, waited, met, notes);
+                wake_at(rt, queues, queue, Side::Room, notes);
+                Some(value)
+            }
+            None => None,
+        }
+    }
+
+    fn start(
+        &mut self,
+        _notes: &mut Notes<N>,
+        id: u32,
+        begin: &Begin,
+    ) -> Result<ThreadPort<'a, R, N>, Memory> {
+        // both have room before anything is split
+        let noted = Marks::new(self.alloc, self.words.fibers())?;
+        let passes = self.passes.split(self.alloc, self.queues, id, begin.end)?;
+        let seat = self.words.split(&mut self.seat, id, begin);
+        Ok(ThreadPort {
+            rt: self.rt,
+            alloc: self.alloc,
+            words: self.words,
+            queues: self.queues,
+            sources: self.sources,
+            seat,
+            passes,
+            noted,
+            waited: None,
+            of: PhantomData,
+        })
+    }
+
+    fn finish(&mut self, notes: &mut Notes<N>, outcome: Outcome) {
+        self.words.finish(&mut self.seat, outcome);
+        self.sources.wake(self.rt, self.seat.id(), notes);
+    }
+
+    fn outside(&mut self, notes: &mut Notes<N>, id: u32) {
+        if id < self.words.fibers() {
+            self.words.request(&mut self.seat, id);
+            self.noted.mark(id);
+            notes.wake(id);
+        }
+    }
+
+    fn wait_on(&mut self, _notes: &mut Notes<N>, source: Source) {
+        wait(self.rt, self.queues, self.sources, self.seat.id(), source);
+        self.waited = Some(source);
+    }
+
+    fn woken(notes: &mut Notes<N>) -> Option<u32> {
+        notes.take()
+    }
+}

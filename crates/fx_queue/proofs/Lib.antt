@@ -1,0 +1,9 @@
+pub mod Histories
+pub mod Views
+pub mod Opens
+pub mod Splits
+pub mod Acts
+pub mod Joins
+pub mod Closes
+pub mod WaitRings
+pub mod Counts

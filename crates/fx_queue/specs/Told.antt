@@ -1,0 +1,51 @@
+-- What a step tells the pass that makes it.
+use Rattle.std.specs.Prelude.{◌≡◌, ◌≢◌, ℕ, ◌<◌, List, [], ◌∷◌, ◌++◌, length}
+use Rattle.fx_term.specs.Lists.{Among}
+use Rattle.fx_term.specs.Queue.{cut, puts, Leaves}
+use Rattle.fx_term.specs.declared.item.Item.{Item}
+use Rattle.fx_term.specs.declared.queue_event.QueueEvent.{QueueEvent}
+use Rattle.fx_term.specs.declared.queue_event.QueueEvent.TheVariants.{Put, Got}
+use Rattle.fx_queue.specs.declared.entry.Entry.{Entry}
+use Rattle.fx_queue.specs.declared.pass_view.PassView.{PassView}
+use Rattle.fx_queue.specs.History.{item, Begins}
+use Rattle.fx_queue.specs.PassView.{In, with_act, IsWhole, IsOnlyOf}
+
+-- what a pass knows of the history at one moment, with these items in the queue
+pub record Tells (v : PassView) (log : List QueueEvent) (items : List Item) : Type 0 where
+  pub legal : Leaves v.cap log items
+  pub begins : (e : Entry) → In e v → Begins log e.seen
+  pub cuts : (e : Entry) → In e v → cut e.id log ≡ e.acts
+  pub aware : (e : Entry) → In e v → cut e.id e.seen ≡ e.acts
+  pub apart : (e : Entry) → Among e v.taken → e.id ≢ v.own.id
+  pub only : IsWhole v → IsOnlyOf v log
+
+-- a history stands behind these items: it is legal, begins with all that the pass has seen, and has of its fibers their events and no other;
+-- of a pass that is the first and has taken in all, it has the events of these fibers alone
+abbrev pub stands : PassView → List Item → Type 0
+stands v items = (log : List QueueEvent) × Tells v log items
+
+-- after the history `log`, and with room, the value was put; the pass has now seen this history and its own put
+pub record DidPut (v : PassView) (value : ℕ) (w : PassView) : Type 0 where
+  pub log : List QueueEvent
+  pub items : List Item
+  pub before : Tells v log items
+  pub room : length items < v.cap
+  pub after : Leaves v.cap (log ++ Put v.own.id value ∷ []) (items ++ item v.own.id (puts v.own.acts) value ∷ [])
+  pub is : w ≡ with_act v log (Put v.own.id value)
+
+-- after the history `log` the item was the front and was taken
+pub record DidGet (v : PassView) (x : Item) (w : PassView) : Type 0 where
+  pub log : List QueueEvent
+  pub items : List Item
+  pub before : Tells v log (x ∷ items)
+  pub after : Leaves v.cap (log ++ Got v.own.id x.value ∷ []) items
+  pub is : w ≡ with_act v log (Got v.own.id x.value)
+
+-- these are what is left after a legal history of the fibers of this pass alone, which has the events of each as its pass had them, and begins with
+-- all that each had seen
+pub record IsRest (v : PassView) (items : List Item) : Type 0 where
+  pub log : List QueueEvent
+  pub legal : Leaves v.cap log items
+  pub begins : (e : Entry) → In e v → Begins log e.seen
+  pub cuts : (e : Entry) → In e v → cut e.id log ≡ e.acts
+  pub only : IsOnlyOf v log

@@ -1,0 +1,146 @@
+//! Two fibers put and two take, each on a thread of its own.
+ghost use Rattle.std.specs.Prelude.{◌≡◌, []};
+ghost use Rattle.fx_queue.specs.Queues.{IsOf, IsSameFiber};
+
+use super::putting::{Tally, put};
+use fx_queue::{FiberQueue, QueuePass};
+use fx_term::Item;
+use std::sync::Wait;
+use std::test::Fail;
+use std::thread;
+use std::thread::Threads;
+
+const CALLS: u64 = 4000;
+
+/// Takes in so many calls.
+fn take<R: Wait>(rt: &R, queue: &FiberQueue, mut pass: QueuePass) -> Tally
+    requires queue { IsOf pass queue.now }
+    ensures { IsSameFiber pass result.pass }
+{
+    let mut count = 0u64;
+    let mut sum = 0u64;
+    'taking: for _call in 0..CALLS {
+        match queue.take_as(rt, &mut pass) {
+            Some(item) => {
+                sum = sum.wrapping_add(item.value);
+                count = count.wrapping_add(1);
+            }
+            None => {}
+        }
+    }
+    Tally { pass, count, sum }
+}
+
+fn put_both<R: Threads + Wait + Sync>(
+    rt: &R,
+    queue: &FiberQueue,
+    one: QueuePass,
+    two: QueuePass,
+) -> (Tally, Tally)
+    requires queue { IsOf one queue.now × IsOf two queue.now }
+    requires one { (one.view.own.id ≡ 1) × (one.view.own.acts ≡ []) }
+    requires two { (two.view.own.id ≡ 2) × (two.view.own.acts ≡ []) }
+    ensures { IsSameFiber one result.0.pass × IsSameFiber two result.1.pass }
+{
+    thread::join(
+        rt,
+        move || -> Tally
+            requires { IsOf one queue.now × (one.view.own.id ≡ 1) × (one.view.own.acts ≡ []) }
+            ensures { IsSameFiber one result.pass }
+        { put(rt, queue, one, 1, 0..CALLS) },
+        move || -> Tally
+            requires { IsOf two queue.now × (two.view.own.id ≡ 2) × (two.view.own.acts ≡ []) }
+            ensures { IsSameFiber two result.pass }
+        { put(rt, queue, two, 2, 0..CALLS) },
+    )
+}
+
+fn take_both<R: Threads + Wait + Sync>(
+    rt: &R,
+    queue: &FiberQueue,
+    three: QueuePass,
+    four: QueuePass,
+) -> (Tally, Tally)
+    requires { IsOf three queue.now × IsOf four queue.now }
+    ensures { IsSameFiber three result.0.pass × IsSameFiber four result.1.pass }
+{
+    thread::join(
+        rt,
+        move || -> Tally
+            requires { IsOf three queue.now }
+            ensures { IsSameFiber three result.pass }
+        { take(rt, queue, three) },
+        move || -> Tally
+            requires { IsOf four queue.now }
+            ensures { IsSameFiber four result.pass }
+        { take(rt, queue, four) },
+    )
+}
+
+fn exchange<R: Threads + Wait + Sync>(
+    rt: &R,
+    queue: &FiberQueue,
+    putters: (QueuePass, QueuePass),
+    takers: (QueuePass, QueuePass),
+) -> ((Tally, Tally), (Tally, Tally))
+    requires queue { IsOf putters.0 queue.now × IsOf putters.1 queue.now
+        × IsOf takers.0 queue.now × IsOf takers.1 queue.now }
+    requires one { (putters.0.view.own.id ≡ 1) × (putters.0.view.own.acts ≡ []) }
+    requires two { (putters.1.view.own.id ≡ 2) × (putters.1.view.own.acts ≡ []) }
+    ensures { IsSameFiber putters.0 result.0.0.pass × IsSameFiber putters.1 result.0.1.pass
+        × IsSameFiber takers.0 result.1.0.pass × IsSameFiber takers.1 result.1.1.pass }
+{
+    let (one, two) = putters;
+    let (three, four) = takers;
+    thread::join(
+        rt,
+        move || -> (Tally, Tally)
+            requires { IsOf one queue.now × IsOf two queue.now
+                × (one.view.own.id ≡ 1) × (one.view.own.acts ≡ [])
+                × (two.view.own.id ≡ 2) × (two.view.own.acts ≡ []) }
+            ensures { IsSameFiber one result.0.pass × IsSameFiber two result.1.pass }
+        { put_both(rt, queue, one, two) },
+        move || -> (Tally, Tally)
+            requires { IsOf three queue.now × IsOf four queue.now }
+            ensures { IsSameFiber three result.0.pass × IsSameFiber four result.1.pass }
+        { take_both(rt, queue, three, four) },
+    )
+}
+
+fn sum_of(items: &[Item]) -> u64 {
+    let mut sum = 0u64;
+    'adding: for item in items {
+        sum = sum.wrapping_add(item.value);
+    }
+    sum
+}
+
+/// What was put was taken, or is left. The first eight offers find room, whoever runs when.
+#[test]
+fn nothing_is_lost_and_nothing_comes_twice(rt: HostRuntime) -> Result<(), Fail> {
+    let (queue, mut main) = FiberQueue::new(rt.alloc(), 8, 5)?;
+    let one = queue.pass(&mut main, 1, 2);
+    let two = queue.pass(&mut main, 2, 3);
+    let three = queue.pass(&mut main, 3, 4);
+    let four = queue.pass(&mut main, 4, 5);
+    let (putters, takers) = exchange(&rt, &queue, (one, two), (three, four));
+    let (one, two) = putters;
+    let (three, four) = takers;
+    queue.gather(&mut main, one.pass);
+    queue.gather(&mut main, two.pass);
+    queue.gather(&mut main, three.pass);
+    queue.gather(&mut main, four.pass);
+    let rest = queue.close(&rt, main)?;
+    let put = (
+        one.count.wrapping_add(two.count),
+        one.sum.wrapping_add(two.sum),
+    );
+    let taken = three.count.wrapping_add(four.count);
+    let sum = three.sum.wrapping_add(four.sum);
+    let all = (
+        taken.wrapping_add(rest.len() as u64),
+        sum.wrapping_add(sum_of(&rest)),
+    );
+    assert!(rt; 8 <= put.0 && put == all);
+    Ok(())
+}

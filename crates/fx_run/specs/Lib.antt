@@ -1,0 +1,10 @@
+pub mod Agreement
+pub mod Changes
+pub mod Parted
+pub mod Reported
+pub mod Gathered
+pub mod Ledger
+pub mod RunFault
+pub mod ClosedAs
+pub mod EndOfRun
+pub mod Example

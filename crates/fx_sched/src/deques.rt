@@ -1,0 +1,196 @@
+//! The deques of the workers, and what they share.
+ghost use Rattle.std.specs.Prelude.{◌≡◌, IfErr};
+
+use crossbeam_deque::{Injector, Steal, Stealer, Worker};
+use fx_fiber::Fiber;
+use fx_term::Memory;
+use std::alloc::Global;
+use std::sync::atomic::{AtomicU64, Ordering};
+use std::sync::{Mutex, Wait};
+use std::thread;
+use std::time::Duration;
+
+/// How often a worker that finds nothing looks again before it sleeps.
+const LOOKS: u32 = 64;
+
+/// The longest sleep in milliseconds: who is called while it falls asleep is missed, and looks again after
+/// that.
+const NAP: u64 = 1;
+
+/// What the workers of a round share: the tasks that came from outside, the ends at which the deques of
+/// the workers are stolen from, how many workers may have a task in hand, how many sleep, and how often
+/// one was called.
+#[derive(Drop)]
+pub struct Tasks<T> {
+    injector: Injector<T>,
+    stealers: Vec<Stealer<T>>,
+    busy: Mutex<usize>,
+    sleepers: AtomicU64,
+    calls: AtomicU64,
+}
+
+/// The deque of one worker, first in, first out.
+#[derive(Drop)]
+pub struct Owner<T> {
+    local: Worker<T>,
+}
+
+/// What the workers share where the tasks are fibers.
+pub type Work<P> = Tasks<Fiber<P>>;
+
+/// A worker's deque of fibers.
+pub type Hand<P> = Owner<Fiber<P>>;
+
+impl<T: Drop> Tasks<T> {
+    /// A deque for each worker, and what they share. Each worker counts as one that may have a task.
+    pub fn new(alloc: Global, workers: usize) -> Result<(Tasks<T>, Vec<Owner<T>>), Memory> {
+        let injector = Injector::new(alloc)?;
+        let mut stealers = Vec::new(alloc);
+        let mut hands = Vec::new(alloc);
+        for _ in 0..workers {
+            let local = Worker::new_fifo(alloc, 16)?;
+            stealers.push(local.stealer()?)?;
+            hands.push(Owner { local })?;
+        }
+        Ok((
+            Tasks {
+                injector,
+                stealers,
+                busy: Mutex::new(workers),
+                sleepers: AtomicU64::new(0),
+                calls: AtomicU64::new(0),
+            },
+            hands,
+        ))
+    }
+
+    /// Gives a task to whichever worker is first.
+    pub fn inject<R: Wait>(&self, rt: &R, task: T) -> Result<(), T>
+        ensures { IfErr result (λ back. back ≡ task) }
+    {
+        self.injector.push(rt, task)
+    }
+
+    /// Counts a worker less that may have a task. The last one calls all that sleep.
+    pub(crate) fn rests<R: Wait>(&self, rt: &R) {
+        let mut busy = self.busy.lock(rt);
+        *busy = busy.saturating_sub(1);
+        if *busy == 0 {
+            self.calls.fetch_add(1, Ordering::SeqCst);
+            self.calls.wake_all();
+        }
+    }
+
+    /// Counts a worker more.
+    fn resumes<R: Wait>(&self, rt: &R) {
+        let mut busy = self.busy.lock(rt);
+        *busy = busy.saturating_add(1);
+    }
+
+    /// Whether no worker may have a task in hand.
+    fn is_over<R: Wait>(&self, rt: &R) -> bool {
+        *self.busy.lock(rt) == 0
+    }
+
+    /// Whether there is a task to be taken, as far as can be seen.
+    fn has_task(&self) -> bool {
+        !self.injector.is_empty() || self.stealers.iter().any(|other| !other.is_empty())
+    }
+
+    /// Whether a worker sleeps.
+    fn has_sleeper(&self) -> bool {
+        self.sleepers.load(Ordering::SeqCst) > 0
+    }
+
+    /// Calls one of the workers that sleep.
+    fn call_one(&self) {
+        self.calls.fetch_add(1, Ordering::SeqCst);
+        self.calls.wake_one();
+    }
+
+    /// Sleeps until a worker is called, if nothing has come before.
+    fn sleep<R: Wait>(&self, rt: &R) {
+        let calls = self.calls.load(Ordering::SeqCst) & u64::from(u32::MAX);
+        self.sleepers.fetch_add(1, Ordering::SeqCst);
+        if !self.is_over(rt) && !self.has_task() {
+            self.calls
+                .park_timeout(rt, calls as u32, Duration::from_millis(NAP));
+        }
+        self.sleepers.fetch_sub(1, Ordering::SeqCst);
+    }
+
+    /// Waits until there is a task to be seen, or no worker may have one: whether there is one.
+    fn wait_task<R: Wait>(&self, rt: &R) -> bool {
+        let mut looks = 0u32;
+        for _ in rt.forever() {
+            if self.is_over(rt) {
+                return false;
+            }
+            if self.has_task() {
+                return true;
+            }
+            if looks < LOOKS {
+                looks += 1;
+                thread::yield_now();
+            } else {
+                self.sleep(rt);
+            }
+        }
+        unreachable!()
+    }
+}
+
+impl<T: Drop> Owner<T> {
+    /// Puts a task at the back. For want of memory it comes back.
+    pub fn push(&mut self, task: T) -> Result<(), T>
+        ensures { IfErr result (λ back. back ≡ task) }
+    {
+        self.local.push(task)
+    }
+
+    /// A task from its own deque, else from the injector, else from another's deque.
+    pub fn next<R: Wait>(&mut self, rt: &R, work: &Tasks<T>) -> Option<T> {
+        if let Some(task) = self.local.pop() {
+            return Some(task);
+        }
+        for _ in rt.forever() {
+            match work.injector.steal_batch_and_pop(rt, &mut self.local) {
+                Steal::Success(task) => return Some(task),
+                Steal::Retry => {}
+                Steal::Empty => break,
+            }
+        }
+        for other in work.stealers.iter() {
+            for _ in rt.forever() {
+                match other.steal_batch_and_pop(&mut self.local) {
+                    Steal::Success(task) => return Some(task),
+                    Steal::Retry => {}
+                    Steal::Empty => break,
+                }
+            }
+        }
+        None
+    }
+
+    /// The same, but it waits until there is a task, or no worker may have one.
+    pub(crate) fn wait_next<R: Wait>(&mut self, rt: &R, work: &Tasks<T>) -> Option<T> {
+        for _ in rt.forever() {
+            if let Some(task) = self.next(rt, work) {
+                return Some(task);
+            }
+            work.rests(rt);
+            if !work.wait_task(rt) {
+                return None;
+            }
+            work.resumes(rt);
+        }
+        unreachable!()
+    }
+
+    /// Calls a worker that sleeps, where there are more tasks than the one that comes next.
+    pub(crate) fn share(&self, work: &Tasks<T>) {
+        if work.has_sleeper() && self.local.len() > 1 {
+            work.call_one();
+        }
+    }
+}

@@ -1,0 +1,31 @@
+//! What may hold a turn, and ask for a cancellation from outside.
+ghost use Rattle.std.specs.Prelude.{◌≡◌, ℕ, Bool, true, false, Option, None, IfSome};
+
+/// It is asked before each turn of a fiber, and may hold the turn, or name a fiber that is to be canceled
+/// from outside.
+pub trait Gate {
+    // the numbers that it may name
+    ghost may: { Self → ℕ → Bool };
+
+    // the answers that it may give before a turn of this fiber at this worker
+    ghost answers: { Self → ℕ → ℕ → Option ℕ → Type 0 };
+
+    /// Before a turn of this fiber at this worker.
+    fn turn(&self, worker: u32, fiber: u32) -> Option<u32>
+        ensures may { IfSome result (λ id. may self.now id ≡ true) }
+        ensures answers { answers self.now worker fiber result };
+}
+
+/// The gate that holds no turn and names nobody.
+#[derive(Clone, Copy)]
+pub struct Free;
+
+impl Gate for Free {
+    ghost may = { λ gate id. false };
+
+    ghost answers = { λ gate worker fiber named. named ≡ None };
+
+    fn turn(&self, _worker: u32, _fiber: u32) -> Option<u32> {
+        None
+    }
+}

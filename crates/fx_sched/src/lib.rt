@@ -1,0 +1,46 @@
+//! Fibers that move between the threads of workers.
+//!
+//! A fiber is in one place at a time, and each place gives it to one worker alone:
+//!
+//! | it is | where |
+//! |---|---|
+//! | able to go on | in a worker's deque ([`Hand`]); before the workers begin in the injector ([`Work`]) |
+//! | in its turn | in the hand of the worker that took it |
+//! | waiting, or ended | in its place of the [`Lot`] |
+//!
+//! A worker does this again and again ([`work`]):
+//!
+//! 1. It takes a fiber from the front of its own deque, else from the injector, else from another's deque.
+//! 2. The gate is asked, and what it names is requested from outside; then the fiber has its turn. No
+//!    lock is held meanwhile.
+//! 3. After its turn the fiber is pushed where it gave way; laid down where it has ended; parked where it
+//!    waits, but pushed where a wake was left for it since it was last taken. A child is pushed before
+//!    its starter. Then those that were noted to be woken are taken out and pushed.
+//!
+//! | a worker finds | it |
+//! |---|---|
+//! | a fiber | goes on with 2 |
+//! | none, while another has one in hand | looks again for a while, and then sleeps until it is called |
+//! | none, and no other has one | is done: no fiber is able to go on |
+//! | no memory | ends, and gives back the fibers that it has in hand |
+//!
+//! A worker that has more than the fiber that comes next calls one that sleeps. A call that comes while the
+//! other falls asleep may be missed, so no sleep is longer than a millisecond.
+//!
+//! What is known of a fiber wherever it comes from is what its type says: its run, and that its port
+//! agrees with what it did. A fiber is never copied, since its type has no copies.
+#![tactic(auto)]
+
+mod deques;
+mod gate;
+mod lot;
+mod rounds;
+mod turns;
+mod worker;
+
+pub use deques::{Hand, Owner, Tasks, Work};
+pub use gate::{Free, Gate};
+pub use lot::Lot;
+pub use rounds::{RoundEnd, round};
+pub use turns::{gated_turn, solo};
+pub use worker::{WorkerEnd, work};

@@ -1,0 +1,77 @@
+//! A turn of a fiber at a gate.
+ghost use Rattle.std.specs.Prelude.{◌≡◌, ℕ, true};
+ghost use Rattle.fx_fiber.specs.Turns.{Turns, come_to};
+ghost use Rattle.fx_sched.specs.GatedTurns.{HasGatedTurn, RequestsNamed};
+
+use crate::gate::Gate;
+use futures::Future;
+use futures::task::{Context, Doorbell, Poll, Solo};
+use fx_fiber::{Fiber, Port, Turn, Turned};
+use fx_term::{Code, Memory};
+use std::alloc::AllocGlobal;
+use std::random::RandomSource;
+
+/// What a worker polls with.
+pub fn solo<R: RandomSource + AllocGlobal>(rt: &R) -> Result<Solo, Memory> {
+    Solo::new(rt, Doorbell::spinning()).map_err(|_| Memory)
+}
+
+/// Asks the gate, requests from outside what it names, and then lets the fiber have its turn.
+pub fn gated_turn<P: Port, G: Gate>(
+    solo: &Solo,
+    gate: &G,
+    worker: u32,
+    fiber: &mut Fiber<P>,
+    code: &Code,
+    shared: &mut P::Shared,
+) -> Poll<Turned<P>>
+    requires code { code.now.nodes ≡ P.code }
+    requires gate { (id : ℕ) → G.may gate.now id ≡ true → P.may id ≡ true }
+    ensures number { (P.facts fiber.new.port).number ≡ (P.facts fiber.old.port).number }
+    ensures beginning { (P.facts fiber.new.port).beginning ≡ (P.facts fiber.old.port).beginning }
+    ensures turn { HasGatedTurn P.calls P.facts P.code
+        (G.answers gate.now worker ((P.facts fiber.old.port).number)) fiber.old shared.old
+        (come_to result) fiber.new shared.new }
+{
+    if let Some(id) = gate.turn(worker, fiber.id()) {
+        fiber.outside(shared, id);
+    }
+    polled(solo, fiber, code, shared)
+}
+
+/// Makes one turn of the fiber, in a context of the worker's own that is ready for the next one after it.
+fn polled<P: Port>(
+    solo: &Solo,
+    fiber: &mut Fiber<P>,
+    code: &Code,
+    shared: &mut P::Shared,
+) -> Poll<Turned<P>>
+    requires { code.now.nodes ≡ P.code }
+    ensures number { (P.facts fiber.new.port).number ≡ (P.facts fiber.old.port).number }
+    ensures beginning { (P.facts fiber.new.port).beginning ≡ (P.facts fiber.old.port).beginning }
+    ensures turns { Turns P.calls P.facts P.code fiber.old shared.old
+        (come_to result) fiber.new shared.new }
+{
+    let mut cx = solo.begin();
+    let answer = one_turn(fiber, code, shared, &mut cx);
+    let _: Poll<()> = cx.yield_now();
+    cx.park();
+    answer
+}
+
+/// Makes one turn of the fiber.
+fn one_turn<P: Port>(
+    fiber: &mut Fiber<P>,
+    code: &Code,
+    shared: &mut P::Shared,
+    cx: &mut Context<'_>,
+) -> Poll<Turned<P>>
+    requires { code.now.nodes ≡ P.code }
+    ensures number { (P.facts fiber.new.port).number ≡ (P.facts fiber.old.port).number }
+    ensures beginning { (P.facts fiber.new.port).beginning ≡ (P.facts fiber.old.port).beginning }
+    ensures turns { Turns P.calls P.facts P.code fiber.old shared.old
+        (come_to result) fiber.new shared.new }
+{
+    let mut turn = Turn::new(fiber, code, shared);
+    turn.poll(cx)
+}

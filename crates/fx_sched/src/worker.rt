@@ -1,0 +1,119 @@
+//! The loop of a worker.
+ghost use Rattle.std.specs.Prelude.{◌≡◌, ◌≤◌, ℕ, true};
+
+use crate::deques::{Hand, Work};
+use crate::gate::Gate;
+use crate::lot::Lot;
+use crate::turns::{gated_turn, solo};
+use futures::task::Poll;
+use fx_fiber::{Fiber, Port, Turned};
+use fx_term::Code;
+use std::alloc::AllocGlobal;
+use std::random::RandomSource;
+use std::sync::Wait;
+
+/// How a worker ended.
+#[derive(Drop)]
+pub enum WorkerEnd<P: Port> {
+    /// There was nothing more to do.
+    Done,
+    /// Memory was refused. These are the fibers in hand: the one whose turn it was, and one that was
+    /// started or woken.
+    Memory(Option<Fiber<P>>, Option<Fiber<P>>),
+}
+
+/// Runs fibers until there is nothing more to do, each in turns that the gate is asked before. No lock is
+/// held in a turn, nor while the gate is asked.
+pub fn work<R: Wait + RandomSource + AllocGlobal, P: Port + Drop, G: Gate>(
+    rt: &R,
+    worker: u32,
+    mut hand: Hand<P>,
+    all: &Work<P>,
+    lot: &Lot<P>,
+    code: &Code,
+    shared: &mut P::Shared,
+    gate: &G,
+) -> WorkerEnd<P>
+    requires code { code.now.nodes ≡ P.code }
+    requires total { P.total ≤ lot.now }
+    requires gate { (id : ℕ) → G.may gate.now id ≡ true → P.may id ≡ true }
+{
+    let Ok(solo) = solo(rt) else {
+        all.rests(rt);
+        return WorkerEnd::Memory(None, None);
+    };
+    for _ in rt.forever() {
+        let Some(mut fiber) = hand.wait_next(rt, all) else {
+            return WorkerEnd::Done;
+        };
+        let answer = gated_turn(&solo, gate, worker, &mut fiber, code, shared);
+        if let Err(end) = placed(rt, &mut hand, lot, fiber, answer) {
+            all.rests(rt);
+            return end;
+        }
+        if let Err(fiber) = wakes(rt, &mut hand, lot, shared) {
+            all.rests(rt);
+            return WorkerEnd::Memory(None, Some(fiber));
+        }
+        hand.share(all);
+    }
+    unreachable!()
+}
+
+/// Lays a fiber where it belongs after its turn, and a child that it started into the deque before it.
+fn placed<R: Wait, P: Port + Drop>(
+    rt: &R,
+    hand: &mut Hand<P>,
+    lot: &Lot<P>,
+    fiber: Fiber<P>,
+    answer: Poll<Turned<P>>,
+) -> Result<(), WorkerEnd<P>>
+    requires { P.total ≤ lot.now }
+{
+    let fiber = match answer {
+        Poll::Ready(Turned::Memory) => return Err(WorkerEnd::Memory(Some(fiber), None)),
+        Poll::Ready(Turned::Ended) => {
+            lot.settle(rt, fiber);
+            return Ok(());
+        }
+        Poll::Ready(Turned::Child(child)) => {
+            if let Err(child) = hand.push(child) {
+                return Err(WorkerEnd::Memory(Some(fiber), Some(child)));
+            }
+            fiber
+        }
+        Poll::Pending => {
+            if fiber.source().is_none() {
+                fiber
+            } else {
+                let Some(fiber) = lot.park(rt, fiber) else {
+                    return Ok(());
+                };
+                fiber
+            }
+        }
+    };
+    hand.push(fiber)
+        .map_err(|fiber| WorkerEnd::Memory(Some(fiber), None))
+}
+
+/// Takes the fibers out that are noted to be woken, and pushes them. One that cannot be pushed for want
+/// of memory comes back.
+fn wakes<R: Wait, P: Port + Drop>(
+    rt: &R,
+    hand: &mut Hand<P>,
+    lot: &Lot<P>,
+    shared: &mut P::Shared,
+) -> Result<(), Fiber<P>>
+    requires { P.total ≤ lot.now }
+{
+    for _ in rt.forever() {
+        let Some(id) = P::woken(shared) else {
+            return Ok(());
+        };
+        if let Some(fiber) = lot.wake(rt, id) {
+            hand.push(fiber)?;
+        }
+    }
+    unreachable!()
+}

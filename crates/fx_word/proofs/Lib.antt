@@ -1,0 +1,9 @@
+pub mod StateWords
+pub mod OwnSteps
+pub mod Requests
+pub mod Ends
+pub mod Peeks
+pub mod Splits
+pub mod Opens
+pub mod Joins
+pub mod Known

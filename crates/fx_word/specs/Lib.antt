@@ -1,0 +1,7 @@
+pub mod StateWord
+pub mod Entry
+pub mod SeatView
+pub mod Rule
+pub mod Steps
+pub mod Words
+pub mod Change

@@ -1,0 +1,73 @@
+-- What a seat knows: the entry of its own fiber, and those of the seats that it took in.
+use Rattle.std.specs.Prelude.{◌≡◌, ◌≢◌, ℕ, true, false, List, [], ◌∷◌, ◌++◌, ◌⊎◌, Some, None}
+use Rattle.fx_term.specs.Lists.{Among}
+use Rattle.fx_term.specs.declared.begin.Begin.{Begin}
+use Rattle.fx_term.specs.declared.outcome.Outcome.{Outcome}
+use Rattle.fx_word.specs.declared.entry.Entry.{Entry}
+use Rattle.fx_word.specs.declared.seat_view.SeatView.{SeatView}
+use Rattle.fx_word.specs.Entry.{new_entry, splitting}
+
+abbrev pub alone : Entry → SeatView
+alone e = record { spent = false; own = e; taken = [] }
+
+-- of the main fiber, which has all other numbers in its range
+abbrev pub first_view : ℕ → SeatView
+first_view n = alone (new_entry 0 None 1 n)
+
+-- of a seat that another one took in
+abbrev pub spent_view : SeatView
+spent_view = record { spent = true; own = new_entry 0 None 0 0; taken = [] }
+
+-- the same with another entry of its own fiber
+abbrev pub with_own : SeatView → Entry → SeatView
+with_own v e = record v { own = e }
+
+-- what is left of a view by a split, and the view of the new seat
+abbrev pub kept_part : Begin → SeatView → SeatView
+kept_part b v = with_own v (splitting b v.own)
+
+abbrev pub given_part : Begin → SeatView → SeatView
+given_part b v = alone (new_entry v.own.next (Some (v.own.id, b)) b.next b.end)
+
+-- the entry is the view's own, or one that it took in
+abbrev pub In : Entry → SeatView → Type 0
+In e v = (e ≡ v.own) ⊎ Among e v.taken
+
+-- its own entry first
+abbrev pub entries : SeatView → List Entry
+entries v = v.own ∷ v.taken
+
+-- the first view took the second one in
+abbrev pub joined : SeatView → SeatView → SeatView
+joined v w = record v { taken = entries w ++ v.taken }
+
+-- the seat has seen a request of its own fiber, or made one, itself or as taken in
+abbrev pub IsAsked : SeatView → Type 0
+IsAsked v = (v.own.seen ≡ true) ⊎ ((e : Entry) × In e v × Among v.own.id e.asked)
+
+-- the seat has learnt that i ended with o, or did so, itself or as taken in
+abbrev pub Knows : SeatView → ℕ → Outcome → Type 0
+Knows v i o = (e : Entry) × In e v × (Among (i, o) e.learnt ⊎ ((e.id ≡ i) × (e.ended ≡ Some o)))
+
+-- what the first view knows the second one knows
+pub record Keeps (v w : SeatView) : Type 0 where
+  pub asked : IsAsked v → IsAsked w
+  pub ends : (i : ℕ) (o : Outcome) → Knows v i o → Knows w i o
+
+-- the seat is the main fiber's, and has taken in all that were split off
+abbrev pub IsWhole : SeatView → Type 0
+IsWhole v = (v.own.id ≡ 0) × ((e : Entry) → In e v → (i : ℕ) (b : Begin) → Among (i, b) e.parts → (d : Entry) × In d v × (d.id ≡ i))
+
+-- what holds of the entries of such a seat
+pub record IsSettled (v : SeatView) : Type 0 where
+  -- a fiber has one entry
+  pub one : (d e : Entry) → In d v → In e v → d.id ≡ e.id → d ≡ e
+  -- who saw a request was requested
+  pub requested : (e : Entry) → In e v → e.seen ≡ true → (d : Entry) × In d v × Among e.id d.asked
+  -- what was learnt of an end is how that fiber ended
+  pub ended : (e : Entry) → In e v → (i : ℕ) (o : Outcome) → Among (i, o) e.learnt → (d : Entry) × In d v × (d.id ≡ i) × (d.ended ≡ Some o)
+  -- nobody started the main fiber, and some fiber each other one
+  pub main : (e : Entry) → In e v → e.id ≡ 0 → e.begin ≡ None
+  pub started : (e : Entry) → In e v → e.id ≢ 0 → (d : Entry) × (b : Begin) × In d v × Among (e.id, b) d.parts
+  -- a fiber began as the one that split it off says
+  pub began : (e : Entry) → In e v → (i : ℕ) (b : Begin) → Among (i, b) e.parts → (d : Entry) → In d v → d.id ≡ i → d.begin ≡ Some (e.id, b)

@@ -1,0 +1,142 @@
+//! Four fibers, each on a thread of its own.
+ghost use Rattle.std.specs.Prelude.{◌≡◌, ◌<◌, None};
+ghost use Rattle.fx_word.specs.Words.{IsOf};
+ghost use Rattle.fx_word_tests.specs.Fibers.{IsSameFiber};
+
+use super::begin_of;
+use fx_term::Outcome;
+use fx_word::{WordSeat, Words};
+use std::test::Fail;
+use std::thread;
+use std::thread::Threads;
+
+const FIBERS: u32 = 4;
+
+const TURNS: u32 = 4000;
+
+/// What the fiber of this number ends with.
+fn end_of(id: u32) -> Outcome {
+    match id % 3 {
+        0 => Outcome::Succeeded(u64::from(id) + 10),
+        1 => Outcome::Errored(u64::from(id) + 20),
+        _ => Outcome::Canceled,
+    }
+}
+
+/// Requests a fiber, looks, and peeks. Whether what was learnt of the fiber's end is right.
+fn take_turn(words: &Words, seat: &mut WordSeat, id: u32) -> bool
+    requires words { IsOf seat.old words.now }
+    requires below { id < words.now.fibers }
+    ensures same { IsSameFiber seat.old seat.new }
+    ensures running { seat.new.view.own.ended ≡ seat.old.view.own.ended }
+{
+    words.request(seat, id);
+    let _seen = words.look(seat);
+    match words.peek(seat, id) {
+        None => true,
+        Some(outcome) => outcome == end_of(id),
+    }
+}
+
+/// All turns of a fiber, and its end.
+fn run(words: &Words, mut seat: WordSeat) -> (WordSeat, bool)
+    requires words { IsOf seat words.now }
+    requires fibers { words.now.fibers ≡ 4 }
+    requires running { seat.view.own.ended ≡ None }
+    ensures { IsSameFiber seat result.0 }
+{
+    let mut right = true;
+    'turning: for turn in 0..TURNS {
+        let told = take_turn(words, &mut seat, turn % FIBERS);
+        right = right && told;
+    }
+    let id = seat.id();
+    words.finish(&mut seat, end_of(id));
+    (seat, right)
+}
+
+/// Two seats, each with whether what it learnt was right.
+type Two = ((WordSeat, bool), (WordSeat, bool));
+
+fn run_two<R: Threads + Sync>(rt: &R, words: &Words, one: WordSeat, two: WordSeat) -> Two
+    requires words { IsOf one words.now × IsOf two words.now }
+    requires fibers { words.now.fibers ≡ 4 }
+    requires running { (one.view.own.ended ≡ None) × (two.view.own.ended ≡ None) }
+    ensures { IsSameFiber one result.0.0 × IsSameFiber two result.1.0 }
+{
+    thread::join(
+        rt,
+        move || -> (WordSeat, bool)
+            requires { IsOf one words.now × (words.now.fibers ≡ 4) × (one.view.own.ended ≡ None) }
+            ensures { IsSameFiber one result.0 }
+        { run(words, one) },
+        move || -> (WordSeat, bool)
+            requires { IsOf two words.now × (words.now.fibers ≡ 4) × (two.view.own.ended ≡ None) }
+            ensures { IsSameFiber two result.0 }
+        { run(words, two) },
+    )
+}
+
+fn run_four<R: Threads + Sync>(
+    rt: &R,
+    words: &Words,
+    first: (WordSeat, WordSeat),
+    second: (WordSeat, WordSeat),
+) -> (Two, Two)
+    requires words { IsOf first.0 words.now × IsOf first.1 words.now
+        × IsOf second.0 words.now × IsOf second.1 words.now }
+    requires fibers { words.now.fibers ≡ 4 }
+    requires running { (first.0.view.own.ended ≡ None) × (first.1.view.own.ended ≡ None)
+        × (second.0.view.own.ended ≡ None) × (second.1.view.own.ended ≡ None) }
+    ensures { IsSameFiber first.0 result.0.0.0 × IsSameFiber first.1 result.0.1.0
+        × IsSameFiber second.0 result.1.0.0 × IsSameFiber second.1 result.1.1.0 }
+{
+    let (main, one) = first;
+    let (two, three) = second;
+    thread::join(
+        rt,
+        move || -> Two
+            requires { IsOf main words.now × IsOf one words.now × (words.now.fibers ≡ 4)
+                × (main.view.own.ended ≡ None) × (one.view.own.ended ≡ None) }
+            ensures { IsSameFiber main result.0.0 × IsSameFiber one result.1.0 }
+        { run_two(rt, words, main, one) },
+        move || -> Two
+            requires { IsOf two words.now × IsOf three words.now × (words.now.fibers ≡ 4)
+                × (two.view.own.ended ≡ None) × (three.view.own.ended ≡ None) }
+            ensures { IsSameFiber two result.0.0 × IsSameFiber three result.1.0 }
+        { run_two(rt, words, two, three) },
+    )
+}
+
+/// Whether the seat finds the request of its fiber, and the end of each.
+fn finds_all(words: &Words, seat: &mut WordSeat) -> bool
+    requires words { IsOf seat.old words.now }
+    requires fibers { words.now.fibers ≡ 4 }
+    ensures { IsSameFiber seat.old seat.new }
+{
+    let mut found = words.look(seat);
+    'finding: for id in 0..FIBERS {
+        found = found && words.peek(seat, id) == Some(end_of(id));
+    }
+    found
+}
+
+/// Four fibers run, and each seat finds what all of them did.
+#[test]
+fn each_seat_finds_all_requests_and_ends(rt: HostRuntime) -> Result<(), Fail> {
+    let (words, mut main) = Words::new(rt.alloc(), FIBERS)?;
+    let one = words.split(&mut main, 1, &begin_of(rt.alloc(), 1));
+    let two = words.split(&mut main, 2, &begin_of(rt.alloc(), 2));
+    let three = words.split(&mut main, 3, &begin_of(rt.alloc(), 3));
+    let (first, second) = run_four(&rt, &words, (main, one), (two, three));
+    let ((mut main, main_right), (mut one, one_right)) = first;
+    let ((mut two, two_right), (mut three, three_right)) = second;
+    assert!(rt; main_right && one_right && two_right && three_right);
+    assert!(rt; finds_all(&words, &mut main) && finds_all(&words, &mut one));
+    assert!(rt; finds_all(&words, &mut two) && finds_all(&words, &mut three));
+    words.gather(&mut main, one);
+    words.gather(&mut main, two);
+    words.gather(&mut main, three);
+    words.close(main);
+    Ok(())
+}
