@@ -1,5 +1,6 @@
 -- What a fiber did to the outside and learnt of it, as its port knows it.
-use Rattle.std.specs.Prelude.{◌≡◌, ℕ, List, [], ◌∷◌, ◌++◌}
+use Rattle.std.specs.Prelude.{◌≡◌, ℕ, ◌==◌, if◌then◌else◌, Option, Some, None, List, [], ◌∷◌, ◌++◌}
+use Rattle.std.specs.List.{filter_map}
 use Rattle.fx_term.specs.declared.node.Node.{Node}
 use Rattle.fx_term.specs.declared.begin.Begin.{Begin}
 use Rattle.fx_term.specs.declared.outcome.Outcome.{Outcome}
@@ -7,6 +8,8 @@ use Rattle.fx_term.specs.declared.offered.Offered.{Offered}
 use Rattle.fx_term.specs.declared.offered.Offered.TheVariants.{Done, Full}
 use Rattle.fx_term.specs.declared.event.Event.{Event}
 use Rattle.fx_term.specs.declared.event.Event.TheVariants as event
+use Rattle.fx_term.specs.declared.queue_event.QueueEvent.{QueueEvent}
+use Rattle.fx_term.specs.declared.queue_event.QueueEvent.TheVariants as queue_event
 use Rattle.fx_model.specs.Row.{Label, Silent, Shows, Learns, Starts}
 use Rattle.fx_model.specs.Origin.{origin_of}
 
@@ -50,3 +53,13 @@ AreDeedsOf nodes (Starts f b) deeds = (begin : Begin) × (origin_of nodes begin 
 abbrev pub AreDeeds : List Node → List Label → List Deed → Type 0
 AreDeeds nodes [] deeds = deeds ≡ []
 AreDeeds nodes (l ∷ ls) deeds = (first : List Deed) × (rest : List Deed) × AreDeedsOf nodes l first × AreDeeds nodes ls rest × (deeds ≡ first ++ rest)
+
+-- the event of queue q that a deed of fiber f is: a queue that was found full or empty is none
+abbrev pub queue_deed : ℕ → ℕ → Deed → Option QueueEvent
+queue_deed q f (Put r n) = if r == q then Some (queue_event.Put f n) else None
+queue_deed q f (Got r n) = if r == q then Some (queue_event.Got f n) else None
+queue_deed q f _ = None
+
+-- those of the deeds, in order
+abbrev pub queue_deeds : ℕ → ℕ → List Deed → List QueueEvent
+queue_deeds q f deeds = filter_map (queue_deed q f) deeds

@@ -109,6 +109,13 @@ impl<P: Port> Fiber<P> {
         self.body.id
     }
 
+    /// The fiber's port.
+    pub fn port(&self) -> &P
+        ensures { result.now ≡ self.now.port }
+    {
+        &self.port
+    }
+
     /// The events so far, the first one first, where the fiber is not needed any more.
     pub fn into_trace(self) -> Vec<Event>
     where

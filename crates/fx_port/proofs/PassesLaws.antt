@@ -18,9 +18,9 @@ use Rattle.fx_queue.specs.Told.{stands}
 use Rattle.fx_queue.specs.Queues.{HeldPass, kept_pass, given_pass}
 use Rattle.fx_queue.proofs.Histories.{Begins-more, Begins-all, Begins-trans}
 use Rattle.fx_queue.proofs.Views.{lone}
-use Rattle.fx_fiber.specs.Deed.{Deed, Started, Requested, Saw, Put, Got, FoundFull, FoundEmpty, FoundEnded, Ended}
+use Rattle.fx_fiber.specs.Deed.{Deed, Started, Requested, Saw, Put, Got, FoundFull, FoundEmpty, FoundEnded, Ended, queue_deed, queue_deeds}
 use Rattle.fx_port.specs.Rows.{PutsInto, GetsFrom, FoundFullAt, FoundEmptyAt}
-use Rattle.fx_port.specs.PassesAgree.{queue_deed, queue_deeds, started_by, starts, acts_by, WasFound}
+use Rattle.fx_port.specs.PassesAgree.{started_by, starts, acts_by, WasFound}
 use Rattle.fx_port.specs.PassesAgree.{Refusal, Full, Empty, held_at, HasRefused, IsBacked, PassesAgree}
 use Rattle.fx_port.proofs.Places.{get_set_same, get_set_else}
 

@@ -1,24 +1,13 @@
 -- When a fiber's passes of all queues agree with its deeds.
-use Rattle.std.specs.Prelude.{◌≡◌, ℕ, ◌==◌, if◌then◌else◌, List, [], ◌∷◌, ◌++◌, length, Option, Some, None, slice_get}
+use Rattle.std.specs.Prelude.{◌≡◌, ℕ, List, [], ◌∷◌, ◌++◌, length, Option, Some, None, slice_get}
 use Rattle.std.specs.List.{filter_map}
 use Rattle.fx_term.specs.declared.item.Item.{Item}
 use Rattle.fx_term.specs.declared.queue_event.QueueEvent.{QueueEvent}
-use Rattle.fx_term.specs.declared.queue_event.QueueEvent.TheVariants as event
 use Rattle.fx_term.specs.Queue.{cut, Leaves}
-use Rattle.fx_fiber.specs.Deed.{Deed, Started, Put, Got, FoundFull, FoundEmpty}
+use Rattle.fx_fiber.specs.Deed.{Deed, Started, FoundFull, FoundEmpty, queue_deeds}
 use Rattle.fx_queue.specs.declared.pass_view.PassView.{PassView}
 use Rattle.fx_queue.specs.History.{Begins}
 use Rattle.fx_queue.specs.Queues.{HeldPass}
-
--- the event of queue q that a deed of fiber f is
-abbrev pub queue_deed : ℕ → ℕ → Deed → Option QueueEvent
-queue_deed q f (Put r n) = if r == q then Some (event.Put f n) else None
-queue_deed q f (Got r n) = if r == q then Some (event.Got f n) else None
-queue_deed q f _ = None
-
--- those of the deeds, in order
-abbrev pub queue_deeds : ℕ → ℕ → List Deed → List QueueEvent
-queue_deeds q f deeds = filter_map (queue_deed q f) deeds
 
 -- the fiber that a deed starts
 abbrev pub started_by : Deed → Option ℕ

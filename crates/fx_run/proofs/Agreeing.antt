@@ -13,11 +13,11 @@ use Rattle.fx_term.specs.declared.queue_event.QueueEvent.{QueueEvent}
 use Rattle.fx_term.specs.declared.queue_event.QueueEvent.TheVariants as queue_event
 use Rattle.fx_term.proofs.ListLaws.{Among-append_left, Among-append_right, Among-append}
 use Rattle.fx_term.proofs.MapLaws.{at_that, at_other}
-use Rattle.fx_fiber.specs.Deed.{Deed, Started, Requested, Saw, Put, Got, FoundFull, FoundEmpty, FoundEnded, Ended}
+use Rattle.fx_fiber.specs.Deed.{Deed, Started, Requested, Saw, Put, Got, FoundFull, FoundEmpty, FoundEnded, Ended, queue_deed, queue_deeds}
 use Rattle.fx_word.specs.declared.entry.Entry.{Entry}
 use Rattle.fx_word.specs.Entry.{new_entry, asking, looking, splitting, finished, peeked}
 use Rattle.fx_queue.specs.declared.entry.Entry as pass
-use Rattle.fx_run.specs.Agreement.{queue_deed, queue_deeds, WordsAgree, QueueAgrees, PortAgrees}
+use Rattle.fx_run.specs.Agreement.{WordsAgree, QueueAgrees, PortAgrees}
 use Rattle.fx_run.specs.Changes.{IsNewPass, IsSplitFor, HasOneMore, AreSplitFor, AddsEvent}
 
 last : (ds : List Deed) (d : Deed) → Among d (ds ++ d ∷ [])

@@ -30,7 +30,8 @@ use Rattle.fx_fiber.specs.Bare.{reached}
 use Rattle.fx_word.specs.declared.entry.Entry.{Entry}
 use Rattle.fx_queue.specs.declared.entry.Entry as pass
 use Rattle.fx_queue.specs.PassView as queue
-use Rattle.fx_run.specs.Parted.{begin_of, Parted, bares_of, parted_at}
+use Rattle.fx_port.specs.PortView.{beginning_in}
+use Rattle.fx_run.specs.Parted.{Parted, bares_of, parted_at}
 use Rattle.fx_run.specs.Reported.{RanCode, AreAscending, report_of_bare, NoneIsLost, NoneIsUnsettled}
 use Rattle.fx_run.specs.EndOfRun.{AreNamed, AreNoted, WordsEnd, QueueEnd, IsUntouched, EndsWithReport}
 use Rattle.fx_run.proofs.Members.{all_among, any_among, found_passes, contained_passes}
@@ -44,7 +45,7 @@ use Rattle.fx_run.proofs.Starters.{its_code, in_seat, entry_of, child_of, none_b
 
 -- what a fiber began with, its run, and how far it is; where there is no such fiber it does not matter
 abbrev begin_in : Parted → Origin
-begin_in p = origin_of p.bare.nodes (begin_of p.bare.nodes p.words.begin)
+begin_in p = origin_of p.bare.nodes (beginning_in p.bare.nodes p.words.begin)
 
 module _ (s : ScriptView) where
   abbrev pub origin_at : Option Parted → Origin
@@ -82,7 +83,7 @@ module _ (s : ScriptView) (nodes : List Node) (ps : List Parted) (left : List (L
   main_begins_so term =
       let m = main_is_given ps lost in
       let none = none_before_main nodes ps ran ascending lost words m.0 m.1 in
-      ap (origin_at s) m.1 ∙ ap (origin_of m.0.bare.nodes) (ap (begin_of m.0.bare.nodes) none)
+      ap (origin_at s) m.1 ∙ ap (origin_of m.0.bare.nodes) (ap (beginning_in m.0.bare.nodes) none)
       ∙ main_begins m.0.bare.nodes ∙ ap (λ (ns : List Node). main_origin (root_term ns)) (its_code nodes ps ran ascending lost words 0 m.0 m.1)
       ∙ ap main_origin (sym term)
 

@@ -8,9 +8,8 @@ use Rattle.fx_term.specs.Queue.{queue_event, queue_events}
 use Rattle.fx_model.specs.Row.{Counts, Label, Silent, Shows, Learns, Starts}
 use Rattle.fx_model.specs.Step.{Progress}
 use Rattle.fx_model.specs.Run.{Leads, events}
-use Rattle.fx_fiber.specs.Deed.{Deed, AreDeedsOf, AreDeeds}
+use Rattle.fx_fiber.specs.Deed.{Deed, AreDeedsOf, AreDeeds, queue_deed, queue_deeds}
 use Rattle.fx_model.proofs.StepLabels.{IsProper, step_tells}
-use Rattle.fx_run.specs.Agreement.{queue_deed, queue_deeds}
 
 -- so it is for one label: a queue that was found full or empty is no event of it
 queue_label : (nodes : List Node) (q f : ℕ) (l : Label) (ds : List Deed) → IsProper l → AreDeedsOf nodes l ds

@@ -20,7 +20,8 @@ use Rattle.fx_term.specs.Lists.{Among}
 use Rattle.fx_fiber.specs.Bare.{BareView, reached}
 use Rattle.fx_word.specs.declared.entry.Entry.{Entry}
 use Rattle.fx_word.specs.SeatView.{In, entries}
-use Rattle.fx_run.specs.Parted.{begin_of, Parted, bares_of, parted_at}
+use Rattle.fx_port.specs.PortView.{beginning_in}
+use Rattle.fx_run.specs.Parted.{Parted, bares_of, parted_at}
 use Rattle.fx_run.specs.Reported.{RanCode, AreAscending, parent_of, report_of_bare, NoneIsLost}
 use Rattle.fx_run.specs.EndOfRun.{WordsEnd}
 use Rattle.fx_run.proofs.Members.{among_all, contains_among, any_among, found_passing, found_is, found_itself}
@@ -88,7 +89,7 @@ module _ (nodes : List Node) (ps : List Parted) (ran : RanCode nodes (bares_of p
     pub at : parted_at ps f ≡ Some fiber
     pub begin : Begin
     pub by : fiber.words.begin ≡ Some (g, begin)
-    pub is : origin_of fiber.bare.nodes (begin_of fiber.bare.nodes fiber.words.begin) ≡ b
+    pub is : origin_of fiber.bare.nodes (beginning_in fiber.bare.nodes fiber.words.begin) ≡ b
 
   pub child_of : (g f : ℕ) (b : Origin) (p : Parted) → parted_at ps g ≡ Some p → Among (Starts f b) p.lawful.labels → ChildOf g f b
   child_of g f b p at i =
@@ -102,7 +103,7 @@ module _ (nodes : List Node) (ps : List Parted) (ran : RanCode nodes (bares_of p
         at = z.1;
         begin = done.begin;
         by = begun ∙ ap (λ (n : ℕ). Some (n, done.begin)) (number_at ps g p at);
-        is = ap (origin_of z.0.bare.nodes) (ap (begin_of z.0.bare.nodes) begun)
+        is = ap (origin_of z.0.bare.nodes) (ap (beginning_in z.0.bare.nodes) begun)
             ∙ ap (λ (ns : List Node). origin_of ns done.begin) (its_code f z.0 z.1 ∙ sym (its_code g p at)) ∙ done.is;
       }
 
@@ -126,8 +127,8 @@ module _ (nodes : List Node) (ps : List Parted) (ran : RanCode nodes (bares_of p
       by_count : (n : ℕ) → starts_of f p.bare.trace ≡ n → StarterOf f g
       by_count zero is = absurd (let some = starts_some f p.bare.trace e in omega arith)
       by_count (suc n) is =
-          let all = run_starts (origin_of p.bare.nodes (begin_of p.bare.nodes p.words.begin)) p.lawful.labels p.bare.counts (reached p.bare) p.lawful.run in
-          let h = start_of_trace (begin_of p.bare.nodes p.words.begin).next p.lawful.labels f n all (ap (starts_of f) p.lawful.traced ∙ is) in
+          let all = run_starts (origin_of p.bare.nodes (beginning_in p.bare.nodes p.words.begin)) p.lawful.labels p.bare.counts (reached p.bare) p.lawful.run in
+          let h = start_of_trace (beginning_in p.bare.nodes p.words.begin).next p.lawful.labels f n all (ap (starts_of f) p.lawful.traced ∙ is) in
           let c = child_of g f h.origin p at (contains_among (Starts f h.origin) p.lawful.labels h.holds) in
           record { fiber = c.fiber; at = c.at; begin = c.begin; by = c.by; starter = p; starter_at = at; starts = e }
 
@@ -222,7 +223,7 @@ module _ (nodes : List Node) (ps : List Parted) (ran : RanCode nodes (bares_of p
       where
         most : starts_of f p.bare.trace ≤ 1
         most = subst (λ (es : List Event). starts_of f es ≤ 1) p.lawful.traced
-            (starts_at_most_once (origin_of p.bare.nodes (begin_of p.bare.nodes p.words.begin)) p.lawful.labels p.bare.counts (reached p.bare) f p.lawful.run)
+            (starts_at_most_once (origin_of p.bare.nodes (beginning_in p.bare.nodes p.words.begin)) p.lawful.labels p.bare.counts (reached p.bare) f p.lawful.run)
 
         by_count : (n : ℕ) → starts_of f p.bare.trace ≡ n → starts_of f p.bare.trace ≡ (if is_parent (parent_in told f) g then 1 else 0)
         by_count zero is = rw (not_named f g p at is (parent_in told f) refl) is

@@ -1,23 +1,11 @@
 -- When a port, by what the words and the queues know of its fiber, agrees with the fiber's deeds.
-use Rattle.std.specs.Prelude.{◌≡◌, ℕ, ◌==◌, Bool, true, if◌then◌else◌, Option, Some, None, List, ◌⊎◌}
-use Rattle.std.specs.List.{filter_map}
+use Rattle.std.specs.Prelude.{◌≡◌, ℕ, Bool, true, Some, List, ◌⊎◌}
 use Rattle.fx_term.specs.Lists.{Among}
 use Rattle.fx_term.specs.declared.begin.Begin.{Begin}
 use Rattle.fx_term.specs.declared.outcome.Outcome.{Outcome}
-use Rattle.fx_term.specs.declared.queue_event.QueueEvent.{QueueEvent}
-use Rattle.fx_term.specs.declared.queue_event.QueueEvent.TheVariants as queue_event
-use Rattle.fx_fiber.specs.Deed.{Deed, Started, Requested, Saw, Put, Got, FoundEnded, Ended}
+use Rattle.fx_fiber.specs.Deed.{Deed, Started, Requested, Saw, FoundEnded, Ended, queue_deeds}
 use Rattle.fx_word.specs.declared.entry.Entry.{Entry}
 use Rattle.fx_queue.specs.declared.entry.Entry as pass
-
--- the event of queue q that a deed of fiber f is: a queue that was found full or empty is none
-abbrev pub queue_deed : ℕ → ℕ → Deed → Option QueueEvent
-queue_deed q f (Put r n) = if r == q then Some (queue_event.Put f n) else None
-queue_deed q f (Got r n) = if r == q then Some (queue_event.Got f n) else None
-queue_deed q f _ = None
-
-abbrev pub queue_deeds : ℕ → ℕ → List Deed → List QueueEvent
-queue_deeds q f deeds = filter_map (queue_deed q f) deeds
 
 -- the words' entry of fiber f, with the numbers that its port noted from outside, agrees with its deeds
 pub record WordsAgree (f : ℕ) (e : Entry) (noted : ℕ → Bool) (deeds : List Deed) : Type 0 where

@@ -7,4 +7,5 @@ pub mod Ledger
 pub mod RunFault
 pub mod ClosedAs
 pub mod EndOfRun
+pub mod RunWaits
 pub mod Example

@@ -1,19 +1,12 @@
 -- A fiber whose run is over, taken from its port.
-use Rattle.std.specs.Prelude.{◌==◌, ℕ, Bool, Option, Some, None, List, map}
+use Rattle.std.specs.Prelude.{◌==◌, ℕ, Bool, Option, List, map}
 use Rattle.std.specs.List.{find}
-use Rattle.fx_term.specs.declared.node.Node.{Node}
-use Rattle.fx_term.specs.declared.begin.Begin.{Begin}
-use Rattle.fx_model.specs.Origin.{main_begin_of}
 use Rattle.fx_fiber.specs.Fiber.{IsLawful}
 use Rattle.fx_fiber.specs.Bare.{BareView, reached}
 use Rattle.fx_word.specs.declared.entry.Entry.{Entry}
 use Rattle.fx_queue.specs.declared.entry.Entry as pass
+use Rattle.fx_port.specs.PortView.{beginning_in}
 use Rattle.fx_run.specs.Agreement.{PortAgrees}
-
--- what a fiber began with that was split off so: the main one was split off by nobody
-abbrev pub begin_of : List Node → Option (ℕ × Begin) → Begin
-begin_of nodes None = main_begin_of nodes
-begin_of nodes (Some x) = x.1
 
 -- a fiber, and what its port knew: the words' entry, which numbers it noted from outside, and an entry for each queue, by number. They agree with what the
 -- fiber did in its run, which began as the words say
@@ -22,7 +15,7 @@ pub record Parted : Type 0 where
   pub words : Entry
   pub noted : ℕ → Bool
   pub passes : ℕ → pass.Entry
-  pub lawful : IsLawful bare.nodes (begin_of bare.nodes words.begin) (PortAgrees bare.id words noted passes) bare.trace bare.counts (reached bare)
+  pub lawful : IsLawful bare.nodes (beginning_in bare.nodes words.begin) (PortAgrees bare.id words noted passes) bare.trace bare.counts (reached bare)
 
 -- the fibers without what their ports knew
 abbrev pub bares_of : List Parted → List BareView

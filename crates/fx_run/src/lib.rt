@@ -39,9 +39,11 @@
 pub mod laws;
 mod ledger;
 mod lost;
+mod run;
 mod run_fault;
 mod whole_report;
 
 pub use lost::test_for_lost;
+pub use run::{Halt, MOST_WORKERS, run_to_halt};
 pub use run_fault::RunFault;
 pub use whole_report::report;
