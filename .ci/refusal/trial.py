@@ -10,6 +10,9 @@ from refusal.kit import check
 
 HARMLESS = "let _ = ();"
 
+# How many functions are tried as a control, where one is not proved for what it calls.
+MOST_CONTROLS = 4
+
 
 class Trial:
     """The edits of a crate, and how many of them, and of the controls, have passed and failed."""
@@ -78,15 +81,15 @@ class Trial:
         """Tries these edits in one check."""
         label = f"round {self.rounds}"
         changed = {path for it in chosen for path in it.functions}
-        control = self.control(changed)
+        controls = self.controls(changed)
         self.tried |= changed
-        if not control:
+        if not controls:
             self.fails(label, "no function is left for a control")
             return
         texts = self.texts
         for edit in chosen:
             texts = edit.applied(texts)
-        said, seconds = check(self.crate, with_harmless(texts, control), kept, {*changed, control.path})
+        said, seconds = check(self.crate, with_harmless(texts, controls[0]), kept, {*changed, controls[0].path})
         self.say(f"{label}: {len(chosen)} edits, {seconds:.0f} s of a processor")
         if not is_answer(said, self.name):
             why = next((it for it in said.split("\n") if "error: " in it), said.strip().split("\n")[-1])
@@ -96,15 +99,24 @@ class Trial:
         shown = against(said, self.name, functions(texts))
         for edit in chosen:
             self.judge(edit, shown, said)
-        for path in shown.keys() - changed - {control.path}:
+        for path in shown.keys() - changed - {controls[0].path}:
             self.fails(label, f"{path} is changed by no edit, and yet has an open goal: {shown[path]}")
-        told = verdict_on(control.path, said, self.name)
-        if control.path in shown:
-            self.fails(f"control {control.path}", f"a body that does the same has an open goal: {shown[control.path]}")
-        elif told not in PROVED:
-            self.fails(f"control {control.path}", f"it is not proved: {told or 'the check says nothing of it'}")
-        else:
-            self.passes(f"control {control.path}", "proved")
+        self.judge_controls(controls, texts, kept, said)
+
+    def judge_controls(self, controls, texts, kept, said):
+        """Passes the first control that is proved. One that has an open goal fails, and so do all if none is proved.
+
+        What a function stands on by its types, no text of it names: so one may have no proof of which the edits are the
+        reason. The next one is tried then, in a check of its own."""
+        for control in controls:
+            said = said or check(self.crate, with_harmless(texts, control), kept, {control.path})[0]
+            shown, told = against(said, self.name, functions(texts)), verdict_on(control.path, said, self.name)
+            if control.path in shown:
+                return self.fails(f"control {control.path}", f"a body that does the same has an open goal: {shown[control.path]}")
+            if told in PROVED:
+                return self.passes(f"control {control.path}", "proved")
+            said = None
+        return self.fails(f"control {control.path}", f"it is not proved: {told or 'the check says nothing of it'}")
 
     def judge(self, edit, shown, said):
         goals = [(path, shown[path]) for path in sorted(edit.functions) if path in shown]
@@ -114,14 +126,15 @@ class Trial:
             told = "; ".join(f"{path}: {verdict_on(path, said, self.name) or 'nothing'}" for path in sorted(edit.functions))
             self.fails(edit.name, f"no goal of its own function is open ({told[:200]})")
 
-    def control(self, changed):
-        """A function that the round leaves as it is, with all that it calls: best of a file that the round changes."""
+    def controls(self, changed):
+        """Functions that the round leaves as they are, with all that they call: best of a file that the round changes."""
         free = [it for it in self.found if it.body and it.last > it.body and not it.is_test and not reached([it.path], self.calls) & changed]
         beside = {it.file for it in self.found if it.path in changed}
         free = [it for it in free if it.file in beside] or free
         # (what calls a function that an earlier round spoilt may be kept as not proved)
         free = [it for it in free if not reached(self.calls[it.path], self.calls) & self.tried] or free
-        return free[self.rounds % len(free)] if free else None
+        first = self.rounds % len(free) if free else 0
+        return (free[first:] + free[:first])[:MOST_CONTROLS]
 
 
 def with_harmless(texts, control):
