@@ -3,7 +3,7 @@ ghost use Rattle.std.specs.Prelude.{◌≡◌};
 
 use crate::fiber::body::Body;
 use crate::machine::focus::Focus;
-use fx_model::Closed;
+use fx_model::{Closed, Source};
 use fx_term::{Code, Event};
 use std::marker::Model;
 use std::snapshot::Snapshot;
@@ -43,7 +43,9 @@ impl Bare {
     ghost use Rattle.fx_model.specs.Closed.{outside_of};
     ghost use Rattle.fx_model.specs.Outside.{can_step};
     ghost use Rattle.fx_model.specs.Scopes.{IsProgressScopedOver};
-    ghost use Rattle.fx_model.specs.Step.{has_ended};
+    ghost use Rattle.fx_model.specs.Step.{has_ended, leaf_at};
+    ghost use Rattle.fx_model.specs.Waiting.{wait_at};
+    ghost use Rattle.std.specs.Prelude.{option_and_then};
 
     /// The fiber of this code that has this beside its port.
     pub(crate) fn new(body: Box<Body>, code: &Code) -> Bare
@@ -89,6 +91,14 @@ impl Bare {
         ensures { result ≡ has_ended (reached self.now) }
     {
         matches!(self.body.machine.focus, Focus::Ended(_))
+    }
+
+    /// What the fiber waits for where it stands, as [`Fiber::waits_for`](crate::Fiber::waits_for) tells.
+    pub fn waits_for(&self, code: &Code) -> Option<Source>
+        requires code { code.now.nodes ≡ self.now.nodes }
+        ensures { result ≡ option_and_then wait_at (leaf_at (reached self.now)) }
+    {
+        self.body.machine.waits_for(code)
     }
 
     /// Whether the fiber can step where the outside is as a run left it, as

@@ -44,6 +44,7 @@ pub mod ForcedTerms
 pub mod PutScopes
 pub mod ScopedCode
 pub mod ScopedRuns
+pub mod BlockedFibers
 pub mod AllWork
 pub mod Appended
 pub mod Takes

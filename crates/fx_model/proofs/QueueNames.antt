@@ -152,6 +152,14 @@ module _ (n : ℕ) where
   run_labels_name : (b : Origin) (ls : List Label) (d : Counts) (q : Progress) → NamesQueuesBelow n b.term → IsRun b ls d q → All LabelNamesBelow ls
   run_labels_name b ls d q h r = leads_name (first_counts b) d (Runs b.term) q ls r h
 
+  -- and so does what it comes to
+  leads_named : (c d : Counts) (p q : Progress) (ls : List Label) → Leads c p ls d q → ProgressNamesBelow p → ProgressNamesBelow q
+  leads_named c d p q [] r h = rw r.1 h
+  leads_named c d p q (l ∷ ls) r h = leads_named r.0 d r.1 q ls r.3 (step_names r.2 h).0
+
+  pub run_stays_named : (b : Origin) (ls : List Label) (d : Counts) (q : Progress) → NamesQueuesBelow n b.term → IsRun b ls d q → ProgressNamesBelow q
+  run_stays_named b ls d q h r = leads_named (first_counts b) d (Runs b.term) q ls r h
+
   -- what it starts begins at such a term
   start_names : (l : Label) → LabelNamesBelow l → StartsSo (λ b. NamesQueuesBelow n b.term) l
   start_names (Starts f b) h = h

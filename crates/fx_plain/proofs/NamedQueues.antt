@@ -13,40 +13,13 @@ use Rattle.fx_model.specs.Waiting.{wait_at}
 use Rattle.fx_model.specs.declared.source.Source.{Source}
 use Rattle.fx_model.proofs.QueueNames.{ProgressNamesBelow, LabelNamesBelow, step_names}
 use Rattle.fx_report.specs.Waits.{IsAtQueueBelow}
+use Rattle.fx_report.proofs.BlockedFibers.{source_named}
 use Rattle.fx_plain.specs.WholeMachine.{StartedFiber, WholeMachine, Move, Steps, Requests, opening, FiberSteps, WholeMachineLeads, IsWholeMachineRun}
 use Rattle.fx_plain.specs.Waits.{source_of_fiber}
 use Rattle.fx_plain.proofs.WholeMachineSteps.{Comes, itself, child, other, comes}
 use Rattle.fx_plain.proofs.RangesKept.{opened_at}
 
 module _ (n : ℕ) where
-  -- the leaf of a term
-  leaf_names : (t : Term) → NamesQueuesBelow n t → NamesQueuesBelow n (leaf t)
-  leaf_names (Let x a b) h = leaf_names a h.0
-  leaf_names (Handle a x b) h = leaf_names a h.0
-  leaf_names (OnCancel a f) h = leaf_names a h.0
-  leaf_names (Bracket x a u r) h = leaf_names a h.0
-  leaf_names (Masked r a) h = leaf_names a h
-  leaf_names (Opened r a) h = leaf_names a h
-  leaf_names (InUse k a r) h = leaf_names a h.0
-  leaf_names (InRelease k a v) h = leaf_names a h
-  leaf_names t h = h
-
-  -- what it waits for
-  wait_named : (t : Term) (w : Source) → NamesQueuesBelow n t → wait_at t ≡ Some w → IsAtQueueBelow n w
-  wait_named Never w h e = rw (sym (same_Some _ w e)) tt
-  wait_named (Join (Number f) x a d b c) w h e = rw (sym (same_Some _ w e)) tt
-  wait_named (Await f) w h e = rw (sym (same_Some _ w e)) tt
-  wait_named (First (Number f) (Number g)) w h e = rw (sym (same_Some _ w e)) tt
-  wait_named (Offer q v) w h e = rw (sym (same_Some _ w e)) h
-  wait_named (Take q) w h e = rw (sym (same_Some _ w e)) h
-  wait_named _ w h e = absurd cc
-
-  source_named : (p : Progress) (w : Source) → ProgressNamesBelow n p → option_and_then wait_at (leaf_at p) ≡ Some w → IsAtQueueBelow n w
-  source_named (Runs t) w h e = wait_named (leaf t) w (leaf_names t h) e
-  source_named (CleansUp k t rest) w h e = wait_named (leaf t) w (leaf_names t h.0) e
-  source_named (Unwinds rest) w h e = absurd (none-some w e)
-  source_named (HasEnded o) w h e = absurd (none-some w e)
-
   -- each fiber that has started
   abbrev pub AreNamed : WholeMachine → Type 0
   AreNamed m = (f : ℕ) (x : StartedFiber) → m.fibers f ≡ Some x → ProgressNamesBelow n x.progress
@@ -75,4 +48,4 @@ module _ (n : ℕ) where
   pub named_source : (z : Option StartedFiber) (w : Source) → ((x : StartedFiber) → z ≡ Some x → ProgressNamesBelow n x.progress)
       → source_of_fiber z ≡ Some w → IsAtQueueBelow n w
   named_source None w named e = absurd (none-some w e)
-  named_source (Some x) w named e = source_named x.progress w (named x refl) e
+  named_source (Some x) w named e = source_named n x.progress w (named x refl) e

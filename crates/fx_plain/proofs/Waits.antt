@@ -13,6 +13,7 @@ use Rattle.fx_model.specs.Step.{Progress, Runs, Unwinds, CleansUp, HasEnded, has
 use Rattle.fx_model.specs.Waiting.{wait_at}
 use Rattle.fx_model.specs.declared.source.Source.{Source}
 use Rattle.fx_model.specs.Report.{FiberReportView, ReportView}
+use Rattle.fx_model.proofs.BlockedFibers.{source_at, HasEndedOrWaits, ended_waits_not, waits_for}
 use Rattle.fx_fiber.specs.Fiber.{progress}
 use Rattle.fx_text.specs.declared.pick.Pick.{Pick}
 use Rattle.fx_text.specs.Meaning.{Meaning}
@@ -20,6 +21,7 @@ use Rattle.fx_report.specs.declared.wait.Wait.{Wait}
 use Rattle.fx_report.specs.Script.{script_of}
 use Rattle.fx_report.specs.Text.{queue_names}
 use Rattle.fx_report.specs.Waits.{WaitsAtQueueBelow}
+use Rattle.fx_report.proofs.BlockedFibers.{fibers_of, blocked_of, wait_from, one_blocked}
 use Rattle.fx_plain.specs.declared.plain_machine.Started.{Started}
 use Rattle.fx_plain.specs.declared.plain_machine.PlainMachine.{PlainMachine}
 use Rattle.fx_plain.specs.declared.class.Class.{Class}
@@ -61,20 +63,6 @@ waits_at_names m ps r waits term h =
     subst (λ (n : ℕ). All (WaitsAtQueueBelow n) waits) (sym (length-map m.queues (λ (q : List ℕ × ℕ). q.0)))
     (waits_named (length m.queues) (script_of m) ps r waits term h)
 
--- a fiber waits where it has not ended, and has ended where it does not wait
-data HasEndedOrWaits (source : Option Source) (ended : Bool) : Type 0 where
-  ends : source ≡ None → ended ≡ true → HasEndedOrWaits source ended
-  waits_for : (w : Source) → source ≡ Some w → ended ≡ false → HasEndedOrWaits source ended
-
-abbrev source_at : Progress → Option Source
-source_at p = option_and_then wait_at (leaf_at p)
-
-ended_waits_not : (p : Progress) → has_ended p ≡ true → HasEndedOrWaits (source_at p) (has_ended p)
-ended_waits_not (HasEnded o) e = ends refl refl
-ended_waits_not (Runs t) e = absurd cc
-ended_waits_not (Unwinds rest) e = absurd cc
-ended_waits_not (CleansUp k t rest) e = absurd cc
-
 -- by its class, where that is not ready
 by_class : (room element : ℕ → Bool) (r : Bool) (x : StartedFiber) (k : Class) → IsOfClass r (Some x) k → is_ready room element k ≡ false
     → HasEndedOrWaits (source_at x.progress) (has_ended x.progress)
@@ -82,24 +70,6 @@ by_class room element r x Able h e = absurd cc
 by_class room element r x (Waits w) h e = waits_for w h.leaf (waiting_goes r x.counts x.progress w h)
 by_class room element r x Over h e = ended_waits_not x.progress h
 by_class room element r x Unstarted h e = absurd h
-
-abbrev is_blocked : FiberReportView → Bool
-is_blocked x = not x.has_ended
-
-abbrev blocked_of : List FiberReportView → List ℕ
-blocked_of xs = map (λ (x : FiberReportView). x.id) (filter is_blocked xs)
-
-abbrev fibers_of : List Wait → List ℕ
-fibers_of waits = map (λ (w : Wait). w.fiber) waits
-
-abbrev wait_from : ℕ → Source → Wait
-wait_from f w = record { fiber = f; source = w }
-
-one_blocked : (f : ℕ) (x : FiberReportView) (source : Option Source) (waits : List Wait) (xs : List FiberReportView) → x.id ≡ f
-    → HasEndedOrWaits source x.has_ended → fibers_of waits ≡ blocked_of xs
-    → fibers_of (cons_option (option_map (wait_from f) source) waits) ≡ blocked_of (x ∷ xs)
-one_blocked f x source waits xs id (ends none ended) e = rw (none, ended) e
-one_blocked f x source waits xs id (waits_for w some goes) e = rw (some, goes, id) (ap (λ (fs : List ℕ). f ∷ fs) e)
 
 abbrev IsSourceIn : WholeMachine → Wait → Type 0
 IsSourceIn m w = source_of_fiber (m.fibers w.fiber) ≡ Some w.source

@@ -2,6 +2,7 @@ pub mod Keys
 pub mod TextRows
 pub mod QueueNames
 pub mod Endings
+pub mod BlockedFibers
 pub mod WritableReports
 pub mod Written
 pub mod Taken

@@ -240,6 +240,10 @@ module _ (s : ScriptView) (nodes : List Node) (ps : List Parted) (left : List (L
         outside_named = named.named;
       }
 
+      pub progress_told : (f : ℕ) (p : Parted) → parted_at ps f ≡ Some p → report_is_lawful.runs.progress f ≡ reached p.bare
+      unfolding all_runs report_is_lawful
+      progress_told f p at = ap (progress_at s) at
+
 -- the report of a run that has ended so
 module _ (s : ScriptView) (may : ℕ → Bool) (answer : ReportView) (h : EndsWithReport s may answer) where
   pub end_is_lawful : IsLawfulReport s may answer

@@ -8,6 +8,7 @@ pub mod Gathering
 pub mod WholeEntries
 pub mod Starters
 pub mod Lawful
+pub mod RunWaits
 pub mod Answered
 pub mod Agreeing
 pub mod PassChanges

@@ -41,6 +41,7 @@ mod ledger;
 mod lost;
 mod run;
 mod run_fault;
+mod waits;
 mod whole_report;
 
 pub use lost::test_for_lost;

@@ -1,0 +1,102 @@
+-- What the blocked fibers of a run that has ended wait for is told rightly.
+use Rattle.std.proofs.Common.{◌≡◌, ℕ, ◌+◌, ◌<◌, Bool, true, Option, Some, None, List, [], ◌∷◌, ◌++◌, length, map, take, All, refl, sym, ◌∙◌, ap, subst}
+use Rattle.std.specs.Prelude.{option_map, slice_index_or}
+use Rattle.std.specs.List.{cons_option}
+use Rattle.std.proofs.lemmas.List.{take_more}
+use Rattle.std.proofs.lemmas.List.Elements.{All-nil, All-cons, All-head, All-tail, filter_map-append}
+use Rattle.fx_term.specs.Script.{ScriptView}
+use Rattle.fx_model.specs.declared.source.Source.{Source}
+use Rattle.fx_model.specs.Step.{Progress, has_ended}
+use Rattle.fx_model.specs.Scopes.{IsScopedOver}
+use Rattle.fx_model.specs.Report.{FiberReportView, ReportView}
+use Rattle.fx_model.specs.LawfulReport.{IsLawfulReport}
+use Rattle.fx_model.proofs.BlockedFibers.{source_at, HasEndedOrWaits, has_ended_or_waits}
+use Rattle.fx_fiber.specs.Bare.{BareView, reached}
+use Rattle.fx_report.specs.declared.wait.Wait.{Wait}
+use Rattle.fx_report.proofs.BlockedFibers.{fibers_of, blocked_of, wait_from, one_blocked}
+use Rattle.fx_report.proofs.Keys.{all_found}
+use Rattle.fx_run.specs.Parted.{Parted, bares_of, parted_at}
+use Rattle.fx_run.specs.Reported.{bare_at, report_of_bare}
+use Rattle.fx_run.specs.EndOfRun.{EndsWithReport}
+use Rattle.fx_run.specs.RunWaits.{AreWaitsAt, IsLawfulWithWaits, wait_of, all_waits}
+use Rattle.fx_run.proofs.GivenFibers.{report, report_in, OfBare, of_bare, id_at}
+use Rattle.fx_run.proofs.Lawful.{report_is_lawful, progress_told}
+
+-- what a fiber more waits for
+pub one_more : (bares : List BareView) (k : ℕ) (x : BareView) → k < length bares → x ≡ slice_index_or bares k x
+    → all_waits (take (k + 1) bares) ≡ all_waits (take k bares) ++ cons_option (wait_of x) []
+one_more bares k x lt e =
+    ap all_waits (take_more bares k x lt) ∙ filter_map-append wait_of (take k bares) (slice_index_or bares k x ∷ [])
+    ∙ ap (λ (y : BareView). all_waits (take k bares) ++ cons_option (wait_of y) []) (sym e)
+
+abbrev Stands : BareView → Type 0
+Stands x = HasEndedOrWaits (source_at (reached x)) (has_ended (reached x))
+
+-- those that are listed are those that the report has as blocked
+blocked_are : (all bares : List BareView) → All Stands bares → fibers_of (all_waits bares) ≡ blocked_of (map (report_of_bare all) bares)
+blocked_are all [] h = refl
+blocked_are all (x ∷ bares) h =
+    one_blocked x.id (report_of_bare all x) (source_at (reached x)) (all_waits bares) (map (report_of_bare all) bares) refl (All-head Stands x bares h)
+    (blocked_are all bares (All-tail Stands x bares h))
+
+module _ (progress : ℕ → Progress) where
+  abbrev IsAt : BareView → Type 0
+  IsAt x = progress x.id ≡ reached x
+
+  abbrev IsSourceAt : Wait → Type 0
+  IsSourceAt w = source_at (progress w.fiber) ≡ Some w.source
+
+  one_source : (f : ℕ) (source : Option Source) (waits : List Wait) → source_at (progress f) ≡ source → All IsSourceAt waits
+      → All IsSourceAt (cons_option (option_map (wait_from f) source) waits)
+  one_source f None waits e all = all
+  one_source f (Some w) waits e all = All-cons IsSourceAt (wait_from f w) waits e all
+
+  -- each with what its leaf waits for
+  sources_are : (bares : List BareView) → All IsAt bares → All IsSourceAt (all_waits bares)
+  sources_are [] h = All-nil IsSourceAt
+  sources_are (x ∷ bares) h =
+      one_source x.id (source_at (reached x)) (all_waits bares) (ap source_at (All-head IsAt x bares h))
+      (sources_are bares (All-tail IsAt x bares h))
+
+module _ (s : ScriptView) (may : ℕ → Bool) (answer : ReportView) (h : EndsWithReport s may answer) (scoped : IsScopedOver (λ f. true) s.term) where
+  abbrev ps : List Parted
+  ps = h.fibers
+
+  abbrev told : ReportView
+  told = report ps h.left h.outside h.late
+
+  abbrev lawful : IsLawfulReport s may told
+  lawful =
+      report_is_lawful s h.nodes ps h.left h.outside h.late h.ran h.ascending h.answered.none_lost h.words h.answered.none_unsettled
+      h.term h.noted may h.named h.left_by_queue h.queues h.undeclared
+
+  abbrev reached_by : ℕ → Progress
+  reached_by = lawful.runs.progress
+
+  far : (f : ℕ) (p : Parted) → parted_at ps f ≡ Some p → reached_by f ≡ reached p.bare
+  far =
+      progress_told s h.nodes ps h.left h.outside h.late h.ran h.ascending h.answered.none_lost h.words h.answered.none_unsettled
+      h.term h.noted may h.named h.left_by_queue h.queues h.undeclared
+
+  is_at : (f : ℕ) (b : BareView) → bare_at (bares_of ps) f ≡ Some b → IsAt reached_by b
+  is_at f b at =
+      let o = of_bare ps f b at in
+      let number : b.id ≡ f = ap (λ (x : BareView). x.id) o.is ∙ id_at ps f o.fiber o.at in
+      ap reached_by number ∙ far f o.fiber o.at ∙ ap reached (sym o.is)
+
+  stands : (f : ℕ) (b : BareView) → bare_at (bares_of ps) f ≡ Some b → Stands b
+  stands f b at =
+      let o = of_bare ps f b at in
+      let there = has_ended_or_waits s may told scoped lawful f _ (report_in ps h.left h.outside h.late f o.fiber o.at) in
+      subst (λ (q : Progress). HasEndedOrWaits (source_at q) (has_ended q)) (far f o.fiber o.at ∙ ap reached (sym o.is)) there
+
+  pub end_waits : (waits : List Wait) → waits ≡ all_waits (bares_of ps) → IsLawfulWithWaits s may answer waits
+  end_waits waits e =
+      let key : BareView → ℕ = λ x. x.id in
+      let are : AreWaitsAt reached_by told (all_waits (bares_of ps)) =
+      record {
+        blocked = blocked_are (bares_of ps) (bares_of ps) (all_found key Stands (bares_of ps) h.ascending stands);
+        sources = sources_are reached_by (bares_of ps) (all_found key (IsAt reached_by) (bares_of ps) h.ascending is_at);
+      } in
+      let here : IsLawfulWithWaits s may told (all_waits (bares_of ps)) = record { lawful = lawful; waiting = are } in
+      rw e (subst (λ (r : ReportView). IsLawfulWithWaits s may r (all_waits (bares_of ps))) (sym h.answered.is) here)
