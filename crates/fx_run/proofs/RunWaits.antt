@@ -4,16 +4,21 @@ use Rattle.std.specs.Prelude.{option_map, slice_index_or}
 use Rattle.std.specs.List.{cons_option}
 use Rattle.std.proofs.lemmas.List.{take_more}
 use Rattle.std.proofs.lemmas.List.Elements.{All-nil, All-cons, All-head, All-tail, filter_map-append}
+use Rattle.fx_term.specs.QueuesNamed.{NamesQueuesBelow}
 use Rattle.fx_term.specs.Script.{ScriptView}
+use Rattle.fx_model.specs.Origin.{Origin}
 use Rattle.fx_model.specs.declared.source.Source.{Source}
 use Rattle.fx_model.specs.Step.{Progress, has_ended}
 use Rattle.fx_model.specs.Scopes.{IsScopedOver}
-use Rattle.fx_model.specs.Report.{FiberReportView, ReportView}
+use Rattle.fx_model.specs.Report.{FiberReportView, ReportView, fiber_in}
 use Rattle.fx_model.specs.LawfulReport.{IsLawfulReport}
+use Rattle.fx_model.proofs.HeadlineLaws.{each_begins_so}
+use Rattle.fx_model.proofs.QueueNames.{ProgressNamesBelow, run_starts_named, run_stays_named}
 use Rattle.fx_model.proofs.BlockedFibers.{source_at, HasEndedOrWaits, has_ended_or_waits}
 use Rattle.fx_fiber.specs.Bare.{BareView, reached}
 use Rattle.fx_report.specs.declared.wait.Wait.{Wait}
-use Rattle.fx_report.proofs.BlockedFibers.{fibers_of, blocked_of, wait_from, one_blocked}
+use Rattle.fx_report.specs.Waits.{WaitsAtQueueBelow}
+use Rattle.fx_report.proofs.BlockedFibers.{fibers_of, blocked_of, wait_from, one_blocked, source_named}
 use Rattle.fx_report.proofs.Keys.{all_found}
 use Rattle.fx_run.specs.Parted.{Parted, bares_of, parted_at}
 use Rattle.fx_run.specs.Reported.{bare_at, report_of_bare}
@@ -38,6 +43,19 @@ blocked_are all [] h = refl
 blocked_are all (x ∷ bares) h =
     one_blocked x.id (report_of_bare all x) (source_at (reached x)) (all_waits bares) (map (report_of_bare all) bares) refl (All-head Stands x bares h)
     (blocked_are all bares (All-tail Stands x bares h))
+
+-- at queues that their leaves name
+module _ (n : ℕ) where
+  one_named : (f : ℕ) (p : Progress) (source : Option Source) (waits : List Wait) → ProgressNamesBelow n p → source_at p ≡ source
+      → All (WaitsAtQueueBelow n) waits → All (WaitsAtQueueBelow n) (cons_option (option_map (wait_from f) source) waits)
+  one_named f p None waits named e all = all
+  one_named f p (Some w) waits named e all = All-cons (WaitsAtQueueBelow n) (wait_from f w) waits (source_named n p w named e) all
+
+  waits_named : (bares : List BareView) → All (λ x. ProgressNamesBelow n (reached x)) bares → All (WaitsAtQueueBelow n) (all_waits bares)
+  waits_named [] h = All-nil (WaitsAtQueueBelow n)
+  waits_named (x ∷ bares) h =
+      one_named x.id (reached x) (source_at (reached x)) (all_waits bares) (All-head (λ x. ProgressNamesBelow n (reached x)) x bares h) refl
+      (waits_named bares (All-tail (λ x. ProgressNamesBelow n (reached x)) x bares h))
 
 module _ (progress : ℕ → Progress) where
   abbrev IsAt : BareView → Type 0
@@ -89,6 +107,25 @@ module _ (s : ScriptView) (may : ℕ → Bool) (answer : ReportView) (h : EndsWi
       let o = of_bare ps f b at in
       let there = has_ended_or_waits s may told scoped lawful f _ (report_in ps h.left h.outside h.late f o.fiber o.at) in
       subst (λ (q : Progress). HasEndedOrWaits (source_at q) (has_ended q)) (far f o.fiber o.at ∙ ap reached (sym o.is)) there
+
+  -- what they wait for is at queues that the script's term names
+  module _ (n : ℕ) (named : NamesQueuesBelow n s.term) where
+    begins_named : (f : ℕ) (x : FiberReportView) → fiber_in told f ≡ Some x → NamesQueuesBelow n (lawful.runs.origin f).term
+    begins_named = each_begins_so s told lawful.starters lawful.runs lawful.origins (λ (b : Origin). NamesQueuesBelow n b.term) (run_starts_named n) named
+
+    is_named : (f : ℕ) (b : BareView) → bare_at (bares_of ps) f ≡ Some b → ProgressNamesBelow n (reached b)
+    is_named f b at =
+        let o = of_bare ps f b at in
+        let there = report_in ps h.left h.outside h.late f o.fiber o.at in
+        let runs = lawful.runs in
+        let run = (runs.run f _ there).run in
+        subst (ProgressNamesBelow n) (far f o.fiber o.at ∙ ap reached (sym o.is))
+        (run_stays_named n (runs.origin f) (runs.labels f) (runs.counts f) (runs.progress f) (begins_named f _ there) run)
+
+    pub end_waits_named : (waits : List Wait) → waits ≡ all_waits (bares_of ps) → All (WaitsAtQueueBelow n) waits
+    end_waits_named waits e =
+        let key : BareView → ℕ = λ x. x.id in
+        rw e (waits_named n (bares_of ps) (all_found key (λ x. ProgressNamesBelow n (reached x)) (bares_of ps) h.ascending is_named))
 
   pub end_waits : (waits : List Wait) → waits ≡ all_waits (bares_of ps) → IsLawfulWithWaits s may answer waits
   end_waits waits e =
