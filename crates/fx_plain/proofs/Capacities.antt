@@ -1,7 +1,7 @@
 -- The capacities of the queues of a script.
 use Rattle.std.proofs.Common.{◌≡◌, ℕ, List, [], ◌∷◌, map, refl, ap}
 use Rattle.std.specs.Prelude.{string_bytes}
-use Rattle.fx_text.specs.declared.queues.QueueDecl.{QueueDecl}
+use Rattle.fx_text.specs.declared.queue_decl.QueueDecl.{QueueDecl}
 use Rattle.fx_plain.specs.PlainQueue.{QueueView, empty_queue}
 
 -- an empty queue for each declaration is one for each capacity

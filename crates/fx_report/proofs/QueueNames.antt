@@ -7,7 +7,7 @@ use Rattle.fx_term.specs.Code.{IsCode}
 use Rattle.fx_term.specs.Meaning.{root_term}
 use Rattle.fx_term.specs.QueuesNamed.{NamesQueuesBelow}
 use Rattle.fx_model.proofs.QueueNames.{names_below_more}
-use Rattle.fx_text.specs.declared.queues.QueueDecl.{QueueDecl}
+use Rattle.fx_text.specs.declared.queue_decl.QueueDecl.{QueueDecl}
 use Rattle.fx_text.specs.declared.script.Script.{Script}
 use Rattle.fx_text.specs.View.{meaning}
 use Rattle.fx_report.specs.Text.{names_of, queue_names}

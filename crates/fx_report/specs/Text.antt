@@ -7,7 +7,7 @@ use Rattle.fx_term.specs.declared.outcome.Outcome.TheVariants.{Succeeded, Errore
 use Rattle.fx_term.specs.declared.event.Event.{Event}
 use Rattle.fx_term.specs.declared.event.Event.TheVariants as event
 use Rattle.fx_term.specs.declared.item.Item.{Item}
-use Rattle.fx_text.specs.declared.queues.QueueDecl.{QueueDecl}
+use Rattle.fx_text.specs.declared.queue_decl.QueueDecl.{QueueDecl}
 use Rattle.fx_text.specs.Meaning.{Meaning}
 use Rattle.fx_model.specs.Report.{FiberReportView, ReportView}
 use Rattle.fx_term.specs.QueuesNamed.{NamesQueueBelow}

@@ -18,7 +18,7 @@ use Rattle.fx_model.specs.Report.{FiberReportView, ReportView, trace_of_report, 
 use Rattle.fx_model.specs.Report.{left_in, outcome_shown, is_request_for, is_requested_in, final_outside}
 use Rattle.fx_fiber.specs.Bare.{BareView, reached}
 use Rattle.fx_report.proofs.Keys.{RisesFrom, rises_from}
-use Rattle.fx_text.specs.declared.queues.QueueDecl.{QueueDecl}
+use Rattle.fx_text.specs.declared.queue_decl.QueueDecl.{QueueDecl}
 use Rattle.fx_text.specs.QueuesView.{view_queues}
 use Rattle.fx_run.specs.Reported.{AreAscending, bare_at, report_of_bare, report_of, NoneIsLost, IsUnsettled, NoneIsUnsettled, IsLeast, IsReported}
 use Rattle.fx_run.specs.Ledger.{LedgerView, empty_ledger, with_fibers, with_requests}

@@ -12,7 +12,7 @@ use Rattle.fx_text.specs.declared.fault.Fault.{Fault}
 use Rattle.fx_text.specs.declared.fault.ReadError.{ReadError}
 use Rattle.fx_text.specs.declared.fault.ReadError.TheVariants as errors
 use Rattle.fx_text.specs.declared.fault.TextKind.TheVariants as kind
-use Rattle.fx_text.specs.declared.queues.QueueDecl.{QueueDecl}
+use Rattle.fx_text.specs.declared.queue_decl.QueueDecl.{QueueDecl}
 use Rattle.fx_text.specs.declared.top.TopForm.{TopForm}
 use Rattle.fx_text.specs.declared.top.TopForm.TheVariants as form
 use Rattle.fx_text.specs.Limits.{most_queues, most_capacity}

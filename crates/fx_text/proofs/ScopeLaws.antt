@@ -9,7 +9,7 @@ use Rattle.fx_term.specs.Scope.{kind_elsewhere}
 use Rattle.fx_text.specs.declared.place.Place.{Place}
 use Rattle.fx_text.specs.declared.scope.Bound.{Bound as CodeBound}
 use Rattle.fx_text.specs.Scope.{Bound, slot, under, elsewhere, bound_elsewhere, is_taken, same_kind, slot_of}
-use Rattle.fx_text.specs.declared.queues.QueueDecl.{QueueDecl}
+use Rattle.fx_text.specs.declared.queue_decl.QueueDecl.{QueueDecl}
 use Rattle.fx_text.specs.Queues.{Queue, names_of}
 use Rattle.fx_text.specs.QueuesView.{view_queue, view_queues}
 use Rattle.fx_text.specs.ScopeView.{view_bound, view_names, seen_past, scope}

@@ -1,6 +1,6 @@
 -- What the queues of the code stand for.
 use Rattle.std.specs.Prelude.{List, map, string_bytes}
-use Rattle.fx_text.specs.declared.queues.QueueDecl.{QueueDecl}
+use Rattle.fx_text.specs.declared.queue_decl.QueueDecl.{QueueDecl}
 use Rattle.fx_text.specs.Queues.{Queue}
 
 abbrev pub view_queue : QueueDecl → Queue

@@ -33,6 +33,7 @@ pub mod laws;
 mod part;
 mod pick;
 mod place;
+mod queue_decl;
 mod queues;
 mod reader;
 mod schedules;
@@ -43,6 +44,6 @@ mod top;
 
 pub use fault::{TextFault, TextKind};
 pub use pick::Pick;
-pub use queues::QueueDecl;
+pub use queue_decl::QueueDecl;
 pub use schedules::{MOST_SCHEDULE_BYTES, schedule};
 pub use script::{MOST_SCRIPT_BYTES, Script, parse};

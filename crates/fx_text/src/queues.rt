@@ -9,6 +9,7 @@ ghost use Rattle.fx_text.specs.Given.{Gives};
 use crate::fault::{ReadError, TextKind};
 use crate::part::{binder, closing, refused};
 use crate::place::Place;
+use crate::queue_decl::QueueDecl;
 use crate::token::{Token, next};
 use crate::top::{TopForm, top};
 use std::alloc::{AllocError, Global};
@@ -20,17 +21,11 @@ const MOST_QUEUES: usize = 16;
 /// The most elements that a queue may hold.
 const MOST_CAPACITY: u64 = 1024;
 
-/// A queue of a script.
-#[derive(Drop)]
-pub struct QueueDecl {
-    pub name: String,
-    pub cap: u32,
-}
-
 /// How many elements a queue may hold.
 #[tactic(auto, unfolding(crate::specs::Reading::capacity_at))]
 fn capacity(bytes: &[u8]) -> Result<(u32, &[u8]), ReadError>
     ensures read { Gives (λ x. (x.0, x.1.now)) result (capacity_at bytes.now) }
+    ensures sized { IfOk result (λ x. (0 < x.0) × (x.0 ≤ most_capacity)) }
     ensures shorter { IfOk result (λ x. length x.1.now < length bytes.now) }
 {
     let lexeme = next(bytes);

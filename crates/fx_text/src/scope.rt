@@ -6,7 +6,7 @@ ghost use Rattle.fx_term.specs.Scope.{kind_elsewhere};
 ghost use Rattle.fx_text.specs.ScopeView.{view_names, seen_past, scope};
 
 use crate::place::Place;
-use crate::queues::QueueDecl;
+use crate::queue_decl::QueueDecl;
 use fx_term::NameKind;
 
 /// A name in scope.

@@ -1,6 +1,6 @@
 use Rattle.std.proofs.Common.{◌≤◌, ◌+◌, ◌∙◌, map, sym, arith, ap}
 use Rattle.fx_text.specs.View.{meaning}
-use Rattle.fx_text.specs.declared.queues.QueueDecl.{QueueDecl}
+use Rattle.fx_text.specs.declared.queue_decl.QueueDecl.{QueueDecl}
 use Rattle.fx_plain.specs.PlainQueue.{empty_queue}
 use Rattle.fx_term.specs.declared.begin.Begin.{Begin}
 use Rattle.fx_report.specs.Script.{script_of}
