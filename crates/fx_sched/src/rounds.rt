@@ -30,8 +30,9 @@ pub struct RoundEnd<T, S> {
     pub shared: Vec<S>,
 }
 
-/// Runs these fibers by a worker for each element of `shared` until none is able to go on, and gives all
-/// of them back.
+/// Runs fibers by a worker for each element of `shared` until none is able to go on, and gives all of
+/// them back. At first those that rest are in their places, where a wake finds them, and the able ones
+/// are for whichever worker is first.
 pub fn round<
     R: Wait + Threads + Sync + RandomSource + AllocGlobal,
     P: Port<Shared: Send + Drop> + Send + Drop,
@@ -40,7 +41,8 @@ pub fn round<
     rt: &R,
     alloc: Global,
     total: u32,
-    fibers: Vec<Fiber<P>>,
+    able: Vec<Fiber<P>>,
+    resting: Vec<Fiber<P>>,
     shared: Vec<P::Shared>,
     code: &Code,
     gate: &G,
@@ -53,11 +55,58 @@ pub fn round<
 {
     let lot = Lot::new(alloc, total)?;
     let (all, hands) = Work::new(alloc, shared.len())?;
-    for fiber in fibers {
+    rest(rt, &all, &lot, resting)?;
+    inject(rt, &all, able)?;
+    let ends = workers(rt, jobs(alloc, hands, shared)?, &all, &lot, code, gate)?;
+    let shared = given_back(alloc, ends)?;
+    Ok(RoundEnd {
+        fibers: lot.empty(alloc)?,
+        shared,
+    })
+}
+
+/// Gives these fibers to whichever worker is first.
+fn inject<R: Wait, P: Port + Drop>(
+    rt: &R,
+    all: &Work<P>,
+    able: Vec<Fiber<P>>,
+) -> Result<(), Memory> {
+    for fiber in able {
         if all.inject(rt, fiber).is_err() {
             return Err(Memory);
         }
     }
+    Ok(())
+}
+
+/// Lays each of these fibers into its place: one that has ended for good, and another until it is
+/// woken. One whose place is taken is able to go on.
+fn rest<R: Wait, P: Port + Drop>(
+    rt: &R,
+    all: &Work<P>,
+    lot: &Lot<P>,
+    resting: Vec<Fiber<P>>,
+) -> Result<(), Memory>
+    requires { P.total ≤ lot.now }
+{
+    for fiber in resting {
+        if fiber.has_ended() {
+            lot.settle(rt, fiber);
+        } else if let Some(fiber) = lot.park(rt, fiber) {
+            if all.inject(rt, fiber).is_err() {
+                return Err(Memory);
+            }
+        }
+    }
+    Ok(())
+}
+
+/// What each worker begins with, numbered from 0.
+fn jobs<T: Drop, S: Drop>(
+    alloc: Global,
+    hands: Vec<Owner<T>>,
+    shared: Vec<S>,
+) -> Result<Vec<Job<T, S>>, Memory> {
     let mut jobs = Vec::new(alloc);
     let mut worker = 0u32;
     for (hand, shared) in hands.into_iter().zip(shared) {
@@ -68,18 +117,22 @@ pub fn round<
         })?;
         worker = worker.wrapping_add(1);
     }
-    let ends = workers(rt, jobs, &all, &lot, code, gate)?;
-    let mut left = Vec::new(alloc);
-    for (end, shared) in ends {
+    Ok(jobs)
+}
+
+/// What the workers shared with their fibers, where none of them ended for want of memory.
+fn given_back<P: Port<Shared: Drop> + Drop>(
+    alloc: Global,
+    ends: Vec<(WorkerEnd<P>, P::Shared)>,
+) -> Result<Vec<P::Shared>, Memory> {
+    let mut shared = Vec::new(alloc);
+    for (end, one) in ends {
         if let WorkerEnd::Memory(..) = end {
             return Err(Memory);
         }
-        left.push(shared)?;
+        shared.push(one)?;
     }
-    Ok(RoundEnd {
-        fibers: lot.empty(alloc)?,
-        shared: left,
-    })
+    Ok(shared)
 }
 
 /// Runs all workers, each in a thread of its own.
