@@ -1,7 +1,8 @@
 //! A round of workers.
-ghost use Rattle.std.specs.Prelude.{◌≡◌, ◌≤◌, ℕ, true, map, IfOk};
+ghost use Rattle.std.specs.Prelude.{◌≡◌, ◌≤◌, ℕ, true, map, vec_len, All, IfOk};
 ghost use Rattle.std.specs.List.Sorted.{IsStrictlyIncreasing};
 ghost use Rattle.fx_fiber.specs.Fiber.{FiberView};
+ghost use Rattle.fx_sched.specs.declared.worker.WorkerEnd.TheVariants.{Done};
 
 use crate::deques::{Owner, Work};
 use crate::gate::Gate;
@@ -30,8 +31,9 @@ pub struct RoundEnd<T, S> {
     pub shared: Vec<S>,
 }
 
-/// Runs these fibers by a worker for each element of `shared` until none is able to go on, and gives all
-/// of them back.
+/// Runs fibers by a worker for each element of `shared` until none is able to go on, and gives all of
+/// them back. At first those that rest are in their places, where a wake finds them, and the able ones
+/// are for whichever worker is first.
 pub fn round<
     R: Wait + Threads + Sync + RandomSource + AllocGlobal,
     P: Port<Shared: Send + Drop> + Send + Drop,
@@ -40,7 +42,8 @@ pub fn round<
     rt: &R,
     alloc: Global,
     total: u32,
-    fibers: Vec<Fiber<P>>,
+    able: Vec<Fiber<P>>,
+    resting: Vec<Fiber<P>>,
     shared: Vec<P::Shared>,
     code: &Code,
     gate: &G,
@@ -48,16 +51,67 @@ pub fn round<
     requires code { code.now.nodes ≡ P.code }
     requires total { P.total ≤ total }
     requires gate { (id : ℕ) → G.may gate.now id ≡ true → P.may id ≡ true }
-    ensures { IfOk result (λ end. IsStrictlyIncreasing
+    ensures ascending { IfOk result (λ end. IsStrictlyIncreasing
         (map (λ (f : FiberView P). (P.facts f.port).number) end.fibers.items)) }
+    ensures workers { IfOk result (λ end. vec_len end.shared ≡ vec_len shared) }
 {
     let lot = Lot::new(alloc, total)?;
     let (all, hands) = Work::new(alloc, shared.len())?;
-    for fiber in fibers {
+    rest(rt, &all, &lot, resting)?;
+    inject(rt, &all, able)?;
+    let ends = workers(rt, jobs(alloc, hands, shared)?, &all, &lot, code, gate)?;
+    let shared = given_back(alloc, ends)?;
+    Ok(RoundEnd {
+        fibers: lot.empty(alloc)?,
+        shared,
+    })
+}
+
+/// Gives these fibers to whichever worker is first.
+fn inject<R: Wait, P: Port + Drop>(
+    rt: &R,
+    all: &Work<P>,
+    able: Vec<Fiber<P>>,
+) -> Result<(), Memory> {
+    for fiber in able {
         if all.inject(rt, fiber).is_err() {
             return Err(Memory);
         }
     }
+    Ok(())
+}
+
+/// Lays each of these fibers into its place: one that has ended for good, and another until it is
+/// woken. One whose place is taken is able to go on.
+fn rest<R: Wait, P: Port + Drop>(
+    rt: &R,
+    all: &Work<P>,
+    lot: &Lot<P>,
+    resting: Vec<Fiber<P>>,
+) -> Result<(), Memory>
+    requires { P.total ≤ lot.now }
+{
+    for fiber in resting {
+        if fiber.has_ended() {
+            lot.settle(rt, fiber);
+        } else if let Some(fiber) = lot.park(rt, fiber) {
+            if all.inject(rt, fiber).is_err() {
+                return Err(Memory);
+            }
+        }
+    }
+    Ok(())
+}
+
+/// What each worker begins with, numbered from 0.
+fn jobs<T: Drop, S: Drop>(
+    alloc: Global,
+    hands: Vec<Owner<T>>,
+    shared: Vec<S>,
+) -> Result<Vec<Job<T, S>>, Memory>
+    requires { vec_len hands ≡ vec_len shared }
+    ensures { IfOk result (λ jobs. vec_len jobs ≡ vec_len shared) }
+{
     let mut jobs = Vec::new(alloc);
     let mut worker = 0u32;
     for (hand, shared) in hands.into_iter().zip(shared) {
@@ -68,18 +122,25 @@ pub fn round<
         })?;
         worker = worker.wrapping_add(1);
     }
-    let ends = workers(rt, jobs, &all, &lot, code, gate)?;
-    let mut left = Vec::new(alloc);
-    for (end, shared) in ends {
-        if let WorkerEnd::Memory(..) = end {
-            return Err(Memory);
+    Ok(jobs)
+}
+
+/// What the workers shared with their fibers, where none of them ended for want of memory.
+fn given_back<P: Port<Shared: Drop> + Drop>(
+    alloc: Global,
+    ends: Vec<(WorkerEnd<P>, P::Shared)>,
+) -> Result<Vec<P::Shared>, Memory>
+    ensures shared { IfOk result (λ shared. shared.items ≡ map (λ end. end.1) ends.items) }
+    ensures done { IfOk result (λ shared. All (λ end. end.0 ≡ Done) ends.items) }
+{
+    let mut shared = Vec::new(alloc);
+    for (end, one) in ends {
+        match end {
+            WorkerEnd::Done => shared.push(one)?,
+            WorkerEnd::Memory(..) => return Err(Memory),
         }
-        left.push(shared)?;
     }
-    Ok(RoundEnd {
-        fibers: lot.empty(alloc)?,
-        shared: left,
-    })
+    Ok(shared)
 }
 
 /// Runs all workers, each in a thread of its own.
@@ -98,6 +159,7 @@ fn workers<
     requires code { code.now.nodes ≡ P.code }
     requires total { P.total ≤ lot.now }
     requires gate { (id : ℕ) → G.may gate.now id ≡ true → P.may id ≡ true }
+    ensures { IfOk result (λ ends. vec_len ends ≡ vec_len jobs) }
 {
     Ok(thread::map_vec(
         rt,
