@@ -1,27 +1,26 @@
 -- What a command answers, from what was read and what was written.
-use Rattle.std.proofs.Common.{◌≡◌, ℕ, Option, Some, None, Ok, Err, List, [], string_bytes, refl, sym, ◌∙◌, ap, inl, inr, option_map, IfSome}
+use Rattle.std.proofs.Common.{◌≡◌, ℕ, Option, Some, None, Result, Ok, Err, List, [], string_bytes, refl, sym, ◌∙◌, ap, inl, inr, option_map, IfSome, IfOk, IfErr}
 use Rattle.std.specs.Io.KnownBytes.{Appends, Keeps}
 use Rattle.fx_text.specs.declared.pick.Pick.{Pick}
 use Rattle.fx_text.specs.Meaning.{Meaning}
-use Rattle.fx_report.specs.declared.out_fault.OutFault.{OutFault}
-use Rattle.fx_report.specs.declared.out_fault.OutFault.TheVariants as out
-use Rattle.fx_report.specs.declared.status.TheConstants.{REFUSED}
-use Rattle.fx_report.specs.Output.{fault_of_writing}
+use Rattle.fx_report.specs.declared.status.TheConstants.{REFUSED, FAULT}
 use Rattle.fx_report.specs.Written.{WritesAnswer}
 use Rattle.fx_report.proofs.Written.{keeps_same}
+use Rattle.fx_run.specs.declared.run_fault.RunFault.{RunFault}
 use Rattle.fx_command.specs.declared.command_fault.Refusal.{Refusal}
 use Rattle.fx_command.specs.declared.command_fault.CommandFault.{CommandFault}
-use Rattle.fx_command.specs.declared.command_fault.CommandFault.TheVariants.{Refused, Unreadable, Memory, Write}
+use Rattle.fx_command.specs.declared.command_fault.CommandFault.TheVariants.{Refused, Unreadable, Memory, Write, Run}
 use Rattle.fx_command.specs.Fetched.{FetchesScript, FetchesSchedule, FetchesNoScript, FetchesNoSchedule}
 use Rattle.fx_command.specs.declared.perform.Performed.{Performed}
 use Rattle.fx_command.specs.Performed.{Performs}
 use Rattle.fx_command.specs.declared.call.Call.{Call}
 use Rattle.fx_command.specs.Call.{CallView, view_call, call_of}
-use Rattle.fx_command.specs.CommandAnswer.{performed, no_script, no_schedule, known_schedule, AnswersToCall, IsNamedIn, Leaves}
+use Rattle.fx_command.specs.CommandAnswer.{performed, no_script, no_schedule, known_schedule, AnswersToCall, IsNamedIn, FailsToRun, Leaves}
+use Rattle.fx_command.specs.Said.{SaysRunFault}
 use Rattle.fx_command.specs.CommandAnswer.{TellsRefusal, TellsUnreadable, Runs}
 use Rattle.fx_command.specs.CommandAnswer.TellsRefusal.{told, not_taken as line_not_taken}
 use Rattle.fx_command.specs.CommandAnswer.TellsUnreadable.{told as unread_told, no_memory as unread_no_memory}
-use Rattle.fx_command.specs.CommandAnswer.Runs.{answered, unreadable, no_memory, not_taken}
+use Rattle.fx_command.specs.CommandAnswer.Runs.{answered, unreadable, no_memory, not_run, not_taken}
 
 -- some text of which so much is known
 known_or_empty : (known : Option (List ℕ)) → List ℕ
@@ -48,6 +47,7 @@ leaves_no_script holds call (Refused r) old without = (
 leaves_no_script holds call (Unreadable name) old without = (inl without, keeps_same old)
 leaves_no_script holds call Memory old without = keeps_same old
 leaves_no_script holds call Write old without = absurd without
+leaves_no_script holds call (Run fault) old without = absurd without
 
 pub leaves_no_schedule : (holds : List ℕ → Option (List ℕ)) (call : CallView) (m : Meaning) (fault : CommandFault) (old : Option (List ℕ))
     → FetchesScript (holds call.script) m → FetchesNoSchedule call.schedule (known_schedule holds call.schedule) fault → Leaves holds call fault old old
@@ -64,11 +64,13 @@ leaves_no_schedule holds call m (Refused r) old has without = (
 leaves_no_schedule holds call m (Unreadable name) old has without = (inr without, keeps_same old)
 leaves_no_schedule holds call m Memory old has without = keeps_same old
 leaves_no_schedule holds call m Write old has without = absurd without
+leaves_no_schedule holds call m (Run fault) old has without = absurd without
 
-pub leaves_unwritten : (holds : List ℕ → Option (List ℕ)) (call : CallView) (m : Meaning) (ps : List Pick) (fault : OutFault) (old new : Option (List ℕ))
-    → FetchesScript (holds call.script) m → FetchesSchedule (known_schedule holds call.schedule) ps → Performs call.command m ps (Err fault) old new
-    → Leaves holds call (fault_of_writing Write Memory fault) old new
-leaves_unwritten holds call m ps out.Write old new has picks (words, part) = (
+pub leaves_unwritten : (holds : List ℕ → Option (List ℕ)) (call : CallView) (m : Meaning) (ps : List Pick) (r : Result Performed CommandFault)
+    (old new : Option (List ℕ)) → FetchesScript (holds call.script) m → FetchesSchedule (known_schedule holds call.schedule) ps
+    → Performs call.command m ps r old new → IfErr r (λ fault. Leaves holds call fault old new)
+leaves_unwritten holds call m ps (Ok done) old new has picks whole = tt
+leaves_unwritten holds call m ps (Err Write) old new has picks (words, part) = (
   words,
   record {
     status = part.status;
@@ -83,12 +85,16 @@ leaves_unwritten holds call m ps out.Write old new has picks (words, part) = (
     part = part.part;
   },
 )
-leaves_unwritten holds call m ps out.Memory old new has picks kept = kept
+leaves_unwritten holds call m ps (Err Memory) old new has picks (can, kept) = kept
+leaves_unwritten holds call m ps (Err (Run fault)) old new has picks (fails, kept) = (((m, has), fails), kept)
+leaves_unwritten holds call m ps (Err (Refused r)) old new has picks none = absurd none
+leaves_unwritten holds call m ps (Err (Unreadable name)) old new has picks none = absurd none
 
-pub writes_answer : (holds : List ℕ → Option (List ℕ)) (call : CallView) (m : Meaning) (ps : List Pick) (done : Performed) (old new : Option (List ℕ))
-    → FetchesScript (holds call.script) m → FetchesSchedule (known_schedule holds call.schedule) ps → Performs call.command m ps (Ok done) old new
-    → WritesAnswer (AnswersToCall holds call (string_bytes done.words)) done.status old new
-writes_answer holds call m ps done old new has picks whole = record {
+pub writes_answer : (holds : List ℕ → Option (List ℕ)) (call : CallView) (m : Meaning) (ps : List Pick) (r : Result Performed CommandFault)
+    (old new : Option (List ℕ)) → FetchesScript (holds call.script) m → FetchesSchedule (known_schedule holds call.schedule) ps
+    → Performs call.command m ps r old new
+    → IfOk r (λ done. WritesAnswer (AnswersToCall holds call (string_bytes done.words)) done.status old new)
+writes_answer holds call m ps (Ok done) old new has picks whole = record {
   text = whole.text;
   answer = record {
     script = has.text;
@@ -99,6 +105,7 @@ writes_answer holds call m ps done old new has picks whole = record {
   };
   appended = whole.appended;
 }
+writes_answer holds call m ps (Err fault) old new has picks none = tt
 
 -- what is kept, and then grows
 kept_then_appends : (old mid new : Option (List ℕ)) (bytes : List ℕ) → Keeps old mid → Appends mid new bytes → Appends old new bytes
@@ -133,6 +140,12 @@ pub unread_runs : (words : List (List ℕ)) (holds : List ℕ → Option (List �
     → Runs words holds old new said says status
 unread_runs words holds call name old new said says _ is left (unread_told line) = unreadable call name is left.0 left.1 line
 unread_runs words holds call name old new said says _ is left (unread_no_memory line) = no_memory call is left.1 line
+
+-- a fault of a run was told
+pub run_fault_runs : (words : List (List ℕ)) (holds : List ℕ → Option (List ℕ)) (call : CallView) (fault : RunFault) (old new said says : Option (List ℕ))
+    → call_of words ≡ Some call → FailsToRun holds call fault × Keeps old new → SaysRunFault fault said says → Runs words holds old new said says FAULT
+run_fault_runs words holds call fault old new said says is left (inl line) = not_run call fault is left.0 left.1 line
+run_fault_runs words holds call fault old new said says is left (inr line) = no_memory call is left.1 line
 
 -- the call that the words make
 pub call_is : (words : List (List ℕ)) (o : Option Call) (c : Call) → option_map view_call o ≡ call_of words → o ≡ Some c → call_of words ≡ Some (view_call c)

@@ -13,7 +13,7 @@ use Rattle.fx_text.specs.Schedule.{IsSchedule, nothing, schedule_reading}
 use Rattle.fx_report.specs.Answering.{most_read}
 use Rattle.fx_report.proofs.Answered.{read_long}
 use Rattle.fx_command.specs.declared.command_fault.CommandFault.{CommandFault}
-use Rattle.fx_command.specs.declared.command_fault.CommandFault.TheVariants.{Refused, Unreadable, Memory, Write}
+use Rattle.fx_command.specs.declared.command_fault.CommandFault.TheVariants.{Refused, Unreadable, Memory, Write, Run}
 use Rattle.fx_command.specs.CommandFault.{IsRefusal, IsUnreadOrRefusal}
 use Rattle.fx_command.specs.Refused.{IsNoScript, IsNoSchedule}
 use Rattle.fx_command.specs.Fetched.{IsPrefixOf, OfText, KeepsFiles}
@@ -89,6 +89,7 @@ if_not_fetched IsName Refuses most known read (Err (Refused r)) of p h = of_text
 if_not_fetched IsName Refuses most known read (Err Memory) of p h = tt
 if_not_fetched IsName Refuses most known read (Err (Unreadable n)) of p h = absurd h
 if_not_fetched IsName Refuses most known read (Err Write) of p h = absurd h
+if_not_fetched IsName Refuses most known read (Err (Run fault)) of p h = absurd h
 
 pub empty_schedule : IsSchedule [] []
 empty_schedule = record { short = omega arith; few = omega arith; spells = nothing }

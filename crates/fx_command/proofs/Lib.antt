@@ -1,4 +1,5 @@
 mod Refused
 mod Performed
+mod WorkersLaws
 mod Fetched
 mod CommandAnswer

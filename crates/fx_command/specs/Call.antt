@@ -1,8 +1,9 @@
 -- Which call of the program the words after its name make.
 use Rattle.std.specs.Prelude.{ℕ, if◌then◌else◌, Option, Some, None, List, [], ◌∷◌, codes, bytes_eq, option_map}
 use Rattle.fx_command.specs.declared.call.Command.{Command}
-use Rattle.fx_command.specs.declared.call.Command.TheVariants.{Check, Replay, Trace}
+use Rattle.fx_command.specs.declared.call.Command.TheVariants.{Check, Replay, Trace, Run}
 use Rattle.fx_command.specs.declared.call.Call.{Call}
+use Rattle.fx_command.specs.Workers.{workers_in}
 
 -- what is done with the script of this name, by the schedule of that name, if there is one
 pub record CallView : Type 0 where
@@ -24,10 +25,16 @@ call_with_names c (script ∷ schedule ∷ []) =
     if bytes_eq schedule (codes "-") then None else Some (record { command = c; script = script; schedule = Some schedule })
 call_with_names c names = call_with_script c names
 
+-- with the name of a script and a number of workers
+abbrev pub call_with_workers : List (List ℕ) → Option CallView
+call_with_workers (script ∷ word ∷ []) = option_map (λ n. record { command = Run n; script = script; schedule = None }) (workers_in word)
+call_with_workers names = None
+
 -- no words replay the script on standard input, and other words make no call
 abbrev pub call_of : List (List ℕ) → Option CallView
 call_of [] = Some (record { command = Replay; script = codes "-"; schedule = None })
 call_of (word ∷ names) =
     if bytes_eq word (codes "check") then call_with_script Check names
     else if bytes_eq word (codes "replay") then call_with_names Replay names
-    else if bytes_eq word (codes "trace") then call_with_names Trace names else None
+    else if bytes_eq word (codes "trace") then call_with_names Trace names
+    else if bytes_eq word (codes "run") then call_with_workers names else None

@@ -10,11 +10,14 @@ use Rattle.fx_report.specs.Output.{WritesPrefix}
 use Rattle.fx_report.specs.Written.{WritesAnswer, WritesPart}
 use Rattle.fx_command.specs.declared.call.Command.{Command}
 use Rattle.fx_command.specs.declared.command_fault.CommandFault.{CommandFault}
-use Rattle.fx_command.specs.declared.command_fault.CommandFault.TheVariants.{Refused, Unreadable, Memory, Write}
+use Rattle.fx_command.specs.declared.command_fault.CommandFault.TheVariants.{Refused, Unreadable, Memory, Write, Run}
+use Rattle.fx_run.specs.declared.run_fault.RunFault.{RunFault}
 use Rattle.fx_command.specs.Refused.{IsNoScript, IsNoSchedule}
+use Rattle.fx_command.specs.Workers.{CanFail}
+use Rattle.fx_command.specs.Fetched.{FetchesScript}
 use Rattle.fx_command.specs.Performed.{IsPerformed}
 use Rattle.fx_command.specs.Call.{CallView, call_of}
-use Rattle.fx_command.specs.Said.{Says, usage_line, unreadable_line, memory_line, write_line}
+use Rattle.fx_command.specs.Said.{Says, usage_line, unreadable_line, memory_line, write_line, run_fault_line}
 
 -- the status and the printed text for a script and a schedule, with these words for people: what was asked for, or one line where one of them is no such
 -- text, with some words. A schedule is read only after a script
@@ -45,11 +48,16 @@ AnswersToCall holds call words = AnswersTo call.command (holds call.script) (kno
 abbrev pub IsNamedIn : CallView → List ℕ → Type 0
 IsNamedIn call name = (name ≡ call.script) ⊎ (call.schedule ≡ Some name)
 
+-- the call is of a run with a script that there is, and the fault is one that it can have
+abbrev pub FailsToRun : (List ℕ → Option (List ℕ)) → CallView → RunFault → Type 0
+FailsToRun holds call fault = ((m : Meaning) × FetchesScript (holds call.script) m) × CanFail call.command fault
+
 -- what a fault leaves: only where the output took not all was anything written. The line of a refusal is the answer, and comes then
 abbrev pub Leaves : (List ℕ → Option (List ℕ)) → CallView → CommandFault → Option (List ℕ) → Option (List ℕ) → Type 0
 Leaves holds call (Refused r) old new = AnswersToCall holds call (string_bytes r.words) REFUSED (string_bytes r.line) × Keeps old new
 Leaves holds call (Unreadable name) old new = IsNamedIn call name.now × Keeps old new
 Leaves holds call Memory old new = Keeps old new
+Leaves holds call (Run fault) old new = FailsToRun holds call fault × Keeps old new
 Leaves holds call Write old new = (words : List ℕ) × WritesPart (AnswersToCall holds call words) old new
 
 -- the line of a refusal was written, and its words said; or a prefix of the line was written
@@ -72,5 +80,7 @@ pub data Runs (words : List (List ℕ)) (holds : List ℕ → Option (List ℕ))
   unreadable : (call : CallView) (name : List ℕ) → call_of words ≡ Some call → IsNamedIn call name → Keeps old new → Says (unreadable_line name) said says
       → Runs words holds old new said says UNREADABLE
   no_memory : (call : CallView) → call_of words ≡ Some call → Keeps old new → Says memory_line said says → Runs words holds old new said says FAULT
+  not_run : (call : CallView) (fault : RunFault) → call_of words ≡ Some call → FailsToRun holds call fault → Keeps old new
+      → Says (run_fault_line fault) said says → Runs words holds old new said says FAULT
   not_taken : {remark : List ℕ} (call : CallView) → call_of words ≡ Some call → WritesPart (AnswersToCall holds call remark) old new
       → Says write_line said says → Runs words holds old new said says FAULT

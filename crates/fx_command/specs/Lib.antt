@@ -1,6 +1,7 @@
 pub mod FetchFault
 pub mod Refused
 pub mod CommandFault
+pub mod Workers
 pub mod Call
 pub mod Said
 pub mod Fetched

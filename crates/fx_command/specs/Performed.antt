@@ -1,14 +1,14 @@
 -- What is done with a script and picks, and what is printed and said of it.
-use Rattle.std.specs.Prelude.{ℕ, Option, Result, Ok, Err, List, [], ◌++◌, codes, decimal, length, string_bytes}
+use Rattle.std.specs.Prelude.{ℕ, ◌≤◌, Bool, false, Option, Result, Ok, Err, List, [], ◌++◌, codes, decimal, length, string_bytes}
 use Rattle.std.specs.Io.KnownBytes.{Keeps}
 use Rattle.fx_term.specs.Script.{total}
 use Rattle.fx_text.specs.declared.pick.Pick.{Pick}
 use Rattle.fx_text.specs.Meaning.{Meaning}
 use Rattle.fx_model.specs.Report.{ReportView}
-use Rattle.fx_report.specs.declared.out_fault.OutFault.{OutFault}
-use Rattle.fx_report.specs.declared.out_fault.OutFault.TheVariants.{Write, Memory}
 use Rattle.fx_report.specs.declared.status.TheConstants.{ENDED}
 use Rattle.fx_plain.specs.Waits.{IsReplayWithWaits}
+use Rattle.fx_run.specs.declared.run.TheConstants.{MOST_WORKERS}
+use Rattle.fx_run.specs.RunWaits.{IsLawfulWithWaits}
 use Rattle.fx_report.specs.declared.wait.Wait.{Wait}
 use Rattle.fx_report.specs.Script.{script_of}
 use Rattle.fx_report.specs.Text.{line_end, queue_names, report_text, trace_text}
@@ -17,6 +17,10 @@ use Rattle.fx_report.specs.Waits.{waits_text}
 use Rattle.fx_report.specs.Written.{WritesAnswer, WritesPart}
 use Rattle.fx_command.specs.declared.call.Command.{Command}
 use Rattle.fx_command.specs.declared.call.Command.TheVariants.{Check, Replay, Trace}
+use Rattle.fx_command.specs.declared.call.Command.TheVariants as command
+use Rattle.fx_command.specs.declared.command_fault.CommandFault.{CommandFault}
+use Rattle.fx_command.specs.declared.command_fault.CommandFault.TheVariants.{Refused, Unreadable, Memory, Write, Run}
+use Rattle.fx_command.specs.Workers.{CanBeDone, CanFail}
 use Rattle.fx_command.specs.declared.perform.Performed.{Performed}
 
 -- the line of a check
@@ -27,17 +31,26 @@ counts_text fibers queues = codes "fibers " ++ decimal fibers ++ codes " queues 
 abbrev pub check_text : Meaning → List ℕ
 check_text m = counts_text (total (script_of m)) (length m.queues)
 
+-- nobody asks for a cancellation from outside
+abbrev pub nobody : ℕ → Bool
+nobody f = false
+
 -- the words for people, the status and the printed text: of a check the counts, and no words; else the report of the run that the picks choose, or its
--- traces, and a line for each blocked fiber
+-- traces, or some lawful report by workers of a number that there can be; and a line for each blocked fiber
 pub data IsPerformed (m : Meaning) (picks : List Pick) : Command → List ℕ → ℕ → List ℕ → Type 0 where
   checked : IsPerformed m picks Check [] ENDED (check_text m)
   replayed : {r : ReportView} {waits : List Wait} → IsReplayWithWaits (script_of m) picks r waits
       → IsPerformed m picks Replay (waits_text (queue_names m) waits) (status_of r) (report_text (queue_names m) r)
   traced : {r : ReportView} {waits : List Wait} → IsReplayWithWaits (script_of m) picks r waits
       → IsPerformed m picks Trace (waits_text (queue_names m) waits) (status_of r) (trace_text (queue_names m) r)
+  ran : {workers : ℕ} {r : ReportView} {waits : List Wait} → 1 ≤ workers → workers ≤ MOST_WORKERS → IsLawfulWithWaits (script_of m) nobody r waits
+      → IsPerformed m picks (command.Run workers) (waits_text (queue_names m) waits) (status_of r) (report_text (queue_names m) r)
 
 -- what is done takes the writer from `old` to `new`
-abbrev pub Performs : Command → Meaning → List Pick → Result Performed OutFault → Option (List ℕ) → Option (List ℕ) → Type 0
+abbrev pub Performs : Command → Meaning → List Pick → Result Performed CommandFault → Option (List ℕ) → Option (List ℕ) → Type 0
 Performs c m picks (Ok done) old new = WritesAnswer (IsPerformed m picks c (string_bytes done.words)) done.status old new
 Performs c m picks (Err Write) old new = (words : List ℕ) × WritesPart (IsPerformed m picks c words) old new
-Performs c m picks (Err Memory) old new = Keeps old new
+Performs c m picks (Err Memory) old new = CanBeDone c × Keeps old new
+Performs c m picks (Err (Run fault)) old new = CanFail c fault × Keeps old new
+Performs c m picks (Err (Refused r)) old new = ⊥
+Performs c m picks (Err (Unreadable name)) old new = ⊥

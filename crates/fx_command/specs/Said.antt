@@ -1,8 +1,10 @@
 -- What the program says on standard error.
-use Rattle.std.specs.Prelude.{Option, List, ℕ, ◌++◌, codes}
+use Rattle.std.specs.Prelude.{Option, List, ℕ, ◌⊎◌, ◌++◌, codes, decimal}
 use Rattle.std.specs.Io.KnownBytes.{Appends}
 use Rattle.fx_report.specs.Output.{WritesPrefix}
 use Rattle.fx_report.specs.Text.{line_end}
+use Rattle.fx_run.specs.declared.run_fault.RunFault.{RunFault}
+use Rattle.fx_run.specs.declared.run_fault.RunFault.TheVariants.{Workers, Memory, Lost, Unsettled}
 
 -- this was written whole, or as much of it as was taken
 pub data Says (text : List ℕ) (old new : Option (List ℕ)) : Type 0 where
@@ -21,3 +23,14 @@ memory_line = codes "fault memory" ++ line_end
 
 abbrev pub write_line : List ℕ
 write_line = codes "fault write" ++ line_end
+
+-- that of a fault of a run
+abbrev pub run_fault_line : RunFault → List ℕ
+run_fault_line Workers = codes "fault workers" ++ line_end
+run_fault_line Memory = memory_line
+run_fault_line (Lost f) = codes "fault lost " ++ decimal f ++ line_end
+run_fault_line (Unsettled f) = codes "fault unsettled " ++ decimal f ++ line_end
+
+-- the fault was said, or that memory ran out for its line
+abbrev pub SaysRunFault : RunFault → Option (List ℕ) → Option (List ℕ) → Type 0
+SaysRunFault fault old new = Says (run_fault_line fault) old new ⊎ Says memory_line old new

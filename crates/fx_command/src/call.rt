@@ -1,6 +1,7 @@
 //! What the words after the program's name ask for.
 
 use crate::files::STANDARD_INPUT;
+use crate::workers::workers_in;
 
 /// What is done with a script.
 #[derive(Clone, Copy, PartialEq, Eq, Debug)]
@@ -11,6 +12,8 @@ pub(crate) enum Command {
     Replay,
     /// It is replayed, and the traces are written.
     Trace,
+    /// Its fibers are run by so many workers, and the report is written.
+    Run(u32),
 }
 
 /// A call of the program.
@@ -25,7 +28,8 @@ pub(crate) struct Call<'a> {
 
 impl<'a> Call<'a> {
     ghost use Rattle.std.specs.Prelude.{◌≡◌, ◌≢◌, IfSome, codes, map, option_map, string_bytes};
-    ghost use Rattle.fx_command.specs.Call.{view_call, call_with_script, call_with_names, call_of};
+    ghost use Rattle.fx_command.specs.Call.{view_call, call_with_script, call_with_names};
+    ghost use Rattle.fx_command.specs.Call.{call_with_workers, call_of};
 
     /// The call that these words make, if they make one.
     pub(crate) fn of(words: &'a [String]) -> Option<Call<'a>>
@@ -44,6 +48,7 @@ impl<'a> Call<'a> {
             "check" => Call::with_script(Command::Check, names),
             "replay" => Call::with_names(Command::Replay, names),
             "trace" => Call::with_names(Command::Trace, names),
+            "run" => Call::with_workers(names),
             _ => None,
         }
     }
@@ -80,5 +85,22 @@ impl<'a> Call<'a> {
             }),
             _ => Call::with_script(command, names),
         }
+    }
+
+    /// The call that runs the script of this name by so many workers.
+    fn with_workers(names: &'a [String]) -> Option<Call<'a>>
+        ensures call { option_map view_call result
+            ≡ call_with_workers (map string_bytes names.now) }
+        ensures file { IfSome result
+            (λ call. IfSome call.schedule (λ name. name.now ≢ codes "-")) }
+    {
+        let [script, workers] = names else {
+            return None;
+        };
+        Some(Call {
+            command: Command::Run(workers_in(workers.as_str())?),
+            script: script.as_str(),
+            schedule: None,
+        })
     }
 }

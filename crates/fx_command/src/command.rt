@@ -8,7 +8,7 @@ ghost use Rattle.fx_report.specs.Written.{WritesAnswer};
 ghost use Rattle.fx_command.specs.Call.{view_call};
 ghost use Rattle.fx_command.specs.CommandAnswer.{known_schedule, AnswersToCall, Leaves};
 ghost use Rattle.fx_command.specs.CommandAnswer.{TellsRefusal, TellsUnreadable, Runs};
-ghost use Rattle.fx_command.specs.Said.{Says};
+ghost use Rattle.fx_command.specs.Said.{Says, run_fault_line, SaysRunFault};
 
 use crate::call::Call;
 use crate::command_fault::{CommandFault, Refusal};
@@ -17,9 +17,13 @@ use crate::perform::{Performed, perform};
 use crate::texts::{picks_in, script_in};
 use fx_report::{AnswerFault, MOST_OF_SCRIPT, REFUSED, read_text, write_text};
 pub use fx_report::{FAULT, OTHER_WORDS, UNREADABLE};
+use fx_run::RunFault;
 use fx_text::{MOST_SCHEDULE_BYTES, Pick, Script};
-use std::alloc::Global;
+use std::alloc::{AllocError, AllocGlobal, Global};
 use std::io::Write;
+use std::random::RandomSource;
+use std::sync::Wait;
+use std::thread::Threads;
 
 const USAGE: &str =
     "usage: fibers [check F | replay F [SCHEDULE] | trace F [SCHEDULE] | run F WORKERS]\n";
@@ -94,7 +98,8 @@ fn schedule_of<'a, F: Files>(
 
 /// Does what is asked. The script is read whole, and refused if it is none, before the schedule is
 /// fetched.
-fn answer<'a, F: Files, W: Write>(
+fn answer<'a, R: Wait + Threads + Sync + RandomSource + AllocGlobal, F: Files, W: Write>(
+    rt: &R,
     alloc: Global,
     call: Call<'a>,
     files: &mut F,
@@ -110,7 +115,7 @@ fn answer<'a, F: Files, W: Write>(
 {
     let script = script_of(alloc, files, call.script)?;
     let picks = schedule_of(alloc, files, call.schedule)?;
-    Ok(perform(alloc, call.command, &script, &picks, out)?)
+    perform(rt, alloc, call.command, &script, &picks, out)
 }
 
 /// Says this on standard error. Nobody is left to tell where that takes nothing.
@@ -154,6 +159,28 @@ fn tell_unreadable<E: Write>(alloc: Global, name: &str, err: &mut E) -> u8
     }
 }
 
+/// The line of a fault of a run.
+fn format_run_fault(alloc: Global, fault: RunFault) -> Result<String, AllocError>
+    ensures { IfOk result (λ line. string_bytes line ≡ run_fault_line fault) }
+{
+    match fault {
+        RunFault::Workers => String::from_str(alloc, "fault workers\n"),
+        RunFault::Memory => String::from_str(alloc, MEMORY),
+        RunFault::Lost(fiber) => format!(in alloc; "fault lost {fiber}\n"),
+        RunFault::Unsettled(fiber) => format!(in alloc; "fault unsettled {fiber}\n"),
+    }
+}
+
+/// Says why there is no report of a run.
+fn tell_run_fault<E: Write>(alloc: Global, fault: RunFault, err: &mut E)
+    ensures { SaysRunFault fault (E.contents err.old) (E.contents err.new) }
+{
+    match format_run_fault(alloc, fault) {
+        Ok(line) => say(&line, err),
+        Err(_) => say(MEMORY, err),
+    }
+}
+
 /// Does what these words after the program's name ask for, and gives the status:
 ///
 /// | status | when | what is printed |
@@ -163,11 +190,12 @@ fn tell_unreadable<E: Write>(alloc: Global, name: &str, err: &mut E) -> u8
 /// | 2 | other words | the words that there are, on `err` |
 /// | 3 | a script or schedule is refused | one line on `out`, and why in words on `err` |
 /// | 4 | a text cannot be read | its name, on `err` |
-/// | 5 | want of memory, or `out` took not all | the fault, on `err` |
+/// | 5 | want of memory, a run that gives no report, or `out` took not all | the fault, on `err` |
 ///
 /// The texts for `out` and for `err` are whole before the first write, so at want of memory nothing is
 /// written on `out`.
-pub fn command<F: Files, W: Write, E: Write>(
+pub fn command<R: Wait + Threads + Sync + RandomSource + AllocGlobal, F: Files, W: Write, E: Write>(
+    rt: &R,
     alloc: Global,
     words: &[String],
     files: &mut F,
@@ -181,7 +209,7 @@ pub fn command<F: Files, W: Write, E: Write>(
         say(USAGE, err);
         return OTHER_WORDS;
     };
-    match answer(alloc, call, files, out) {
+    match answer(rt, alloc, call, files, out) {
         Ok(performed) => {
             say(&performed.words, err);
             performed.status
@@ -191,6 +219,10 @@ pub fn command<F: Files, W: Write, E: Write>(
             CommandFault::Unreadable(name) => tell_unreadable(alloc, name, err),
             CommandFault::Memory => {
                 say(MEMORY, err);
+                FAULT
+            }
+            CommandFault::Run(fault) => {
+                tell_run_fault(alloc, *fault, err);
                 FAULT
             }
             CommandFault::Write => {

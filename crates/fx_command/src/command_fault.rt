@@ -2,6 +2,8 @@
 ghost use Rattle.std.specs.Prelude.{◌≡◌};
 
 use fx_report::OutFault;
+use fx_run::RunFault;
+use fx_term::Memory;
 use std::alloc::AllocError;
 
 /// What is said of a text that is refused: the line of the refusal, and words for people.
@@ -20,6 +22,8 @@ pub(crate) enum CommandFault<'a> {
     Unreadable(&'a str),
     /// Memory ran out. Nothing was printed.
     Memory,
+    /// There is no report of the run. Nothing was printed.
+    Run(RunFault),
     /// What is printed was not taken whole.
     Write,
 }
@@ -30,6 +34,16 @@ impl From<AllocError> for CommandFault<'_> {
     ghost from_gives = { λ _ fault. fault ≡ Memory };
 
     fn from(_refused: AllocError) -> Self {
+        CommandFault::Memory
+    }
+}
+
+impl From<Memory> for CommandFault<'_> {
+    ghost use Rattle.fx_command.specs.declared.command_fault.CommandFault.TheVariants.{Memory};
+
+    ghost from_gives = { λ _ fault. fault ≡ Memory };
+
+    fn from(_refused: Memory) -> Self {
         CommandFault::Memory
     }
 }
@@ -45,5 +59,15 @@ impl From<OutFault> for CommandFault<'_> {
             OutFault::Write => CommandFault::Write,
             OutFault::Memory => CommandFault::Memory,
         }
+    }
+}
+
+impl From<RunFault> for CommandFault<'_> {
+    ghost use Rattle.fx_command.specs.declared.command_fault.CommandFault.TheVariants.{Run};
+
+    ghost from_gives = { λ fault made. made ≡ Run fault };
+
+    fn from(fault: RunFault) -> Self {
+        CommandFault::Run(fault)
     }
 }

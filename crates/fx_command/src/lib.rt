@@ -1,13 +1,13 @@
 //! The program's library part: what the words after its name ask for, done over any files and streams.
 //!
-//! 1. `call` finds in the words what is asked of which texts. Other words are answered with those that
-//!    there are.
+//! 1. `call` finds in the words what is asked of which texts, and `workers` reads how many workers a run
+//!    has. Other words are answered with those that there are.
 //! 2. `files` fetches texts by name.
 //! 3. `texts` reads the script and the schedule. A text that is refused has its line, which never
 //!    changes, and words for people: `explain` says where and shows the place, `script_words` and
 //!    `schedule_words` say what is wrong.
-//! 4. `perform` checks the script, or replays it and writes its report or its traces. It has words for
-//!    people about each fiber that is blocked.
+//! 4. `perform` checks the script, or replays it and writes its report or its traces, or runs it on
+//!    threads and writes the report. It has words for people about each fiber that is blocked.
 //! 5. `command` goes through these in that order, gives the status, and says on standard error those
 //!    words, or why nothing was printed.
 //!
@@ -29,3 +29,4 @@ mod place;
 mod schedule_words;
 mod script_words;
 mod texts;
+mod workers;

@@ -1,17 +1,22 @@
 //! Does with a script what is asked, and prints it.
-ghost use Rattle.std.specs.Prelude.{◌≡◌, ◌≤◌, IfOk, length, string_bytes};
+ghost use Rattle.std.specs.Prelude.{◌≡◌, ◌≤◌, List, IfOk, length, string_bytes};
 ghost use Rattle.fx_text.specs.View.{meaning};
+ghost use Rattle.fx_text.specs.declared.pick.Pick as pick;
 ghost use Rattle.fx_command.specs.declared.call.Command.TheVariants as command;
 ghost use Rattle.fx_command.specs.Performed.{counts_text, check_text, Performs};
 
 use crate::call::Command;
+use crate::command_fault::CommandFault;
 use fx_plain::replay_to_halt;
-use fx_report::{
-    ENDED, OutFault, format_waits, status_after, write_report, write_text, write_trace,
-};
+use fx_report::{ENDED, format_waits, status_after, write_report, write_text, write_trace};
+use fx_run::run_to_halt;
+use fx_sched::Free;
 use fx_text::{Pick, Script};
-use std::alloc::{AllocError, Global};
+use std::alloc::{AllocError, AllocGlobal, Global};
 use std::io::Write;
+use std::random::RandomSource;
+use std::sync::Wait;
+use std::thread::Threads;
 
 /// What was done with a script and printed: the status, and the words for people about it.
 #[derive(Drop)]
@@ -33,12 +38,12 @@ fn format_check(alloc: Global, script: &Script) -> Result<String, AllocError>
     format_counts(alloc, script.total(), script.queues.len())
 }
 
-fn check<W: Write>(
+fn check<'a, W: Write>(
     alloc: Global,
     script: &Script,
     picks: &[Pick],
     out: &mut W,
-) -> Result<Performed, OutFault>
+) -> Result<Performed, CommandFault<'a>>
     ensures { Performs command.Check (meaning script.now) picks.now result
         (W.contents out.old) (W.contents out.new) }
 {
@@ -50,12 +55,12 @@ fn check<W: Write>(
     })
 }
 
-fn report<W: Write>(
+fn report<'a, W: Write>(
     alloc: Global,
     script: &Script,
     picks: &[Pick],
     out: &mut W,
-) -> Result<Performed, OutFault>
+) -> Result<Performed, CommandFault<'a>>
     requires { script.now.code.queues ≤ length script.now.queues.items }
     ensures { Performs command.Replay (meaning script.now) picks.now result
         (W.contents out.old) (W.contents out.new) }
@@ -69,12 +74,12 @@ fn report<W: Write>(
     })
 }
 
-fn trace<W: Write>(
+fn trace<'a, W: Write>(
     alloc: Global,
     script: &Script,
     picks: &[Pick],
     out: &mut W,
-) -> Result<Performed, OutFault>
+) -> Result<Performed, CommandFault<'a>>
     requires { script.now.code.queues ≤ length script.now.queues.items }
     ensures { Performs command.Trace (meaning script.now) picks.now result
         (W.contents out.old) (W.contents out.new) }
@@ -88,16 +93,38 @@ fn trace<W: Write>(
     })
 }
 
+/// Runs the script's fibers by so many workers, and writes the report.
+fn run<'a, R: Wait + Threads + Sync + RandomSource + AllocGlobal, W: Write>(
+    rt: &R,
+    alloc: Global,
+    script: &Script,
+    workers: u32,
+    out: &mut W,
+) -> Result<Performed, CommandFault<'a>>
+    requires { script.now.code.queues ≤ length script.now.queues.items }
+    ensures { (picks : List pick.Pick) → Performs (command.Run workers) (meaning script.now) picks
+        result (W.contents out.old) (W.contents out.new) }
+{
+    let halt = run_to_halt(rt, alloc, script, workers, &Free)?;
+    let words = format_waits(alloc, script, &halt.waits)?;
+    write_report(alloc, script, &halt.report, out)?;
+    Ok(Performed {
+        status: status_after(&halt.report),
+        words,
+    })
+}
+
 /// Does with the script and the picks what is asked, and prints it; the script's code names no queue that
 /// is not declared. The status is 0 where all fibers ended or are only counted, and 1 where one waits for
 /// good: then the words are a line for each fiber that does, and else there are none.
-pub(crate) fn perform<W: Write>(
+pub(crate) fn perform<'a, R: Wait + Threads + Sync + RandomSource + AllocGlobal, W: Write>(
+    rt: &R,
     alloc: Global,
     command: Command,
     script: &Script,
     picks: &[Pick],
     out: &mut W,
-) -> Result<Performed, OutFault>
+) -> Result<Performed, CommandFault<'a>>
     requires { script.now.code.queues ≤ length script.now.queues.items }
     ensures { Performs command (meaning script.now) picks.now result
         (W.contents out.old) (W.contents out.new) }
@@ -106,5 +133,6 @@ pub(crate) fn perform<W: Write>(
         Command::Check => check(alloc, script, picks, out),
         Command::Replay => report(alloc, script, picks, out),
         Command::Trace => trace(alloc, script, picks, out),
+        Command::Run(workers) => run(rt, alloc, script, workers, out),
     }
 }

@@ -17,18 +17,16 @@ returns-in_err-picks-clause-fault g c =
     rw (fault.1, fault.2)
     (leaves_no_schedule (g.F.Files.holds c.args.files.now) (view_call c.args.call) _ _ _ c.in_ok-script.ensures.found none)
 
-pub returns-in_err-perform-clause-fault : goal.returns-in_err-perform-clause-fault
-returns-in_err-perform-clause-fault g c =
-    let fault = err_from_is_err_and c.from_residual-in_err-perform.result c.from_residual-in_err-perform.ensures.1 in
+pub returns-clause-fault : goal.returns-clause-fault
+returns-clause-fault g c =
     let kept = schedule_kept _ _ c.args.call.schedule c.script_of.ensures.kept c.requires in
     let found = rw (kept, ← c.deref.ensures.value) at c.in_ok-picks.ensures.found in
-    let unwritten = leaves_unwritten (g.F.Files.holds c.args.files.now) (view_call c.args.call) _ _ c.in_err-perform.field-0.0
-    (g.W.Write.contents c.args.out.now) (g.W.Write.contents c.perform.new.out) c.in_ok-script.ensures.found found c.in_err-perform.ensures in
-    rw (fault.1, fault.2) unwritten
+    leaves_unwritten (g.F.Files.holds c.args.files.now) (view_call c.args.call) _ _ c.perform.result (g.W.Write.contents c.args.out.now)
+    (g.W.Write.contents c.perform.new.out) c.in_ok-script.ensures.found found c.perform.ensures
 
 pub returns-clause-answered : goal.returns-clause-answered
 returns-clause-answered g c =
     let kept = schedule_kept _ _ c.args.call.schedule c.script_of.ensures.kept c.requires in
     let found = rw (kept, ← c.deref.ensures.value) at c.in_ok-picks.ensures.found in
-    writes_answer (g.F.Files.holds c.args.files.now) (view_call c.args.call) _ _ c.in_ok-perform.field-0 (g.W.Write.contents c.args.out.now)
-    (g.W.Write.contents c.perform.new.out) c.in_ok-script.ensures.found found c.in_ok-perform.ensures
+    writes_answer (g.F.Files.holds c.args.files.now) (view_call c.args.call) _ _ c.perform.result (g.W.Write.contents c.args.out.now)
+    (g.W.Write.contents c.perform.new.out) c.in_ok-script.ensures.found found c.perform.ensures

@@ -2,7 +2,7 @@ use Rattle.std.proofs.Common.{sym, ◌∙◌, ap, map, option_map, string_bytes}
 use Rattle.fx_report.proofs.Written.{keeps_same}
 use Rattle.fx_command.specs.Call.{view_call}
 use Rattle.fx_command.specs.CommandAnswer.Runs.{other_words, answered, no_memory, not_taken}
-use Rattle.fx_command.proofs.CommandAnswer.{call_is, refusal_runs, unread_runs}
+use Rattle.fx_command.proofs.CommandAnswer.{call_is, refusal_runs, unread_runs, run_fault_runs}
 use Rattle.fx_command.proofs.command.command.Goals as goal
 
 pub returns-in_default : goal.returns-in_default
@@ -36,6 +36,14 @@ returns-in-Memory g c =
     let is = call_is (map string_bytes c.args.words.now) _ call c.of.ensures.call c.in-Some.is in
     let kept = rw c.in-Memory.is at c.in-Err.ensures.fault in
     no_memory (view_call call) is kept c.say-in-Memory.ensures
+
+pub returns-in-Run : goal.returns-in-Run
+returns-in-Run g c =
+    let words = map string_bytes c.args.words.now in
+    let call = c.in-Some.call in
+    let is = call_is words _ call c.of.ensures.call c.in-Some.is in
+    let left = rw c.in-Run.is at c.in-Err.ensures.fault in
+    run_fault_runs words _ (view_call call) _ _ _ _ _ is left c.tell_run_fault.ensures
 
 pub returns : goal.returns
 returns g c =

@@ -6,7 +6,7 @@ use Rattle.fx_command.proofs.perform.report.Goals as goal
 pub returns-in_err-write_report : goal.returns-in_err-write_report
 returns-in_err-write_report g c =
     let fault = err_from_is_err_and c.from_residual-in_err-write_report.result c.from_residual-in_err-write_report.ensures.1 in
-    rw (fault.1, fault.2) (fails_to_perform _ _ _ _ _ _ _ _ _ (replayed c.in_ok-halt.ensures.replayed) c.in_err-write_report.ensures.part)
+    rw (fault.1, fault.2) (fails_to_perform _ _ _ _ _ _ _ _ _ tt (replayed c.in_ok-halt.ensures.replayed) c.in_err-write_report.ensures.part)
 
 pub returns : goal.returns
 returns g c = record {

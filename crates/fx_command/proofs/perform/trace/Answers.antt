@@ -6,7 +6,7 @@ use Rattle.fx_command.proofs.perform.trace.Goals as goal
 pub returns-in_err-write_trace : goal.returns-in_err-write_trace
 returns-in_err-write_trace g c =
     let fault = err_from_is_err_and c.from_residual-in_err-write_trace.result c.from_residual-in_err-write_trace.ensures.1 in
-    rw (fault.1, fault.2) (fails_to_perform _ _ _ _ _ _ _ _ _ (traced c.in_ok-halt.ensures.replayed) c.in_err-write_trace.ensures.part)
+    rw (fault.1, fault.2) (fails_to_perform _ _ _ _ _ _ _ _ _ tt (traced c.in_ok-halt.ensures.replayed) c.in_err-write_trace.ensures.part)
 
 pub returns : goal.returns
 returns g c = record {
