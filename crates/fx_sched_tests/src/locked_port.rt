@@ -1,0 +1,175 @@
+//! The port of a fiber on several threads, over a board behind one lock.
+ghost use Rattle.std.specs.Prelude.{◌≡◌, true, is_some, Some, None};
+ghost use Rattle.fx_model.specs.Origin.{main_begin_of};
+
+use crate::board::Board;
+use crate::notes::Notes;
+use fx_fiber::{Fiber, Port, Source, main_begin};
+use fx_term::{Begin, Code, CodeBrand, Memory, Offered, Outcome};
+use std::alloc::Global;
+use std::marker::PhantomData;
+use std::sync::{Mutex, Wait};
+
+/// The port of a fiber, over a board behind one lock.
+#[derive(Drop)]
+pub struct LockedPort<'a, R: Wait, J: CodeBrand> {
+    rt: &'a R,
+    board: &'a Mutex<Board>,
+    alloc: Global,
+    id: u32,
+    begin: Begin,
+    rest: u32,
+    told: Option<Outcome>,
+    puts: u64,
+    of: PhantomData<J>,
+}
+
+impl<'a, R: Wait, J: CodeBrand> LockedPort<'a, R, J> {
+    /// The port of a fiber of this number that begins so.
+    pub fn new(
+        rt: &'a R,
+        board: &'a Mutex<Board>,
+        alloc: Global,
+        id: u32,
+        begin: Begin,
+    ) -> LockedPort<'a, R, J>
+        ensures id { result.id ≡ id }
+        ensures begin { result.begin ≡ begin }
+        ensures rest { result.rest ≡ begin.next }
+        ensures going { result.told ≡ None }
+        ensures puts { result.puts ≡ 0 }
+    {
+        LockedPort {
+            rt,
+            board,
+            alloc,
+            id,
+            rest: begin.next,
+            begin,
+            told: None,
+            puts: 0,
+            of: PhantomData,
+        }
+    }
+}
+
+/// Notes the fibers that wait for this.
+fn wake<J: CodeBrand>(board: &mut Board, notes: &mut Notes<J>, come: Source) {
+    for id in 0..board.total() {
+        if board.takes_off(id, come) {
+            notes.note(id);
+        }
+    }
+}
+
+impl<'a, R: Wait, J: CodeBrand> Port for LockedPort<'a, R, J> {
+    type Shared = Notes<J>;
+
+    ghost code = { J.nodes };
+
+    ghost total = { (main_begin_of J.nodes).end };
+
+    ghost facts = { λ p. record {
+      number = p.id;
+      beginning = p.begin;
+      rest = record { next = p.rest; end = p.begin.end };
+      has_finished = is_some p.told;
+      puts = p.puts;
+    } };
+
+    ghost agrees = { λ p deeds. Unit {0} };
+
+    ghost may = { λ id. true };
+
+    // nothing is known of what stands behind a lock
+    ghost calls = { record {
+      looks = λ p s answer p' s'. Unit {0};
+      requests = λ p s id p' s'. Unit {0};
+      peeks = λ p s id answer p' s'. Unit {0};
+      offers = λ p s queue n answer p' s'. Unit {0};
+      takes = λ p s queue answer p' s'. Unit {0};
+      starts = λ p s id begin child p' s'. Unit {0};
+      finishes = λ p s outcome p' s'. Unit {0};
+      outsides = λ p s id p' s'. Unit {0};
+      waits = λ p s source p' s'. Unit {0};
+      wakes = λ s woken s'. Unit {0};
+    } };
+
+    fn look(&mut self, _notes: &mut Notes<J>) -> bool {
+        self.board.lock(self.rt).is_requested(self.id)
+    }
+
+    fn request(&mut self, notes: &mut Notes<J>, id: u32) {
+        self.board.lock(self.rt).request(id);
+        notes.note(id);
+    }
+
+    fn peek(&mut self, _notes: &mut Notes<J>, id: u32) -> Option<Outcome> {
+        self.board.lock(self.rt).outcome(id)
+    }
+
+    fn offer(&mut self, notes: &mut Notes<J>, queue: u8, value: u64) -> Result<Offered, Memory> {
+        let mut guard = self.board.lock(self.rt);
+        let board = &mut *guard;
+        let answer = board.put(queue, value)?;
+        if answer == Offered::Done {
+            wake(board, notes, Source::Element(queue));
+            self.puts += 1;
+        }
+        Ok(answer)
+    }
+
+    fn take(&mut self, notes: &mut Notes<J>, queue: u8) -> Option<u64> {
+        let mut guard = self.board.lock(self.rt);
+        let board = &mut *guard;
+        let front = board.take(queue)?;
+        wake(board, notes, Source::Room(queue));
+        Some(front)
+    }
+
+    fn start(&mut self, _notes: &mut Notes<J>, id: u32, begin: &Begin) -> Result<Self, Memory> {
+        let child = LockedPort::new(
+            self.rt,
+            self.board,
+            self.alloc,
+            id,
+            begin.copied(self.alloc)?,
+        );
+        self.rest = begin.end;
+        Ok(child)
+    }
+
+    fn finish(&mut self, notes: &mut Notes<J>, outcome: Outcome) {
+        self.told = Some(outcome);
+        let mut guard = self.board.lock(self.rt);
+        let board = &mut *guard;
+        board.finish(self.id, outcome);
+        wake(board, notes, Source::Outcome(self.id));
+    }
+
+    fn outside(&mut self, notes: &mut Notes<J>, id: u32) {
+        self.board.lock(self.rt).request(id);
+        notes.note(id);
+    }
+
+    fn wait_on(&mut self, _notes: &mut Notes<J>, source: Source) {
+        self.board.lock(self.rt).wait_on(self.id, source);
+    }
+
+    fn woken(notes: &mut Notes<J>) -> Option<u32> {
+        notes.next()
+    }
+}
+
+/// The main fiber of a code over this board.
+pub fn main_fiber<'a, R: Wait, J: CodeBrand>(
+    rt: &'a R,
+    board: &'a Mutex<Board>,
+    alloc: Global,
+    code: &Code,
+) -> Result<Fiber<LockedPort<'a, R, J>>, Memory>
+    requires { code.now.nodes ≡ J.nodes }
+{
+    let port: LockedPort<'a, R, J> = LockedPort::new(rt, board, alloc, 0, main_begin(alloc, code));
+    Fiber::new(alloc, code, port)
+}
