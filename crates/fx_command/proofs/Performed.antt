@@ -4,7 +4,7 @@ use Rattle.fx_text.specs.declared.pick.Pick.{Pick}
 use Rattle.fx_text.specs.Meaning.{Meaning}
 use Rattle.fx_model.specs.Report.{ReportView}
 use Rattle.fx_plain.specs.Waits.{IsReplayWithWaits}
-use Rattle.fx_run.specs.declared.run.TheConstants.{MOST_WORKERS}
+use Rattle.fx_run.specs.declared.whole_run.TheConstants.{MOST_WORKERS}
 use Rattle.fx_run.specs.RunWaits.{IsLawfulWithWaits}
 use Rattle.fx_report.specs.Script.{script_of}
 use Rattle.fx_report.specs.Text.{queue_names, report_text, trace_text}

@@ -11,7 +11,7 @@ use Rattle.std.proofs.lemmas.Str.Parse.{IsNumeralModel, numerals_by_fold, parse_
 use Rattle.fx_text.specs.Limits.{most_number}
 use Rattle.fx_text.specs.Schedule.{IsNumber}
 use Rattle.fx_text.specs.Token.{is_digit, value_after}
-use Rattle.fx_run.specs.declared.run.TheConstants.{MOST_WORKERS}
+use Rattle.fx_run.specs.declared.whole_run.TheConstants.{MOST_WORKERS}
 use Rattle.fx_run.specs.declared.run_fault.RunFault.{RunFault}
 use Rattle.fx_run.specs.declared.run_fault.RunFault.TheVariants.{Workers}
 use Rattle.fx_command.specs.Workers.{writes_number, workers_in}

@@ -7,7 +7,7 @@ use Rattle.fx_text.specs.Meaning.{Meaning}
 use Rattle.fx_model.specs.Report.{ReportView}
 use Rattle.fx_report.specs.declared.status.TheConstants.{ENDED}
 use Rattle.fx_plain.specs.Waits.{IsReplayWithWaits}
-use Rattle.fx_run.specs.declared.run.TheConstants.{MOST_WORKERS}
+use Rattle.fx_run.specs.declared.whole_run.TheConstants.{MOST_WORKERS}
 use Rattle.fx_run.specs.RunWaits.{IsLawfulWithWaits}
 use Rattle.fx_report.specs.declared.wait.Wait.{Wait}
 use Rattle.fx_report.specs.Script.{script_of}

@@ -3,7 +3,7 @@ use Rattle.std.specs.Prelude.{ℕ, Bool, ◌<◌, ◌≤◌, ◌⊎◌, ◌&&◌
 use Rattle.std.specs.List.{list_all}
 use Rattle.fx_text.specs.Limits.{most_number}
 use Rattle.fx_text.specs.Token.{is_digit, value_after}
-use Rattle.fx_run.specs.declared.run.TheConstants.{MOST_WORKERS}
+use Rattle.fx_run.specs.declared.whole_run.TheConstants.{MOST_WORKERS}
 use Rattle.fx_run.specs.declared.run_fault.RunFault.{RunFault}
 use Rattle.fx_run.specs.declared.run_fault.RunFault.TheVariants.{Workers, Memory, Lost, Unsettled}
 use Rattle.fx_command.specs.declared.call.Command.{Command}

@@ -39,12 +39,12 @@
 pub mod laws;
 mod ledger;
 mod lost;
-mod run;
 mod run_fault;
 mod waits;
 mod whole_report;
+mod whole_run;
 
 pub use lost::test_for_lost;
-pub use run::{Halt, MOST_WORKERS, run_to_halt};
 pub use run_fault::RunFault;
 pub use whole_report::report;
+pub use whole_run::{Halt, MOST_WORKERS, run, run_to_halt};

@@ -56,3 +56,26 @@ pub fn run_to_halt<R: Wait + Threads + Sync + RandomSource + AllocGlobal, G: Gat
     }
     Err(RunFault::Memory)
 }
+
+/// The report of a run of the script's fibers by so many workers, each on a thread of its own, with what
+/// the gate may ask for. The workers share the fibers and go on until none can step: one that has not
+/// ended by then is blocked, and waits for good. How the fibers interleave is up to the threads; the
+/// report is lawful however they do.
+pub fn run<R: Wait + Threads + Sync + RandomSource + AllocGlobal, G: Gate + Sync>(
+    rt: &R,
+    alloc: Global,
+    script: &Script,
+    workers: u32,
+    gate: &G,
+) -> Result<Report, RunFault>
+    ensures lawful { IfOk result
+        (λ r. IsLawfulReport (script_of (meaning script.now)) (G.may gate.now) r) }
+    ensures promised { IfOk result
+        (λ r. KeepsWhatIsPromised (script_of (meaning script.now)) (G.may gate.now) r) }
+    ensures writable { script.now.code.queues ≤ length script.now.queues.items
+        → IfOk result (λ r. IsWritable (queue_names (meaning script.now)) r) }
+    ensures workers { ((workers < 1) ⊎ (MOST_WORKERS < workers)) ↔ (result ≡ Err Workers) }
+{
+    let halt = run_to_halt(rt, alloc, script, workers, gate)?;
+    Ok(halt.report)
+}

@@ -1,0 +1,86 @@
+//! What each report must account for, told from its traces alone.
+use fx_fiber::{FiberReport, Report, State};
+use fx_term::{Event, Item, Outcome};
+
+/// Whether the report accounts for its fibers and for the elements of its queues.
+pub fn adds_up(report: &Report) -> bool {
+    for fiber in report.fibers.iter() {
+        if !ends_as_told(fiber) || !is_answered(report, fiber) {
+            return false;
+        }
+    }
+    for (queue, left) in report.left.iter().enumerate() {
+        if !balances(report, queue, left) {
+            return false;
+        }
+    }
+    true
+}
+
+/// Whether the fiber has ended just where its trace ends so.
+fn ends_as_told(fiber: &FiberReport) -> bool {
+    outcome(fiber).is_some() == matches!(fiber.state, State::Ended)
+}
+
+fn outcome(fiber: &FiberReport) -> Option<Outcome> {
+    match fiber.trace.last() {
+        Some(Event::Ended(outcome)) => Some(*outcome),
+        _ => None,
+    }
+}
+
+/// Whether each fiber that it started is told with its parent, each that it joined ended as it found, each
+/// that it waited to be canceled ended, and it was requested where it saw that.
+fn is_answered(report: &Report, fiber: &FiberReport) -> bool {
+    for event in fiber.trace.iter() {
+        let answered = match *event {
+            Event::Start(child) => parent(report, child) == Some(fiber.id),
+            Event::Joined(other, found) => end(report, other) == Some(found),
+            Event::Awaited(other) => end(report, other).is_some(),
+            Event::Seen => is_requested(report, fiber.id),
+            _ => true,
+        };
+        if !answered {
+            return false;
+        }
+    }
+    true
+}
+
+fn parent(report: &Report, id: u32) -> Option<u32> {
+    report.fibers.iter().find(|fiber| fiber.id == id)?.parent
+}
+
+fn end(report: &Report, id: u32) -> Option<Outcome> {
+    outcome(report.fibers.iter().find(|fiber| fiber.id == id)?)
+}
+
+fn is_requested(report: &Report, id: u32) -> bool {
+    report.fibers.iter().any(|fiber| fiber.trace.iter().any(|event| *event == Event::Request(id)))
+}
+
+/// Whether what was put into the queue is what was taken out of it and what is left, in number and in sum.
+fn balances(report: &Report, queue: usize, left: &[Item]) -> bool {
+    let mut count = 0u64;
+    let mut sum = 0u64;
+    for item in left {
+        count = count.wrapping_add(1);
+        sum = sum.wrapping_add(item.value);
+    }
+    for fiber in report.fibers.iter() {
+        for event in fiber.trace.iter() {
+            match *event {
+                Event::Put(q, value) if q as usize == queue => {
+                    count = count.wrapping_sub(1);
+                    sum = sum.wrapping_sub(value);
+                }
+                Event::Got(q, value) if q as usize == queue => {
+                    count = count.wrapping_add(1);
+                    sum = sum.wrapping_add(value);
+                }
+                _ => {}
+            }
+        }
+    }
+    count == 0 && sum == 0
+}

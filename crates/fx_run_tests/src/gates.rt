@@ -1,0 +1,104 @@
+//! Gates that hold a turn until others have come.
+use crate::rows::{PAIRS, run_text};
+use fx_sched::Gate;
+use std::sync::atomic::{AtomicU64, Ordering};
+use std::test::Fail;
+use std::thread;
+
+/// How often a held turn looks for what it waits for before it gives up.
+const TRIES: u32 = 1_000_000;
+
+/// Holds the first turn of a fiber other than the main one until a turn begins on another worker.
+#[derive(Drop)]
+struct Pair {
+    /// The worker of that turn and one more; 0 before there was one.
+    holder: AtomicU64,
+    /// How many turns began on other workers since.
+    others: AtomicU64,
+}
+
+impl Gate for Pair {
+    ghost may = { λ gate id. false };
+
+    ghost answers = { λ gate worker fiber named. Unit {0} };
+
+    fn turn(&self, worker: u32, fiber: u32) -> Option<u32> {
+        let own = u64::from(worker) + 1;
+        let holder = self.holder.load(Ordering::SeqCst);
+        if holder != 0 && holder != own {
+            self.others.fetch_add(1, Ordering::SeqCst);
+        }
+        if holder == 0 && fiber != 0 {
+            self.holder.store(own, Ordering::SeqCst);
+            for _ in 0..TRIES {
+                if self.others.load(Ordering::SeqCst) > 0 {
+                    break;
+                }
+                thread::yield_now();
+            }
+        }
+        None
+    }
+}
+
+#[test]
+fn a_turn_begins_on_another_worker_while_one_is_held(rt: HostRuntime) -> Result<(), Fail> {
+    let gate = Pair {
+        holder: AtomicU64::new(0),
+        others: AtomicU64::new(0),
+    };
+    let written = run_text(&rt, PAIRS, 2, &gate)?;
+    assert!(rt; gate.others.load(Ordering::SeqCst) > 0);
+    assert_eq!(rt; written.late, 0);
+    Ok(())
+}
+
+/// Holds the turn of fiber 1 until the second turn of fiber 2 begins.
+#[derive(Drop)]
+struct UntilWoken {
+    /// How many turns of fiber 2 began.
+    turns: AtomicU64,
+    /// How often the held turn gave up.
+    gave_up: AtomicU64,
+}
+
+impl Gate for UntilWoken {
+    ghost may = { λ gate id. false };
+
+    ghost answers = { λ gate worker fiber named. Unit {0} };
+
+    fn turn(&self, _worker: u32, fiber: u32) -> Option<u32> {
+        if fiber == 2 {
+            self.turns.fetch_add(1, Ordering::SeqCst);
+        }
+        if fiber == 1 {
+            for _ in 0..TRIES {
+                if self.turns.load(Ordering::SeqCst) > 1 {
+                    return None;
+                }
+                thread::yield_now();
+            }
+            self.gave_up.fetch_add(1, Ordering::SeqCst);
+        }
+        None
+    }
+}
+
+/// The main fiber starts three: 1, whose turn is held, 2, which waits for an element, and 3, which puts one.
+const WAITS: &str =
+    "(queue q 1) (main (start x (pure 1) (start y (take q) (start z (offer q 5) (pure 9)))))";
+
+#[test]
+fn a_waiting_fiber_is_woken_while_a_turn_is_held(rt: HostRuntime) -> Result<(), Fail> {
+    let gate = UntilWoken {
+        turns: AtomicU64::new(0),
+        gave_up: AtomicU64::new(0),
+    };
+    let written = run_text(&rt, WAITS, 2, &gate)?;
+    let report =
+        "fiber 0 succeeded 9\nfiber 1 succeeded 1\nfiber 2 succeeded 5\nfiber 3 succeeded 0\nqueue q left\n";
+    assert_eq!(rt; written.text.as_slice(), report.as_bytes());
+    assert_eq!(rt; written.late, 0);
+    assert_eq!(rt; gate.gave_up.load(Ordering::SeqCst), 0);
+    Ok(())
+}
