@@ -1,4 +1,4 @@
-//! `fibers`: replays a script of cancellable fibers and prints how each one halted.
+//! `fibers`: replays a script of cancellable fibers, or runs it on threads, and prints how each one halted.
 //!
 //! What its words ask for is done by `fx_command`; `main` joins that to the machine: its standard streams,
 //! and its files, which `host_files` has.
@@ -18,6 +18,7 @@ fn main(rt: HostRuntime) -> ExitCode {
     };
     let mut files = HostFiles { rt: &rt };
     let status = command(
+        &rt,
         rt.alloc(),
         &words,
         &mut files,

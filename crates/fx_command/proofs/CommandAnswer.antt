@@ -3,7 +3,7 @@ use Rattle.std.proofs.Common.{◌≡◌, ℕ, Option, Some, None, Result, Ok, Er
 use Rattle.std.specs.Io.KnownBytes.{Appends, Keeps}
 use Rattle.fx_text.specs.declared.pick.Pick.{Pick}
 use Rattle.fx_text.specs.Meaning.{Meaning}
-use Rattle.fx_report.specs.declared.status.TheConstants.{REFUSED, FAULT}
+use Rattle.fx_report.specs.declared.status.TheConstants.{REFUSED}
 use Rattle.fx_report.specs.Written.{WritesAnswer}
 use Rattle.fx_report.proofs.Written.{keeps_same}
 use Rattle.fx_run.specs.declared.run_fault.RunFault.{RunFault}
@@ -16,10 +16,10 @@ use Rattle.fx_command.specs.Performed.{Performs}
 use Rattle.fx_command.specs.declared.call.Call.{Call}
 use Rattle.fx_command.specs.Call.{CallView, view_call, call_of}
 use Rattle.fx_command.specs.CommandAnswer.{performed, no_script, no_schedule, known_schedule, AnswersToCall, IsNamedIn, FailsToRun, Leaves}
-use Rattle.fx_command.specs.Said.{SaysRunFault}
-use Rattle.fx_command.specs.CommandAnswer.{TellsRefusal, TellsUnreadable, Runs}
+use Rattle.fx_command.specs.CommandAnswer.{TellsRefusal, TellsUnreadable, TellsRunFault, Runs}
 use Rattle.fx_command.specs.CommandAnswer.TellsRefusal.{told, not_taken as line_not_taken}
 use Rattle.fx_command.specs.CommandAnswer.TellsUnreadable.{told as unread_told, no_memory as unread_no_memory}
+use Rattle.fx_command.specs.CommandAnswer.TellsRunFault.{told as fault_told, no_memory as fault_no_memory}
 use Rattle.fx_command.specs.CommandAnswer.Runs.{answered, unreadable, no_memory, not_run, not_taken}
 
 -- some text of which so much is known
@@ -143,9 +143,10 @@ unread_runs words holds call name old new said says _ is left (unread_no_memory 
 
 -- a fault of a run was told
 pub run_fault_runs : (words : List (List ℕ)) (holds : List ℕ → Option (List ℕ)) (call : CallView) (fault : RunFault) (old new said says : Option (List ℕ))
-    → call_of words ≡ Some call → FailsToRun holds call fault × Keeps old new → SaysRunFault fault said says → Runs words holds old new said says FAULT
-run_fault_runs words holds call fault old new said says is left (inl line) = not_run call fault is left.0 left.1 line
-run_fault_runs words holds call fault old new said says is left (inr line) = no_memory call is left.1 line
+    (status : ℕ) → call_of words ≡ Some call → FailsToRun holds call fault × Keeps old new → TellsRunFault fault said says status
+    → Runs words holds old new said says status
+run_fault_runs words holds call fault old new said says _ is left (fault_told line) = not_run call fault is left.0 left.1 line
+run_fault_runs words holds call fault old new said says _ is left (fault_no_memory line) = no_memory call is left.1 line
 
 -- the call that the words make
 pub call_is : (words : List (List ℕ)) (o : Option Call) (c : Call) → option_map view_call o ≡ call_of words → o ≡ Some c → call_of words ≡ Some (view_call c)

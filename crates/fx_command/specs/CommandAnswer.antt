@@ -70,6 +70,11 @@ pub data TellsUnreadable (name : List ℕ) (said says : Option (List ℕ)) : ℕ
   told : Says (unreadable_line name) said says → TellsUnreadable name said says UNREADABLE
   no_memory : Says memory_line said says → TellsUnreadable name said says FAULT
 
+-- it was said that a run of fibers has this fault, or that memory ran out
+pub data TellsRunFault (fault : RunFault) (said says : Option (List ℕ)) : ℕ → Type 0 where
+  told : Says (run_fault_line fault) said says → TellsRunFault fault said says FAULT
+  no_memory : Says memory_line said says → TellsRunFault fault said says FAULT
+
 -- A run of the program with these words, of which `old` and `new` are what was written on standard output before and after, `said` and `says` what on standard
 -- error. Words that make no call, a text that cannot be read and any other fault have a status and a line each, and all else is the answer to the call, with
 -- its words for people

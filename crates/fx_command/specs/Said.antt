@@ -1,5 +1,5 @@
 -- What the program says on standard error.
-use Rattle.std.specs.Prelude.{Option, List, ℕ, ◌⊎◌, ◌++◌, codes, decimal}
+use Rattle.std.specs.Prelude.{Option, List, ℕ, ◌++◌, codes, decimal}
 use Rattle.std.specs.Io.KnownBytes.{Appends}
 use Rattle.fx_report.specs.Output.{WritesPrefix}
 use Rattle.fx_report.specs.Text.{line_end}
@@ -30,7 +30,3 @@ run_fault_line Workers = codes "fault workers" ++ line_end
 run_fault_line Memory = memory_line
 run_fault_line (Lost f) = codes "fault lost " ++ decimal f ++ line_end
 run_fault_line (Unsettled f) = codes "fault unsettled " ++ decimal f ++ line_end
-
--- the fault was said, or that memory ran out for its line
-abbrev pub SaysRunFault : RunFault → Option (List ℕ) → Option (List ℕ) → Type 0
-SaysRunFault fault old new = Says (run_fault_line fault) old new ⊎ Says memory_line old new

@@ -7,8 +7,8 @@ ghost use Rattle.fx_command.specs.Fetched.{FetchesSchedule, FetchesNoSchedule, K
 ghost use Rattle.fx_report.specs.Written.{WritesAnswer};
 ghost use Rattle.fx_command.specs.Call.{view_call};
 ghost use Rattle.fx_command.specs.CommandAnswer.{known_schedule, AnswersToCall, Leaves};
-ghost use Rattle.fx_command.specs.CommandAnswer.{TellsRefusal, TellsUnreadable, Runs};
-ghost use Rattle.fx_command.specs.Said.{Says, run_fault_line, SaysRunFault};
+ghost use Rattle.fx_command.specs.CommandAnswer.{TellsRefusal, TellsUnreadable, TellsRunFault, Runs};
+ghost use Rattle.fx_command.specs.Said.{Says, run_fault_line};
 
 use crate::call::Call;
 use crate::command_fault::{CommandFault, Refusal};
@@ -172,13 +172,14 @@ fn format_run_fault(alloc: Global, fault: RunFault) -> Result<String, AllocError
 }
 
 /// Says why there is no report of a run.
-fn tell_run_fault<E: Write>(alloc: Global, fault: RunFault, err: &mut E)
-    ensures { SaysRunFault fault (E.contents err.old) (E.contents err.new) }
+fn tell_run_fault<E: Write>(alloc: Global, fault: RunFault, err: &mut E) -> u8
+    ensures { TellsRunFault fault (E.contents err.old) (E.contents err.new) result }
 {
     match format_run_fault(alloc, fault) {
         Ok(line) => say(&line, err),
         Err(_) => say(MEMORY, err),
     }
+    FAULT
 }
 
 /// Does what these words after the program's name ask for, and gives the status:
@@ -221,10 +222,7 @@ pub fn command<R: Wait + Threads + Sync + RandomSource + AllocGlobal, F: Files, 
                 say(MEMORY, err);
                 FAULT
             }
-            CommandFault::Run(fault) => {
-                tell_run_fault(alloc, *fault, err);
-                FAULT
-            }
+            CommandFault::Run(fault) => tell_run_fault(alloc, *fault, err),
             CommandFault::Write => {
                 say(WRITE, err);
                 FAULT

@@ -105,11 +105,11 @@ fn run<'a, R: Wait + Threads + Sync + RandomSource + AllocGlobal, W: Write>(
     ensures { (picks : List pick.Pick) → Performs (command.Run workers) (meaning script.now) picks
         result (W.contents out.old) (W.contents out.new) }
 {
-    let halt = run_to_halt(rt, alloc, script, workers, &Free)?;
-    let words = format_waits(alloc, script, &halt.waits)?;
-    write_report(alloc, script, &halt.report, out)?;
+    let ran = run_to_halt(rt, alloc, script, workers, &Free)?;
+    let words = format_waits(alloc, script, &ran.waits)?;
+    write_report(alloc, script, &ran.report, out)?;
     Ok(Performed {
-        status: status_after(&halt.report),
+        status: status_after(&ran.report),
         words,
     })
 }

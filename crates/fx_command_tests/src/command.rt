@@ -2,14 +2,18 @@
 use fx_command::command::{FAULT, OTHER_WORDS, UNREADABLE, command};
 use fx_command::files::{FetchFault, Files};
 use fx_plain::{BLOCKED, ENDED, REFUSED};
-use std::alloc::{AllocError, Global};
+use std::alloc::{AllocError, AllocGlobal, Global};
 use std::io::{self, Read, Write};
 use std::process::Abort;
+use std::random::RandomSource;
+use std::sync::Wait;
 use std::test::Fail;
+use std::thread::Threads;
 
 mod fibers;
 mod limits;
 mod queues;
+mod runs;
 mod schedule_words;
 mod script_words;
 mod scripts;
@@ -17,6 +21,11 @@ mod streams;
 mod tour;
 mod waits;
 mod words;
+
+/// What a test has of the machine: all that a run of the program needs, and the end at a failure.
+trait Machine: Wait + Threads + Sync + RandomSource + AllocGlobal + Abort {}
+
+impl<R: Wait + Threads + Sync + RandomSource + AllocGlobal + Abort> Machine for R {}
 
 /// A text in memory. One that is broken answers an error at its end.
 #[derive(Clone, Copy, Drop)]
@@ -81,15 +90,16 @@ fn words_of(alloc: Global, line: &str) -> Result<Vec<String>, AllocError> {
 }
 
 /// The run of the program with these words, over these texts.
-fn run_of(alloc: Global, line: &str, texts: &[(&str, Text<'_>)]) -> Result<Ran, AllocError> {
+fn run_of(rt: &impl Machine, line: &str, texts: &[(&str, Text<'_>)]) -> Result<Ran, AllocError> {
+    let alloc = rt.alloc();
     let words = words_of(alloc, line)?;
     let mut out = Vec::new(alloc);
     let mut err = Vec::new(alloc);
-    let status = command(alloc, &words, &mut Texts { texts }, &mut out, &mut err);
+    let status = command(rt, alloc, &words, &mut Texts { texts }, &mut out, &mut err);
     Ok(Ran { status, out, err })
 }
 
 /// The replay of a script with the empty schedule.
-fn replayed(alloc: Global, script: &[u8]) -> Result<Ran, AllocError> {
-    run_of(alloc, "replay F", &[("F", whole(script))])
+fn replayed(rt: &impl Machine, script: &[u8]) -> Result<Ran, AllocError> {
+    run_of(rt, "replay F", &[("F", whole(script))])
 }

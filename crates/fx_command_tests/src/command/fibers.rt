@@ -5,13 +5,13 @@ use super::*;
 pub(super) type Row = (&'static str, &'static str, &'static str, u8, &'static str);
 
 /// Sees that each run prints its text, with its status.
-pub(super) fn assert_runs(rt: &impl Abort, alloc: Global, rows: &[Row]) -> Result<(), Fail> {
+pub(super) fn assert_runs(rt: &impl Machine, rows: &[Row]) -> Result<(), Fail> {
     for (words, script, schedule, status, printed) in rows {
         let texts = [
             ("F", whole(script.as_bytes())),
             ("S", whole(schedule.as_bytes())),
         ];
-        let ran = run_of(alloc, words, &texts)?;
+        let ran = run_of(rt, words, &texts)?;
         assert_eq!(rt;
             (ran.status, ran.out.as_slice()),
             (*status, printed.as_bytes()),
@@ -47,7 +47,7 @@ static CANCELED: [Row; 3] = [
 
 #[test]
 fn cancel_waits_for_the_end_of_the_other_fiber(rt: HostRuntime) -> Result<(), Fail> {
-    assert_runs(&rt, rt.alloc(), &CANCELED)
+    assert_runs(&rt, &CANCELED)
 }
 
 static RACES: [Row; 4] = [
@@ -84,7 +84,7 @@ static RACES: [Row; 4] = [
 
 #[test]
 fn race_is_decided_by_a_fiber_that_was_not_canceled(rt: HostRuntime) -> Result<(), Fail> {
-    assert_runs(&rt, rt.alloc(), &RACES)
+    assert_runs(&rt, &RACES)
 }
 
 macro_rules! joins {
@@ -148,7 +148,7 @@ static SCHEDULES: [Row; 8] = [
 
 #[test]
 fn schedule_chooses_the_run(rt: HostRuntime) -> Result<(), Fail> {
-    assert_runs(&rt, rt.alloc(), &SCHEDULES)
+    assert_runs(&rt, &SCHEDULES)
 }
 
 static TRACES: [Row; 3] = [
@@ -171,5 +171,5 @@ static TRACES: [Row; 3] = [
 
 #[test]
 fn trace_has_a_line_an_event(rt: HostRuntime) -> Result<(), Fail> {
-    assert_runs(&rt, rt.alloc(), &TRACES)
+    assert_runs(&rt, &TRACES)
 }

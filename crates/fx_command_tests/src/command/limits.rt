@@ -26,12 +26,7 @@ fn loop_of_a_million_turns_ends(rt: HostRuntime) -> Result<(), Fail> {
         "(main (for i 1000 (for j 1000 (cede))))",
     ] {
         assert!(rt;
-            prints(
-                rt.alloc(),
-                script.as_bytes(),
-                ENDED,
-                "fiber 0 succeeded 0\n"
-            ),
+            prints(&rt, script.as_bytes(), ENDED, "fiber 0 succeeded 0\n"),
             "{script}"
         );
     }
@@ -45,10 +40,10 @@ fn limit_of_open_parentheses_is_100(rt: HostRuntime) -> Result<(), Fail> {
         text.extend_from_slice(b" e (pure e))")?;
     }
     text.extend_from_slice(b")")?;
-    assert!(rt; prints(rt.alloc(), &text, ENDED, "fiber 0 succeeded 9\n"));
+    assert!(rt; prints(&rt, &text, ENDED, "fiber 0 succeeded 9\n"));
 
     let text = repeated(rt.alloc(), b"(main ", b"(handle ", 99, b"(raise 9)")?;
-    assert!(rt; prints(rt.alloc(), &text, REFUSED, "refused 11 at 798\n"));
+    assert!(rt; prints(&rt, &text, REFUSED, "refused 11 at 798\n"));
     Ok(())
 }
 
@@ -61,7 +56,7 @@ fn limit_of_a_text_is_65536_bytes(rt: HostRuntime) -> Result<(), Fail> {
         (70_000, REFUSED, "refused 1 at 65536\n"),
     ] {
         let text = repeated(rt.alloc(), script, b" ", spaces, b"")?;
-        assert!(rt; prints(rt.alloc(), &text, status, line), "{spaces} spaces");
+        assert!(rt; prints(&rt, &text, status, line), "{spaces} spaces");
     }
     Ok(())
 }
@@ -70,8 +65,8 @@ fn limit_of_a_text_is_65536_bytes(rt: HostRuntime) -> Result<(), Fail> {
 const SMALL_STACK: usize = 2 * 1024 * 1024;
 
 /// Does a replay of this text print this line, and answer this status?
-fn prints(alloc: Global, text: &[u8], status: u8, line: &str) -> bool {
-    match replayed(alloc, text) {
+fn prints(rt: &impl Machine, text: &[u8], status: u8, line: &str) -> bool {
+    match replayed(rt, text) {
         Ok(ran) => ran.status == status && ran.out.as_slice() == line.as_bytes(),
         Err(_) => false,
     }
@@ -82,9 +77,10 @@ fn seq_of_as_many_parts_as_a_text_holds_on_a_small_stack(rt: HostRuntime) -> Res
     let alloc = rt.alloc();
     let text = repeated(alloc, b"(main (seq", b"(pure 1)", 8190, b"))")?;
     assert!(rt; text.len() <= 65_536 && text.len() + 8 > 65_536);
+    let own = rt.clone()?;
     let replay = Builder::new().stack_size(SMALL_STACK).spawn(
         &rt,
-        move || prints(alloc, &text, ENDED, "fiber 0 succeeded 1\n"),
+        move || prints(&own, &text, ENDED, "fiber 0 succeeded 1\n"),
     )?;
     assert!(rt; replay.join(&rt));
     Ok(())
@@ -111,9 +107,10 @@ fn using_of_3000_resources_on_a_small_stack(rt: HostRuntime) -> Result<(), Fail>
     let alloc = rt.alloc();
     let text = using_of(alloc, 3_000)?;
     assert!(rt; text.len() <= 65_536);
+    let own = rt.clone()?;
     let replay = Builder::new().stack_size(SMALL_STACK).spawn(
         &rt,
-        move || prints(alloc, &text, ENDED, "fiber 0 succeeded 1\n"),
+        move || prints(&own, &text, ENDED, "fiber 0 succeeded 1\n"),
     )?;
     assert!(rt; replay.join(&rt));
     Ok(())

@@ -49,7 +49,7 @@ static MASKED: [Row; 6] = [
 
 #[test]
 fn cancellation_leaves_what_was_put_before_it(rt: HostRuntime) -> Result<(), Fail> {
-    assert_runs(&rt, rt.alloc(), &MASKED)
+    assert_runs(&rt, &MASKED)
 }
 
 static RELEASED: [Row; 3] = [
@@ -78,7 +78,7 @@ static RELEASED: [Row; 3] = [
 
 #[test]
 fn releases_put_what_they_give_back(rt: HostRuntime) -> Result<(), Fail> {
-    assert_runs(&rt, rt.alloc(), &RELEASED)
+    assert_runs(&rt, &RELEASED)
 }
 
 static WAITING: [Row; 5] = [
@@ -121,7 +121,7 @@ static WAITING: [Row; 5] = [
 
 #[test]
 fn who_is_canceled_while_it_waits_has_put_and_taken_nothing(rt: HostRuntime) -> Result<(), Fail> {
-    assert_runs(&rt, rt.alloc(), &WAITING)
+    assert_runs(&rt, &WAITING)
 }
 
 static TRIED: [Row; 3] = [
@@ -150,7 +150,7 @@ static TRIED: [Row; 3] = [
 
 #[test]
 fn tries_do_not_wait(rt: HostRuntime) -> Result<(), Fail> {
-    assert_runs(&rt, rt.alloc(), &TRIED)
+    assert_runs(&rt, &TRIED)
 }
 
 static MANY: [Row; 2] = [
@@ -174,7 +174,7 @@ static MANY: [Row; 2] = [
 
 #[test]
 fn what_is_put_is_taken(rt: HostRuntime) -> Result<(), Fail> {
-    assert_runs(&rt, rt.alloc(), &MANY)
+    assert_runs(&rt, &MANY)
 }
 
 /// Sixteen queues of the largest capacity, each with its own number in it.
@@ -196,7 +196,7 @@ fn sixteen_queues(alloc: Global) -> Result<(String, String), Fail> {
 #[test]
 fn script_may_have_sixteen_queues(rt: HostRuntime) -> Result<(), Fail> {
     let (script, printed) = sixteen_queues(rt.alloc())?;
-    let ran = replayed(rt.alloc(), script.as_bytes())?;
+    let ran = replayed(&rt, script.as_bytes())?;
     assert_eq!(rt;
         (ran.status, ran.out.as_slice()),
         (ENDED, printed.as_bytes())
@@ -214,5 +214,5 @@ static FULL: [Row; 1] = [(
 
 #[test]
 fn queue_may_have_room_for_1024(rt: HostRuntime) -> Result<(), Fail> {
-    assert_runs(&rt, rt.alloc(), &FULL)
+    assert_runs(&rt, &FULL)
 }

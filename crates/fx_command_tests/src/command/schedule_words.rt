@@ -28,18 +28,18 @@ static SCHEDULES: [Row; 5] = [
 ];
 
 /// The replay of a script under this schedule.
-fn replayed_under(alloc: Global, schedule: &str) -> Result<Ran, AllocError> {
+fn replayed_under(rt: &impl Machine, schedule: &str) -> Result<Ran, AllocError> {
     let texts = [
         ("F", whole(b"(main (pure 5))")),
         ("s", whole(schedule.as_bytes())),
     ];
-    run_of(alloc, "replay F s", &texts)
+    run_of(rt, "replay F s", &texts)
 }
 
 /// Sees that each schedule is refused, and that this is said of it.
-fn assert_explains(rt: &impl Abort, alloc: Global, rows: &[Row]) -> Result<(), Fail> {
+fn assert_explains(rt: &impl Machine, rows: &[Row]) -> Result<(), Fail> {
     for (schedule, words) in rows {
-        let ran = replayed_under(alloc, schedule)?;
+        let ran = replayed_under(rt, schedule)?;
         assert_eq!(rt;
             (ran.status, ran.err.as_slice()),
             (REFUSED, words.as_bytes()),
@@ -51,5 +51,5 @@ fn assert_explains(rt: &impl Abort, alloc: Global, rows: &[Row]) -> Result<(), F
 
 #[test]
 fn each_kind_is_told_in_words(rt: HostRuntime) -> Result<(), Fail> {
-    assert_explains(&rt, rt.alloc(), &SCHEDULES)
+    assert_explains(&rt, &SCHEDULES)
 }

@@ -5,9 +5,9 @@ use super::*;
 type Row = (&'static str, &'static str);
 
 /// Sees that each script is refused, and that this is said of it.
-fn assert_explains(rt: &impl Abort, alloc: Global, rows: &[Row]) -> Result<(), Fail> {
+fn assert_explains(rt: &impl Machine, rows: &[Row]) -> Result<(), Fail> {
     for (script, words) in rows {
-        let ran = run_of(alloc, "check -", &[("-", whole(script.as_bytes()))])?;
+        let ran = run_of(rt, "check -", &[("-", whole(script.as_bytes()))])?;
         assert_eq!(rt;
             (ran.status, ran.err.as_slice()),
             (REFUSED, words.as_bytes()),
@@ -108,7 +108,7 @@ static KINDS: [Row; 21] = [
 
 #[test]
 fn each_kind_is_told_in_words(rt: HostRuntime) -> Result<(), Fail> {
-    assert_explains(&rt, rt.alloc(), &KINDS)
+    assert_explains(&rt, &KINDS)
 }
 
 static WANTED: [Row; 14] = [
@@ -173,7 +173,7 @@ static WANTED: [Row; 14] = [
 
 #[test]
 fn what_is_wanted_is_told_by_the_form(rt: HostRuntime) -> Result<(), Fail> {
-    assert_explains(&rt, rt.alloc(), &WANTED)
+    assert_explains(&rt, &WANTED)
 }
 
 /// A line above 78 bytes is cut to 38 bytes before the place, and 39 from it on.
@@ -186,5 +186,5 @@ static LONG: [Row; 1] = [(
 
 #[test]
 fn long_lines_are_cut(rt: HostRuntime) -> Result<(), Fail> {
-    assert_explains(&rt, rt.alloc(), &LONG)
+    assert_explains(&rt, &LONG)
 }

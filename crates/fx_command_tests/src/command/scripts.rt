@@ -5,9 +5,9 @@ use super::*;
 type Row = (&'static str, &'static str);
 
 /// Sees that each script prints its line, with this status.
-fn assert_prints(rt: &impl Abort, alloc: Global, status: u8, rows: &[Row]) -> Result<(), Fail> {
+fn assert_prints(rt: &impl Machine, status: u8, rows: &[Row]) -> Result<(), Fail> {
     for (script, line) in rows {
-        let ran = replayed(alloc, script.as_bytes())?;
+        let ran = replayed(rt, script.as_bytes())?;
         assert_eq!(rt;
             (ran.status, ran.out.as_slice()),
             (status, line.as_bytes()),
@@ -56,7 +56,7 @@ static OUTCOMES: [Row; 13] = [
 
 #[test]
 fn outcome_of_the_main_fiber_is_printed(rt: HostRuntime) -> Result<(), Fail> {
-    assert_prints(&rt, rt.alloc(), ENDED, &OUTCOMES)
+    assert_prints(&rt, ENDED, &OUTCOMES)
 }
 
 static MASKED: [Row; 7] = [
@@ -83,7 +83,7 @@ static MASKED: [Row; 7] = [
 
 #[test]
 fn masked_fiber_is_canceled_where_a_mask_ends(rt: HostRuntime) -> Result<(), Fail> {
-    assert_prints(&rt, rt.alloc(), ENDED, &MASKED)
+    assert_prints(&rt, ENDED, &MASKED)
 }
 
 static FINALIZERS: [Row; 4] = [
@@ -107,7 +107,7 @@ static FINALIZERS: [Row; 4] = [
 
 #[test]
 fn finalizer_changes_no_outcome(rt: HostRuntime) -> Result<(), Fail> {
-    assert_prints(&rt, rt.alloc(), ENDED, &FINALIZERS)
+    assert_prints(&rt, ENDED, &FINALIZERS)
 }
 
 static WAITING: [Row; 12] = [
@@ -148,7 +148,7 @@ static WAITING: [Row; 12] = [
 
 #[test]
 fn waiting_fiber_is_blocked(rt: HostRuntime) -> Result<(), Fail> {
-    assert_prints(&rt, rt.alloc(), BLOCKED, &WAITING)
+    assert_prints(&rt, BLOCKED, &WAITING)
 }
 
 static LEFT: [Row; 5] = [
@@ -170,7 +170,7 @@ static LEFT: [Row; 5] = [
 
 #[test]
 fn never_is_left_where_the_fiber_is_canceled(rt: HostRuntime) -> Result<(), Fail> {
-    assert_prints(&rt, rt.alloc(), ENDED, &LEFT)
+    assert_prints(&rt, ENDED, &LEFT)
 }
 
 static CHOICES: [Row; 5] = [
@@ -189,7 +189,7 @@ static CHOICES: [Row; 5] = [
 
 #[test]
 fn if_takes_its_first_part_where_the_value_is_not_0(rt: HostRuntime) -> Result<(), Fail> {
-    assert_prints(&rt, rt.alloc(), ENDED, &CHOICES)
+    assert_prints(&rt, ENDED, &CHOICES)
 }
 
 static LOOPS: [Row; 10] = [
@@ -222,7 +222,7 @@ static LOOPS: [Row; 10] = [
 
 #[test]
 fn loop_counts_from_0_and_gives_0(rt: HostRuntime) -> Result<(), Fail> {
-    assert_prints(&rt, rt.alloc(), ENDED, &LOOPS)
+    assert_prints(&rt, ENDED, &LOOPS)
 }
 
 static RELEASED: [Row; 11] = [
@@ -274,7 +274,7 @@ static RELEASED: [Row; 11] = [
 
 #[test]
 fn bracket_releases_what_it_acquired(rt: HostRuntime) -> Result<(), Fail> {
-    assert_prints(&rt, rt.alloc(), ENDED, &RELEASED)
+    assert_prints(&rt, ENDED, &RELEASED)
 }
 
 static SHORT_FORMS: [Row; 11] = [
@@ -320,7 +320,7 @@ static SHORT_FORMS: [Row; 11] = [
 
 #[test]
 fn short_forms_end_as_what_they_are_short_for(rt: HostRuntime) -> Result<(), Fail> {
-    assert_prints(&rt, rt.alloc(), ENDED, &SHORT_FORMS)
+    assert_prints(&rt, ENDED, &SHORT_FORMS)
 }
 
 static REFUSED_TEXTS: [Row; 30] = [
@@ -382,5 +382,5 @@ static REFUSED_TEXTS: [Row; 30] = [
 
 #[test]
 fn text_that_is_no_script_is_refused(rt: HostRuntime) -> Result<(), Fail> {
-    assert_prints(&rt, rt.alloc(), REFUSED, &REFUSED_TEXTS)
+    assert_prints(&rt, REFUSED, &REFUSED_TEXTS)
 }

@@ -40,7 +40,8 @@ static PRINTED: [Row; 3] = [
 ];
 
 /// Sees that an output with so much room has a prefix of the text, and that this is told.
-fn assert_prefix(rt: &impl Abort, alloc: Global, row: &Row, room: usize) -> Result<(), Fail> {
+fn assert_prefix(rt: &impl Machine, row: &Row, room: usize) -> Result<(), Fail> {
+    let alloc = rt.alloc();
     let (line, script, printed, ended) = *row;
     let words = words_of(alloc, line)?;
     let texts = [("F", whole(script.as_bytes()))];
@@ -50,6 +51,7 @@ fn assert_prefix(rt: &impl Abort, alloc: Global, row: &Row, room: usize) -> Resu
     };
     let mut err = Vec::new(alloc);
     let status = command(
+        rt,
         alloc,
         &words,
         &mut Texts { texts: &texts },
@@ -73,7 +75,7 @@ fn assert_prefix(rt: &impl Abort, alloc: Global, row: &Row, room: usize) -> Resu
 fn output_that_fails_has_a_prefix_of_the_text(rt: HostRuntime) -> Result<(), Fail> {
     for row in &PRINTED {
         for room in 0..=row.2.len() {
-            assert_prefix(&rt, rt.alloc(), row, room)?;
+            assert_prefix(&rt, row, room)?;
         }
     }
     Ok(())

@@ -57,5 +57,5 @@ static TOUR: [Row; 7] = [
 
 #[test]
 fn readme_says_what_its_scripts_print(rt: HostRuntime) -> Result<(), Fail> {
-    assert_runs(&rt, rt.alloc(), &TOUR)
+    assert_runs(&rt, &TOUR)
 }

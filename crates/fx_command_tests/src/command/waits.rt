@@ -86,7 +86,7 @@ fn each_blocked_fiber_is_said_to_wait_for_something(rt: HostRuntime) -> Result<(
             ("F", whole(script.as_bytes())),
             ("S", whole(schedule.as_bytes())),
         ];
-        let ran = run_of(rt.alloc(), words, &texts)?;
+        let ran = run_of(&rt, words, &texts)?;
         assert_eq!(rt;
             (ran.status, ran.err.as_slice()),
             (
@@ -101,7 +101,7 @@ fn each_blocked_fiber_is_said_to_wait_for_something(rt: HostRuntime) -> Result<(
 
 #[test]
 fn script_on_standard_input_has_its_lines(rt: HostRuntime) -> Result<(), Fail> {
-    let ran = run_of(rt.alloc(), "", &[("-", whole(b"(main (never))"))])?;
+    let ran = run_of(&rt, "", &[("-", whole(b"(main (never))"))])?;
     assert_eq!(rt;
         (ran.status, ran.out.as_slice(), ran.err.as_slice()),
         (

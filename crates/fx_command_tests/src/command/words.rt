@@ -34,9 +34,9 @@ static TEXTS: [(&str, Text<'static>); 6] = [
 ];
 
 /// Sees that each run answers so.
-fn assert_answers(rt: &impl Abort, alloc: Global, rows: &[Row]) -> Result<(), Fail> {
+fn assert_answers(rt: &impl Machine, rows: &[Row]) -> Result<(), Fail> {
     for (words, status, printed, said) in rows {
-        let ran = run_of(alloc, words, &TEXTS)?;
+        let ran = run_of(rt, words, &TEXTS)?;
         assert_eq!(rt;
             (ran.status, ran.out.as_slice(), ran.err.as_slice()),
             (*status, printed.as_bytes(), said.as_bytes()),
@@ -52,7 +52,7 @@ macro_rules! usage {
     };
 }
 
-static OTHER: [Row; 10] = [
+static OTHER: [Row; 16] = [
     ("walk script", OTHER_WORDS, "", usage!()),
     ("check", OTHER_WORDS, "", usage!()),
     ("check script word", OTHER_WORDS, "", usage!()),
@@ -61,16 +61,22 @@ static OTHER: [Row; 10] = [
     ("replay script -", OTHER_WORDS, "", usage!()),
     ("trace", OTHER_WORDS, "", usage!()),
     ("trace script -", OTHER_WORDS, "", usage!()),
-    ("run script 4", OTHER_WORDS, "", usage!()),
+    ("run script", OTHER_WORDS, "", usage!()),
+    ("run script x", OTHER_WORDS, "", usage!()),
+    ("run script 4x", OTHER_WORDS, "", usage!()),
+    ("run script +4", OTHER_WORDS, "", usage!()),
+    ("run script -1", OTHER_WORDS, "", usage!()),
+    ("run script 4294967296", OTHER_WORDS, "", usage!()),
+    ("run script 4 word", OTHER_WORDS, "", usage!()),
     ("script", OTHER_WORDS, "", usage!()),
 ];
 
 #[test]
 fn other_words_are_answered_with_those_that_there_are(rt: HostRuntime) -> Result<(), Fail> {
-    assert_answers(&rt, rt.alloc(), &OTHER)
+    assert_answers(&rt, &OTHER)
 }
 
-static REFUSALS: [Row; 6] = [
+static REFUSALS: [Row; 7] = [
     (
         "",
         REFUSED,
@@ -85,6 +91,12 @@ static REFUSALS: [Row; 6] = [
     ),
     (
         "replay refused nowhere",
+        REFUSED,
+        "refused 5 at 7\n",
+        "refused:1:8: `foo` is no word of a form\n(main (foo))\n       ^\n",
+    ),
+    (
+        "run refused 17",
         REFUSED,
         "refused 5 at 7\n",
         "refused:1:8: `foo` is no word of a form\n(main (foo))\n       ^\n",
@@ -111,13 +123,14 @@ static REFUSALS: [Row; 6] = [
 
 #[test]
 fn refusal_is_a_line_and_words_for_people(rt: HostRuntime) -> Result<(), Fail> {
-    assert_answers(&rt, rt.alloc(), &REFUSALS)
+    assert_answers(&rt, &REFUSALS)
 }
 
-static UNREAD: [Row; 6] = [
+static UNREAD: [Row; 7] = [
     ("check nowhere", UNREADABLE, "", "cannot read nowhere\n"),
     ("replay nowhere", UNREADABLE, "", "cannot read nowhere\n"),
     ("trace broken", UNREADABLE, "", "cannot read broken\n"),
+    ("run nowhere 0", UNREADABLE, "", "cannot read nowhere\n"),
     (
         "replay script nowhere",
         UNREADABLE,
@@ -140,24 +153,32 @@ static UNREAD: [Row; 6] = [
 
 #[test]
 fn text_that_cannot_be_read_is_named(rt: HostRuntime) -> Result<(), Fail> {
-    assert_answers(&rt, rt.alloc(), &UNREAD)
+    assert_answers(&rt, &UNREAD)
 }
 
 #[test]
 fn standard_input_that_breaks_off_is_named_so(rt: HostRuntime) -> Result<(), Fail> {
-    let ran = run_of(rt.alloc(), "", &[("-", broken!(b"(main"))])?;
+    let ran = run_of(&rt, "", &[("-", broken!(b"(main"))])?;
     assert_eq!(rt; ran.status, UNREADABLE);
     assert_eq!(rt; ran.err.as_slice(), b"cannot read -\n".as_slice());
     Ok(())
 }
 
+static WORKERS: [Row; 4] = [
+    ("run script 0", FAULT, "", "fault workers\n"),
+    ("run script 000", FAULT, "", "fault workers\n"),
+    ("run script 17", FAULT, "", "fault workers\n"),
+    ("run script 4294967295", FAULT, "", "fault workers\n"),
+];
+
+#[test]
+fn run_has_from_1_to_16_workers(rt: HostRuntime) -> Result<(), Fail> {
+    assert_answers(&rt, &WORKERS)
+}
+
 #[test]
 fn check_counts_fibers_and_queues(rt: HostRuntime) -> Result<(), Fail> {
-    assert_answers(
-        &rt,
-        rt.alloc(),
-        &[("check script", ENDED, "fibers 1 queues 0\n", "")],
-    )
+    assert_answers(&rt, &[("check script", ENDED, "fibers 1 queues 0\n", "")])
 }
 
 #[test]

@@ -43,7 +43,7 @@ returns-in-Run g c =
     let call = c.in-Some.call in
     let is = call_is words _ call c.of.ensures.call c.in-Some.is in
     let left = rw c.in-Run.is at c.in-Err.ensures.fault in
-    run_fault_runs words _ (view_call call) _ _ _ _ _ is left c.tell_run_fault.ensures
+    run_fault_runs words _ (view_call call) _ _ _ _ _ _ is left c.tell_run_fault.ensures
 
 pub returns : goal.returns
 returns g c =
