@@ -1,13 +1,13 @@
 -- Marks, and the numbers that are marked.
 use Rattle.std.proofs.Common.{◌≡◌, ◌≢◌, ℕ, ◌+◌, ◌<◌, ◌≤◌, Bool, true, false, List, [], ◌∷◌, ◌++◌, ◌⊎◌}
-use Rattle.std.proofs.Common.{inl, inr, ⊎_elim, length, set, replicate, zero, suc, refl, sym, ◌∙◌, ap, subst, arith}
+use Rattle.std.proofs.Common.{inl, inr, ⊎_elim, ◌||◌, length, get_or, set, take, replicate, zero, suc, refl, sym, ◌∙◌, ap, subst, arith, add-one}
 use Rattle.std.proofs.lemmas.List.{get_or-set_same, get_or-set_other}
 use mathlib.Core.Logic.{dite}
 use native.Mathlib.Decide.{ℕ_discrete}
 use Rattle.fx_term.specs.Lists.{Among}
 use Rattle.fx_term.proofs.ListLaws.{Among-append_left, Among-append_right, Among-append}
 use Rattle.fx_queue.specs.WaitRing.{Apart}
-use Rattle.fx_port.specs.Marks.{is_marked, AreListed, KeepsMarks}
+use Rattle.fx_port.specs.Marks.{is_marked, joined_marks, AreListed, KeepsMarks}
 
 no_mark : {P : Type 0} → false ≡ true → P
 no_mark e = let z : ⊥ = cc in absurd z
@@ -139,3 +139,66 @@ has_room marks numbers f lt new h =
     let k = listed_few marks numbers h.marked h.apart in
     let m = marks_miss marks f lt new in
     omega (arith, k, m)
+
+-- the mark that is read at a place
+pub mark_read : (marks : List Bool) (k : ℕ) (m : Bool) → k < length marks → m ≡ get_or marks k m → is_marked marks k ≡ m
+mark_read [] k m lt e = absurd (omega (arith, lt))
+mark_read (x ∷ marks) zero m lt e = sym e
+mark_read (x ∷ marks) (suc k) m lt e = mark_read marks k m (omega (arith, lt)) e
+
+-- one more place of the other row is looked at
+pub joined_none : (marks : List Bool) → joined_marks marks [] ≡ marks
+joined_none [] = refl
+joined_none (m ∷ marks) = refl
+
+or_false : (m : Bool) → (m || false) ≡ m
+or_false true = refl
+or_false false = refl
+
+or_true : (m : Bool) → (m || true) ≡ true
+or_true true = refl
+or_true false = refl
+
+pub joined_marked : (marks other : List Bool) (k : ℕ) → is_marked other k ≡ true
+    → set (joined_marks marks (take k other)) k true ≡ joined_marks marks (take (suc k) other)
+joined_marked marks [] k e = no_mark e
+joined_marked [] (n ∷ other) zero e = refl
+joined_marked [] (n ∷ other) (suc k) e = refl
+joined_marked (m ∷ marks) (n ∷ other) zero e = λ i. (sym (or_true m) ∙ ap (λ (b : Bool). m || b) (sym e)) i ∷ sym (joined_none marks) i
+joined_marked (m ∷ marks) (n ∷ other) (suc k) e = ap (λ l. (m || n) ∷ l) (joined_marked marks other k e)
+
+pub joined_unmarked : (marks other : List Bool) (k : ℕ) → is_marked other k ≡ false
+    → joined_marks marks (take k other) ≡ joined_marks marks (take (suc k) other)
+joined_unmarked marks [] zero e = refl
+joined_unmarked marks [] (suc k) e = refl
+joined_unmarked [] (n ∷ other) zero e = refl
+joined_unmarked [] (n ∷ other) (suc k) e = refl
+joined_unmarked (m ∷ marks) (n ∷ other) zero e = λ i. (sym (or_false m) ∙ ap (λ (b : Bool). m || b) (sym e)) i ∷ sym (joined_none marks) i
+joined_unmarked (m ∷ marks) (n ∷ other) (suc k) e = ap (λ l. (m || n) ∷ l) (joined_unmarked marks other k e)
+
+pub joined_long : (marks other : List Bool) → length (joined_marks marks other) ≡ length marks
+joined_long [] other = refl
+joined_long (m ∷ marks) [] = refl
+joined_long (m ∷ marks) (n ∷ other) = ap suc (joined_long marks other)
+
+-- what is marked in the joined row
+pub joined_from : (marks other : List Bool) (f : ℕ) → is_marked (joined_marks marks other) f ≡ true
+    → (is_marked marks f ≡ true) ⊎ (is_marked other f ≡ true)
+joined_from [] other f e = no_mark e
+joined_from (m ∷ marks) [] f e = inl e
+joined_from (true ∷ marks) (n ∷ other) zero e = inl refl
+joined_from (false ∷ marks) (n ∷ other) zero e = inr e
+joined_from (m ∷ marks) (n ∷ other) (suc f) e = joined_from marks other f e
+
+pub joined_keeps : (marks other : List Bool) → KeepsMarks marks (joined_marks marks other)
+joined_keeps [] other f e = no_mark e
+joined_keeps (m ∷ marks) [] f e = e
+joined_keeps (true ∷ marks) (n ∷ other) zero e = refl
+joined_keeps (false ∷ marks) (n ∷ other) zero e = no_mark e
+joined_keeps (m ∷ marks) (n ∷ other) (suc f) e = joined_keeps marks other f e
+
+pub joined_takes : (marks other : List Bool) (f : ℕ) → f < length marks → is_marked other f ≡ true → is_marked (joined_marks marks other) f ≡ true
+joined_takes [] other f lt e = absurd (omega (arith, lt))
+joined_takes (m ∷ marks) [] f lt e = no_mark e
+joined_takes (m ∷ marks) (n ∷ other) zero lt e = ap (λ (b : Bool). m || b) e ∙ or_true m
+joined_takes (m ∷ marks) (n ∷ other) (suc f) lt e = joined_takes marks other f (omega (arith, lt)) e

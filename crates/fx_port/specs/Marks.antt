@@ -1,10 +1,16 @@
 -- Marks of numbers, and numbers that are listed each once.
-use Rattle.std.specs.Prelude.{◌≡◌, ℕ, Bool, true, false, List, Option, Some, None, slice_index_or, slice_set}
+use Rattle.std.specs.Prelude.{◌≡◌, ℕ, Bool, true, false, ◌||◌, List, [], ◌∷◌, Option, Some, None, slice_index_or, slice_set}
 use Rattle.fx_term.specs.Lists.{Among}
 use Rattle.fx_queue.specs.WaitRing.{Apart}
 
 abbrev pub is_marked : List Bool → ℕ → Bool
 is_marked marks f = slice_index_or marks f false
+
+-- a number of the first row is marked where it is in either
+abbrev pub joined_marks : List Bool → List Bool → List Bool
+joined_marks [] other = []
+joined_marks (m ∷ marks) [] = m ∷ marks
+joined_marks (m ∷ marks) (n ∷ other) = (m || n) ∷ joined_marks marks other
 
 -- the numbers are those that are marked, each once
 pub record AreListed (marks : List Bool) (numbers : List ℕ) : Type 0 where

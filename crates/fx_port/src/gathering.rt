@@ -2,6 +2,7 @@
 ghost use Rattle.std.specs.Prelude.{◌≡◌};
 ghost use Rattle.fx_word.specs.SeatView.{joined};
 ghost use Rattle.fx_word.specs.Words.{IsOf};
+ghost use Rattle.fx_port.specs.PortView.{IsOfRun};
 ghost use Rattle.fx_port.specs.Rows.{IsRowOf, joined_row};
 
 use crate::marks::Marks;
@@ -27,6 +28,7 @@ pub fn gather<'a, R: Wait, N: RunBrand>(
     ensures passes { passes.new ≡ joined_row passes.old port.entry.passes }
     ensures row { IsRowOf N.queues passes.new }
     ensures noted { result ≡ port.entry.noted }
+    ensures of_run { IsOfRun N.words N.queues N.may port.entry }
 {
     let (other, others, noted) = port.into_parts();
     words.gather(seat, other);

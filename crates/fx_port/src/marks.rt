@@ -1,6 +1,6 @@
 //! A row of marks.
 ghost use Rattle.std.specs.Prelude.{◌≡◌, true, false, length, replicate, slice_set, IfOk};
-ghost use Rattle.fx_port.specs.Marks.{is_marked};
+ghost use Rattle.fx_port.specs.Marks.{is_marked, joined_marks};
 
 use fx_term::Memory;
 use std::alloc::Global;
@@ -43,20 +43,30 @@ impl Marks {
     pub fn mark(&mut self, id: u32)
         ensures { self.new ≡ slice_set self.old id true }
     {
-        self.set(id, true);
+        self.set(id as usize, true);
+    }
+
+    /// Marks what the other row has marked, where it is below the bound.
+    pub fn join(&mut self, other: &Marks)
+        ensures { self.new ≡ joined_marks self.old other.now }
+    {
+        for place in 0..other.row.len() {
+            if other.row[place] {
+                self.set(place, true);
+            }
+        }
     }
 
     /// Takes the mark of the number off.
     pub(crate) fn unmark(&mut self, id: u32)
         ensures { self.new ≡ slice_set self.old id false }
     {
-        self.set(id, false);
+        self.set(id as usize, false);
     }
 
-    fn set(&mut self, id: u32, mark: bool)
-        ensures { self.new ≡ slice_set self.old id mark }
+    fn set(&mut self, place: usize, mark: bool)
+        ensures { self.new ≡ slice_set self.old place mark }
     {
-        let place = id as usize;
         if place < self.row.len() {
             self.row[place] = mark;
         }

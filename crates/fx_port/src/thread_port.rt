@@ -3,7 +3,7 @@ ghost use Rattle.std.specs.Prelude.{◌≡◌, ◌<◌, [], length, IfOk};
 ghost use Rattle.fx_word.specs.SeatView.{first_view};
 ghost use Rattle.fx_word.specs.Words.{IsOf};
 ghost use Rattle.fx_port.specs.Rows.{AreFirst, IsRowOf, puts_in};
-ghost use Rattle.fx_port.specs.PortView.{first_port};
+ghost use Rattle.fx_port.specs.PortView.{first_port, IsOfRun};
 ghost use Rattle.fx_port.specs.ThreadCalls.{ThreadAgrees};
 
 use crate::marks::Marks;
@@ -97,6 +97,7 @@ impl<'a, R: Wait, N: RunBrand> ThreadPort<'a, R, N> {
         ensures seat { IsOf result.0 N.words × (result.0.view ≡ self.entry.words) }
         ensures passes { (result.1 ≡ self.entry.passes) × IsRowOf N.queues result.1 }
         ensures noted { result.2 ≡ self.entry.noted }
+        ensures of_run { IsOfRun N.words N.queues N.may self.entry }
     {
         (self.seat, self.passes, self.noted)
     }

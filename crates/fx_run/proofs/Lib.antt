@@ -3,8 +3,10 @@ pub mod DeedLaws
 pub mod QueueDeeds
 pub mod StartsOnce
 pub mod RunEnds
+pub mod Apart
 pub mod GivenFibers
 pub mod Gathering
+pub mod GatheredLaws
 pub mod WholeEntries
 pub mod Starters
 pub mod Lawful

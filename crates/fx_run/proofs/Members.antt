@@ -87,7 +87,7 @@ found_by_number {A = A} {B = B} g id f (x ∷ xs) = by_test (id (g x) == f) refl
     by_test true is rest = rw is refl
     by_test false is rest = rw is rest
 
-among_map : {A : Type 0} (id : A → ℕ) (xs : List A) (x : A) → Among x xs → Contains (map id xs) (id x)
+pub among_map : {A : Type 0} (id : A → ℕ) (xs : List A) (x : A) → Among x xs → Contains (map id xs) (id x)
 among_map id [] x i = absurd i
 among_map id (y ∷ xs) x (inl same) = (0, omega arith, ap id (sym same))
 among_map id (y ∷ xs) x (inr i) = (let c = among_map id xs x i in (suc c.0, (let lt = c.1 in omega arith), c.2))

@@ -2,6 +2,7 @@ pub mod Agreement
 pub mod Changes
 pub mod Parted
 pub mod Reported
+pub mod Apart
 pub mod Gathered
 pub mod Ledger
 pub mod RunFault

@@ -36,6 +36,8 @@
 //! and by how many elements are left. Else the report is that of what was given.
 #![tactic(auto)]
 
+mod closing;
+mod gathered;
 pub mod laws;
 mod ledger;
 mod lost;

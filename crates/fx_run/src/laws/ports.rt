@@ -13,7 +13,13 @@ ghost use Rattle.fx_queue.specs.declared.entry.Entry as pass;
 ghost use Rattle.fx_queue.specs.declared.pass_view.PassView.{PassView};
 ghost use Rattle.fx_queue.specs.PassView.{first_view, kept_part, given_part};
 ghost use Rattle.fx_queue.specs.Told.{DidPut, DidGet};
+ghost use Rattle.fx_queue.specs.Queues.{QueueId};
+ghost use Rattle.fx_word.specs.Words.{WordsId};
+ghost use Rattle.fx_port.specs.Marks.{is_marked};
+ghost use Rattle.fx_port.specs.PortView.{PortView, IsOfRun};
+ghost use Rattle.fx_port.specs.ThreadCalls.{ThreadAgrees};
 ghost use Rattle.fx_run.specs.Agreement.{PortAgrees};
+ghost use Rattle.fx_run.specs.Apart.{entry_at};
 ghost use Rattle.fx_run.specs.Changes.{IsNewPass, IsSplitFor, HasOneMore, AreSplitFor, AddsEvent};
 
 /// What the words and the queues know of a fiber agrees with its deeds before its first step, and each
@@ -69,4 +75,12 @@ pub fn passes_change_so()
         → HasOneMore (queue_event.Put v.own.id n) v.own w.own }
     ensures got { (v w : PassView) (x : Item) → DidGet v x w
         → HasOneMore (queue_event.Got v.own.id x.value) v.own w.own }
+{}
+
+/// A port on threads that agrees with the deeds of its fiber agrees with them as these laws ask. At a
+/// queue that there is not its fiber did nothing.
+pub fn thread_port_agrees()
+    ensures { (words : WordsId) (queues : List QueueId) (may : ℕ → Bool) (p : PortView)
+        → IsOfRun words queues may p → (ds : List Deed) → ThreadAgrees p ds
+        → PortAgrees p.words.own.id p.words.own (is_marked p.noted) (λ q. entry_at q p) ds }
 {}

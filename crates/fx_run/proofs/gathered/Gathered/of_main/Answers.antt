@@ -1,0 +1,26 @@
+use Rattle.std.proofs.Common.{◌∙◌, ◌++◌, ◌∷◌, [], sym, ap}
+use Rattle.fx_fiber.specs.Bare.{BareView}
+use Rattle.fx_port.specs.Marks.{is_marked}
+use Rattle.fx_port.specs.PortView.{PortView}
+use Rattle.fx_run.proofs.Apart.{apart_of}
+use Rattle.fx_run.proofs.GatheredLaws.{gathered_first}
+use Rattle.fx_run.proofs.gathered.Gathered.of_main.Goals as goal
+
+pub returns-clause-gathered : goal.returns-clause-gathered
+returns-clause-gathered g c =
+    let part = c.part-bare.ensures in
+    let told = c.into_parts-seat.ensures in
+    gathered_first g.N.RunBrand.nodes g.N.RunBrand.words g.N.RunBrand.queues
+    (apart_of g.N.RunBrand.nodes g.N.RunBrand.words g.N.RunBrand.queues g.N.RunBrand.may c.part-bare.result.0 c.part-bare.result.1
+    (ap (λ (b : BareView). b.nodes) part.bare)
+    (ap (λ (b : BareView). b.id) part.bare ∙ ap (λ (p : PortView). p.words.own.id) (sym part.port))
+    told.of_run part.lawful)
+    (record { bares = c.push.new.self; seat = c.into_parts-seat.result.0; passes = c.into_parts-seat.result.1; noted = c.into_parts-seat.result.2 })
+    (ap (λ (p : PortView). p.words.own.id) part.port ∙ c.requires.main)
+    (c.in_ok-push.ensures.items ∙ ap (λ l. l ++ c.part-bare.result.0 ∷ []) c.new-bares.ensures.items)
+    told.seat.0 told.seat.1 told.passes.0 told.noted
+
+pub returns-clause-allowed : goal.returns-clause-allowed
+returns-clause-allowed g c =
+    let told = c.into_parts-seat.ensures in
+    λ f m. told.of_run.allowed f (sym (ap (λ l. is_marked l f) told.noted) ∙ m)

@@ -1,0 +1,76 @@
+//! The end of a run on threads.
+ghost use Rattle.std.specs.Prelude.{◌≡◌, ◌↔◌, ◌<◌, ℕ, Bool, true, Contains, IfOk, map};
+ghost use Rattle.std.specs.List.Sorted.{IsStrictlyIncreasing};
+ghost use Rattle.fx_term.specs.Script.{total};
+ghost use Rattle.fx_model.specs.LawfulReport.{IsLawfulReport};
+ghost use Rattle.fx_model.specs.Headline.{KeepsWhatIsPromised};
+ghost use Rattle.fx_text.specs.View.{meaning};
+ghost use Rattle.fx_report.specs.Script.{script_of};
+ghost use Rattle.fx_queue.specs.Queues.{QueueId};
+ghost use Rattle.fx_port.specs.Marks.{is_marked};
+ghost use Rattle.fx_run.specs.Reported.{AreAscending};
+ghost use Rattle.fx_run.specs.Gathered.{IsGathered, AreAllowed};
+ghost use Rattle.fx_run.specs.EndOfRun.{EndsWithReport};
+
+use crate::gathered::Gathered;
+use crate::lost::test_for_lost;
+use crate::run_fault::RunFault;
+use crate::whole_report::report;
+use fx_fiber::Report;
+use fx_port::{Marks, close_queues};
+use fx_queue::FiberQueue;
+use fx_term::Memory;
+use fx_text::Script;
+use fx_word::Words;
+use std::alloc::Global;
+use std::sync::Wait;
+
+/// The numbers below the bound that are marked, ascending.
+fn marked(alloc: Global, bound: u32, marks: &Marks) -> Result<Vec<u32>, Memory>
+    ensures ascending { IfOk result (λ numbers. IsStrictlyIncreasing numbers.items) }
+    ensures marked { IfOk result (λ numbers. (f : ℕ) → Contains numbers.items f
+        ↔ ((f < bound) × (is_marked marks.now f ≡ true))) }
+{
+    let mut numbers = Vec::new(alloc);
+    for id in 0..bound {
+        if marks.is_marked(id) {
+            numbers.push(id)?;
+        }
+    }
+    Ok(numbers)
+}
+
+/// Gives up the words and the queues of a run, by what its fibers left, and answers its report.
+pub(crate) fn close_run<R: Wait>(
+    rt: &R,
+    alloc: Global,
+    script: &Script,
+    words: Words,
+    queues: Vec<FiberQueue>,
+    gathered: Gathered,
+    late: u64,
+) -> Result<Report, RunFault>
+    requires gathered { IsGathered script.now.code.nodes words queues.items gathered }
+    requires ascending { AreAscending gathered.bares.items }
+    requires fibers { words.fibers ≡ total (script_of (meaning script.now)) }
+    requires capacities { map (λ (i : QueueId). i.cap) queues.items
+        ≡ (script_of (meaning script.now)).capacities }
+    ensures ends { (may : ℕ → Bool) → AreAllowed may gathered.noted
+        → IfOk result (λ r. EndsWithReport (script_of (meaning script.now)) may r) }
+    ensures lawful { (may : ℕ → Bool) → AreAllowed may gathered.noted
+        → IfOk result (λ r. IsLawfulReport (script_of (meaning script.now)) may r) }
+    ensures promised { (may : ℕ → Bool) → AreAllowed may gathered.noted
+        → IfOk result (λ r. KeepsWhatIsPromised (script_of (meaning script.now)) may r) }
+{
+    let Gathered {
+        bares,
+        seat,
+        passes,
+        noted,
+    } = gathered;
+    test_for_lost(alloc, script, &bares)?;
+    let outside = marked(alloc, words.fibers(), &noted)?;
+    words.close(seat);
+    let left = close_queues(rt, alloc, queues, passes)?;
+    report(alloc, script, bares, left, outside, late)
+}

@@ -1,0 +1,115 @@
+//! Gathers what the fibers of a run left.
+ghost use Rattle.std.specs.Prelude.{◌≡◌, ◌++◌, ◌∷◌, [], map, IfOk, IfErr, OnOk};
+ghost use Rattle.std.specs.List.Sorted.{IsStrictlyIncreasing};
+ghost use Rattle.fx_fiber.specs.Fiber.{FiberView};
+ghost use Rattle.fx_port.specs.PortView.{PortView};
+ghost use Rattle.fx_run.specs.Apart.{without_port};
+ghost use Rattle.fx_run.specs.Reported.{AreAscending};
+ghost use Rattle.fx_run.specs.RunFault.{IsLostFault};
+ghost use Rattle.fx_run.specs.Gathered.{IsGathered, AreAllowed};
+
+use crate::run_fault::RunFault;
+use fx_fiber::{Bare, Fiber};
+use fx_port::{Marks, Passes, RunBrand, ThreadPort, gather};
+use fx_queue::FiberQueue;
+use fx_term::{Code, Memory};
+use fx_word::{WordSeat, Words};
+use std::alloc::Global;
+use std::sync::Wait;
+
+/// What the fibers of a run left: themselves, ascending, and what their ports had, taken in by the main
+/// fiber's seat and passes, with a mark for each number that was requested from outside.
+#[derive(Drop)]
+pub(crate) struct Gathered {
+    pub bares: Vec<Bare>,
+    pub seat: WordSeat,
+    pub passes: Passes,
+    pub noted: Marks,
+}
+
+impl Gathered {
+    /// What the main fiber left.
+    fn of_main<'a, R: Wait, N: RunBrand>(
+        alloc: Global,
+        code: &Code,
+        main: Fiber<ThreadPort<'a, R, N>>,
+    ) -> Result<Gathered, Memory>
+        requires code { code.now.nodes ≡ N.nodes }
+        requires main { main.port.words.own.id ≡ 0 }
+        ensures gathered { IfOk result (λ g. IsGathered N.nodes N.words N.queues g) }
+        ensures bares { IfOk result (λ g. g.bares.items ≡ without_port N.nodes main.entry ∷ []) }
+        ensures allowed { IfOk result (λ g. AreAllowed N.may g.noted) }
+    {
+        let mut bares = Vec::new(alloc);
+        let (bare, port) = main.part(code);
+        let (seat, passes, noted) = port.into_parts();
+        bares.push(bare)?;
+        Ok(Gathered {
+            bares,
+            seat,
+            passes,
+            noted,
+        })
+    }
+
+    /// Takes in what one more fiber left.
+    fn take_in<'a, R: Wait, N: RunBrand>(
+        &mut self,
+        words: &Words,
+        queues: &[FiberQueue],
+        code: &Code,
+        fiber: Fiber<ThreadPort<'a, R, N>>,
+    ) -> Result<(), Memory>
+        requires words { words.now ≡ N.words }
+        requires queues { queues.now ≡ N.queues }
+        requires code { code.now.nodes ≡ N.nodes }
+        requires gathered { IsGathered N.nodes N.words N.queues self.old }
+        requires allowed { AreAllowed N.may self.old.noted }
+        ensures gathered { OnOk result (IsGathered N.nodes N.words N.queues self.new) }
+        ensures bares { OnOk result
+            (self.new.bares.items ≡ self.old.bares.items ++ without_port N.nodes fiber.entry ∷ []) }
+        ensures allowed { OnOk result (AreAllowed N.may self.new.noted) }
+    {
+        let (bare, port) = fiber.part(code);
+        let noted = gather(words, queues, &mut self.seat, &mut self.passes, port);
+        self.noted.join(&noted);
+        self.bares.push(bare)?;
+        Ok(())
+    }
+}
+
+/// Parts the fibers from their ports, and gathers what they left. They rise by number, and the first one
+/// must be the main fiber; where it is not, that one is lost.
+pub(crate) fn gather_all<'a, R: Wait, N: RunBrand>(
+    alloc: Global,
+    words: &Words,
+    queues: &[FiberQueue],
+    code: &Code,
+    fibers: Vec<Fiber<ThreadPort<'a, R, N>>>,
+) -> Result<Gathered, RunFault>
+    requires words { words.now ≡ N.words }
+    requires queues { queues.now ≡ N.queues }
+    requires code { code.now.nodes ≡ N.nodes }
+    requires ascending { IsStrictlyIncreasing
+        (map (λ (f : FiberView PortView). f.port.words.own.id) fibers.items) }
+    ensures gathered { IfOk result (λ g. IsGathered N.nodes N.words N.queues g) }
+    ensures bares { IfOk result
+        (λ g. g.bares.items ≡ map (without_port N.nodes) fibers.entry.items) }
+    ensures ascending { IfOk result (λ g. AreAscending g.bares.items) }
+    ensures allowed { IfOk result (λ g. AreAllowed N.may g.noted) }
+    ensures fault { IfErr result
+        (λ fault. IsLostFault (map (without_port N.nodes) fibers.entry.items) fault) }
+{
+    let mut fibers = fibers.into_iter();
+    let Some(main) = fibers.next() else {
+        return Err(RunFault::Lost(0));
+    };
+    if main.id() != 0 {
+        return Err(RunFault::Lost(0));
+    }
+    let mut gathered = Gathered::of_main(alloc, code, main)?;
+    for fiber in fibers {
+        gathered.take_in(words, queues, code, fiber)?;
+    }
+    Ok(gathered)
+}
