@@ -36,11 +36,15 @@
 //! and by how many elements are left. Else the report is that of what was given.
 #![tactic(auto)]
 
+mod flows;
 pub mod laws;
 mod ledger;
 mod lost;
+mod rounds;
 mod run;
 mod run_fault;
+mod sweep;
+mod told;
 mod whole_report;
 
 pub use lost::test_for_lost;
