@@ -37,11 +37,15 @@
 #![tactic(auto)]
 
 mod closing;
+mod flows;
 mod gathered;
 pub mod laws;
 mod ledger;
 mod lost;
+mod rounds;
 mod run_fault;
+mod sweep;
+mod told;
 mod waits;
 mod whole_report;
 mod whole_run;

@@ -1,20 +1,35 @@
 //! Runs a script's fibers on threads.
-ghost use Rattle.std.specs.Prelude.{◌≡◌, ◌<◌, ◌≤◌, ◌↔◌, ◌⊎◌, Err, All, IfOk, length};
+ghost use Rattle.std.specs.Prelude.{◌≡◌, ◌≢◌, ◌<◌, ◌≤◌, ◌↔◌, ◌⊎◌, ℕ, true, Err, All, IfOk, IfErr, length, map};
+ghost use Rattle.fx_term.specs.Script.{total};
 ghost use Rattle.fx_model.specs.LawfulReport.{IsLawfulReport};
 ghost use Rattle.fx_model.specs.Headline.{KeepsWhatIsPromised};
 ghost use Rattle.fx_text.specs.View.{meaning};
 ghost use Rattle.fx_report.specs.Script.{script_of};
 ghost use Rattle.fx_report.specs.Text.{queue_names, IsWritable};
 ghost use Rattle.fx_report.specs.Waits.{WaitsAtQueueBelow};
+ghost use Rattle.fx_word.specs.SeatView.{first_view};
+ghost use Rattle.fx_word.specs.Words.{IsOf};
+ghost use Rattle.fx_port.specs.Rows.{AreFirst};
+ghost use Rattle.fx_run.specs.Reported.{AreAscending};
+ghost use Rattle.fx_run.specs.Gathered.{IsGathered, AreAllowed};
 ghost use Rattle.fx_run.specs.RunWaits.{IsLawfulWithWaits};
 ghost use Rattle.fx_run.specs.declared.run_fault.RunFault.TheVariants.{Workers};
 
+use crate::closing::close_run;
+use crate::gathered::{Gathered, gather_all};
+use crate::rounds::run_rounds;
 use crate::run_fault::RunFault;
-use fx_fiber::Report;
+use crate::whole_report::capacities;
+use fx_fiber::{Fiber, Report};
+use fx_port::{Notes, Passes, RunBrand, Sources, ThreadPort, open_queues};
+use fx_queue::FiberQueue;
 use fx_report::Wait as Blocked;
 use fx_sched::Gate;
+use fx_term::Memory;
 use fx_text::Script;
+use fx_word::{WordSeat, Words};
 use std::alloc::{AllocGlobal, Global};
+use std::marker::Brand;
 use std::random::RandomSource;
 use std::sync::Wait;
 use std::thread::Threads;
@@ -30,31 +45,116 @@ pub struct Halt {
     pub waits: Vec<Blocked>,
 }
 
-/// The report of a run of the script's fibers by so many workers, each on a thread of its own, as
-/// [`run`] gives it, and what its blocked fibers wait for. The writers take both where the code names no
-/// queue that is not declared.
-pub fn run_to_halt<R: Wait + Threads + Sync + RandomSource + AllocGlobal, G: Gate + Sync>(
-    _rt: &R,
-    _alloc: Global,
-    _script: &Script,
+/// What the fibers of a run left, and how many waiting ones only a sweep put back.
+#[derive(Drop)]
+struct Ran {
+    gathered: Gathered,
+    late: u64,
+}
+
+/// What so many workers share with the fibers that they run: nobody is to be woken.
+fn notes<N: RunBrand>(alloc: Global, fibers: u32, workers: u32) -> Result<Vec<Notes<N>>, Memory>
+    requires { fibers ≡ N.words.fibers }
+{
+    let mut shared = Vec::new(alloc);
+    for _ in 0..workers {
+        shared.push(Notes::new(alloc, fibers)?)?;
+    }
+    Ok(shared)
+}
+
+/// Runs the script's fibers over these words and queues, until none can step, and gathers what they left.
+fn run_over<
+    N: RunBrand + Send + Sync,
+    R: Wait + Threads + Sync + RandomSource + AllocGlobal,
+    G: Gate + Sync,
+>(
+    rt: &R,
+    alloc: Global,
+    script: &Script,
     workers: u32,
-    _gate: &G,
+    gate: &G,
+    words: &Words,
+    queues: &[FiberQueue],
+    seat: WordSeat,
+    passes: Passes,
+) -> Result<Ran, RunFault>
+    requires code { script.now.code.nodes ≡ N.nodes }
+    requires words { (words.now ≡ N.words)
+        × (N.words.fibers ≡ total (script_of (meaning script.now))) }
+    requires queues { queues.now ≡ N.queues }
+    requires seat { IsOf seat N.words × (seat.view ≡ first_view N.words.fibers) }
+    requires passes { AreFirst N.words.fibers N.queues passes }
+    requires gate { (id : ℕ) → G.may gate.now id ≡ true → N.may id ≡ true }
+    ensures gathered { IfOk result (λ ran. IsGathered N.nodes N.words N.queues ran.gathered) }
+    ensures ascending { IfOk result (λ ran. AreAscending ran.gathered.bares.items) }
+    ensures allowed { IfOk result (λ ran. AreAllowed N.may ran.gathered.noted) }
+    ensures fault { IfErr result (λ fault. fault ≢ Workers) }
+{
+    let fibers = words.fibers();
+    let sources = Sources::new(alloc, fibers)?;
+    let port: ThreadPort<R, N> = ThreadPort::new(rt, alloc, words, queues, &sources, seat, passes)?;
+    let main = Fiber::new(alloc, &script.code, port)?;
+    let shared = notes(alloc, fibers, workers)?;
+    let ran = run_rounds(rt, alloc, script, main, shared, gate)?;
+    let gathered = gather_all(alloc, words, queues, &script.code, ran.fibers)?;
+    Ok(Ran {
+        gathered,
+        late: ran.late,
+    })
+}
+
+/// Runs the script's fibers by so many workers, over words and queues of their own.
+fn run_by<R: Wait + Threads + Sync + RandomSource + AllocGlobal, G: Gate + Sync>(
+    rt: &R,
+    alloc: Global,
+    script: &Script,
+    workers: u32,
+    gate: &G,
 ) -> Result<Halt, RunFault>
-    ensures halted { IfOk result (λ halt. IsLawfulWithWaits (script_of (meaning _script.now))
-        (G.may _gate.now) halt.report halt.waits.items) }
-    ensures promised { IfOk result (λ halt. KeepsWhatIsPromised (script_of (meaning _script.now))
-        (G.may _gate.now) halt.report) }
-    ensures writable { _script.now.code.queues ≤ length _script.now.queues.items
-        → IfOk result (λ halt. IsWritable (queue_names (meaning _script.now)) halt.report) }
-    ensures named { _script.now.code.queues ≤ length _script.now.queues.items
-        → IfOk result (λ halt. All (WaitsAtQueueBelow (length (queue_names (meaning _script.now))))
+    ensures halted { IfOk result (λ halt. IsLawfulWithWaits (script_of (meaning script.now))
+        (G.may gate.now) halt.report halt.waits.items) }
+    ensures promised { IfOk result (λ halt. KeepsWhatIsPromised (script_of (meaning script.now))
+        (G.may gate.now) halt.report) }
+    ensures named { script.now.code.queues ≤ length script.now.queues.items
+        → IfOk result (λ halt. All (WaitsAtQueueBelow (length (queue_names (meaning script.now))))
+        halt.waits.items) }
+    ensures fault { IfErr result (λ fault. fault ≢ Workers) }
+{
+    let total = script.total();
+    let capacities = capacities(alloc, &script.queues)?;
+    let (words, seat) = Words::new(alloc, total)?;
+    let (queues, passes) = open_queues(alloc, &capacities, total)?;
+    let ran = run_over::<Brand, R, G>(
+        rt, alloc, script, workers, gate, &words, &queues, seat, passes,
+    )?;
+    close_run(rt, alloc, script, words, queues, ran.gathered, ran.late)
+}
+
+/// The report of a run of the script's fibers by so many workers, as [`run`] gives it, and what its
+/// blocked fibers wait for. The writers take both where the code names no queue that is not declared.
+pub fn run_to_halt<R: Wait + Threads + Sync + RandomSource + AllocGlobal, G: Gate + Sync>(
+    rt: &R,
+    alloc: Global,
+    script: &Script,
+    workers: u32,
+    gate: &G,
+) -> Result<Halt, RunFault>
+    ensures halted { IfOk result (λ halt. IsLawfulWithWaits (script_of (meaning script.now))
+        (G.may gate.now) halt.report halt.waits.items) }
+    ensures promised { IfOk result (λ halt. KeepsWhatIsPromised (script_of (meaning script.now))
+        (G.may gate.now) halt.report) }
+    ensures writable { script.now.code.queues ≤ length script.now.queues.items
+        → IfOk result (λ halt. IsWritable (queue_names (meaning script.now)) halt.report) }
+    ensures named { script.now.code.queues ≤ length script.now.queues.items
+        → IfOk result (λ halt. All (WaitsAtQueueBelow (length (queue_names (meaning script.now))))
         halt.waits.items) }
     ensures workers { ((workers < 1) ⊎ (MOST_WORKERS < workers)) ↔ (result ≡ Err Workers) }
 {
     if workers < 1 || MOST_WORKERS < workers {
         return Err(RunFault::Workers);
     }
-    Err(RunFault::Memory)
+    run_by(rt, alloc, script, workers, gate)
 }
 
 /// The report of a run of the script's fibers by so many workers, each on a thread of its own, with what
