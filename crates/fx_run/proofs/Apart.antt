@@ -1,5 +1,5 @@
 -- A fiber that was parted from its port on threads is what the laws of reports ask for.
-use Rattle.std.proofs.Common.{◌≡◌, ℕ, Bool, true, Option, Some, None, List, [], ◌∷◌, map, slice_get, refl, sym, ◌∙◌, ap, subst, inl, inr, ⊎_elim}
+use Rattle.std.proofs.Common.{◌≡◌, ℕ, Bool, true, Option, Some, None, List, slice_get, refl, sym, ◌∙◌, ap, subst, inl, inr, ⊎_elim}
 use Rattle.std.proofs.lemmas.Option.{same_Some, none-some}
 use Rattle.fx_term.specs.Lists.{Among}
 use Rattle.fx_term.specs.declared.node.Node.{Node}
@@ -7,7 +7,7 @@ use Rattle.fx_term.specs.declared.begin.Begin.{Begin}
 use Rattle.fx_term.specs.declared.event.Event.{Event}
 use Rattle.fx_model.specs.Row.{Counts}
 use Rattle.fx_model.specs.Step.{Progress}
-use Rattle.fx_fiber.specs.Deed.{Deed, Started, queue_deeds}
+use Rattle.fx_fiber.specs.Deed.{Deed, Started}
 use Rattle.fx_fiber.specs.Bare.{BareView, reached}
 use Rattle.fx_fiber.specs.Fiber.{IsLawful}
 use Rattle.fx_word.specs.Words.{WordsId}
@@ -17,7 +17,7 @@ use Rattle.fx_port.specs.PassesAgree.{started_by, starts, acts_by, PassesAgree}
 use Rattle.fx_port.specs.PortView.{PortView, IsOfRun, beginning_in}
 use Rattle.fx_port.specs.ThreadCalls.{ThreadAgrees}
 use Rattle.fx_port.proofs.RunLaws.{numbers_are}
-use Rattle.fx_run.specs.Agreement.{WordsAgree, QueueAgrees, PortAgrees}
+use Rattle.fx_run.specs.Agreement.{QueueAgrees, PortAgrees}
 use Rattle.fx_run.specs.Apart.{Apart, entry_by, entry_at}
 use Rattle.fx_run.specs.Parted.{Parted}
 use Rattle.fx_run.proofs.Members.{source}

@@ -1,5 +1,5 @@
 -- What the fibers of a run left is gathered one fiber after the other.
-use Rattle.std.proofs.Common.{◌≡◌, ◌↔◌, ℕ, ◌<◌, Bool, true, Option, Some, None, List, [], ◌∷◌, ◌++◌, ◌⊎◌, length, map, slice_get, zero, suc}
+use Rattle.std.proofs.Common.{◌≡◌, ◌↔◌, ℕ, ◌<◌, Bool, true, Option, Some, None, List, [], ◌∷◌, ◌++◌, length, map, slice_get, zero, suc}
 use Rattle.std.proofs.Common.{refl, sym, ◌∙◌, ap, subst, inl, inr, ⊎_elim, arith}
 use Rattle.std.specs.Prelude.{◌==◌}
 use Rattle.std.specs.List.Sorted.{IsStrictlyIncreasing}
@@ -192,7 +192,7 @@ first_is_lost nodes f fs rises other = ((by_find (bare_at (map (without_port nod
         elim found.1 [
           | inl e ↦ absurd (other (sym (ap (λ (x : BareView). x.id) e) ∙ zero))
           | inr i ↦ (let lt = later_is_above (without_port nodes f) y (map (without_port nodes) fs) (rise_without_ports nodes (f ∷ fs) rises) i in
-            absurd (omega (arith, lt, zero)))
+              absurd (omega (arith, lt, zero)))
         ]
 
 pub main_is_lost : (nodes : List Node) (all : List (FiberView PortView)) (f : FiberView PortView) (fs : List (FiberView PortView)) → all ≡ f ∷ fs

@@ -8,6 +8,9 @@ pub mod GivenFibers
 pub mod Gathering
 pub mod GatheredLaws
 pub mod WholeEntries
+pub mod MarkedNumbers
+pub mod EndLaws
+pub mod CloseFaults
 pub mod Starters
 pub mod Lawful
 pub mod RunWaits

@@ -1,5 +1,5 @@
 -- A fiber on threads whose run is over, and the port that it was parted from.
-use Rattle.std.specs.Prelude.{◌≡◌, ℕ, Bool, true, Option, Some, None, List, [], map, slice_get}
+use Rattle.std.specs.Prelude.{◌≡◌, ℕ, true, Option, Some, None, List, [], slice_get}
 use Rattle.fx_term.specs.declared.node.Node.{Node}
 use Rattle.fx_fiber.specs.Fiber.{FiberView, IsLawful}
 use Rattle.fx_fiber.specs.Bare.{BareView, bare_of, reached}

@@ -1,5 +1,5 @@
 //! The end of a run on threads.
-ghost use Rattle.std.specs.Prelude.{◌≡◌, ◌↔◌, ◌<◌, ℕ, Bool, true, Contains, IfOk, map};
+ghost use Rattle.std.specs.Prelude.{◌≡◌, ℕ, Bool, IfOk, IfErr, map};
 ghost use Rattle.std.specs.List.Sorted.{IsStrictlyIncreasing};
 ghost use Rattle.fx_term.specs.Script.{total};
 ghost use Rattle.fx_model.specs.LawfulReport.{IsLawfulReport};
@@ -7,16 +7,16 @@ ghost use Rattle.fx_model.specs.Headline.{KeepsWhatIsPromised};
 ghost use Rattle.fx_text.specs.View.{meaning};
 ghost use Rattle.fx_report.specs.Script.{script_of};
 ghost use Rattle.fx_queue.specs.Queues.{QueueId};
-ghost use Rattle.fx_port.specs.Marks.{is_marked};
 ghost use Rattle.fx_run.specs.Reported.{AreAscending};
 ghost use Rattle.fx_run.specs.Gathered.{IsGathered, AreAllowed};
 ghost use Rattle.fx_run.specs.EndOfRun.{EndsWithReport};
+ghost use Rattle.fx_run.specs.Closing.{AreMarked, IsCloseFault};
 
 use crate::gathered::Gathered;
 use crate::lost::test_for_lost;
 use crate::run_fault::RunFault;
 use crate::whole_report::report;
-use fx_fiber::Report;
+use fx_fiber::{Report, main_begin};
 use fx_port::{Marks, close_queues};
 use fx_queue::FiberQueue;
 use fx_term::Memory;
@@ -28,8 +28,7 @@ use std::sync::Wait;
 /// The numbers below the bound that are marked, ascending.
 fn marked(alloc: Global, bound: u32, marks: &Marks) -> Result<Vec<u32>, Memory>
     ensures ascending { IfOk result (λ numbers. IsStrictlyIncreasing numbers.items) }
-    ensures marked { IfOk result (λ numbers. (f : ℕ) → Contains numbers.items f
-        ↔ ((f < bound) × (is_marked marks.now f ≡ true))) }
+    ensures marked { IfOk result (λ numbers. AreMarked bound marks.now numbers.items) }
 {
     let mut numbers = Vec::new(alloc);
     for id in 0..bound {
@@ -61,6 +60,8 @@ pub(crate) fn close_run<R: Wait>(
         → IfOk result (λ r. IsLawfulReport (script_of (meaning script.now)) may r) }
     ensures promised { (may : ℕ → Bool) → AreAllowed may gathered.noted
         → IfOk result (λ r. KeepsWhatIsPromised (script_of (meaning script.now)) may r) }
+    ensures fault { IfErr result
+        (λ fault. IsCloseFault (script_of (meaning script.now)) gathered late fault) }
 {
     let Gathered {
         bares,
@@ -68,8 +69,9 @@ pub(crate) fn close_run<R: Wait>(
         passes,
         noted,
     } = gathered;
+    let numbers = main_begin(alloc, &script.code).end;
     test_for_lost(alloc, script, &bares)?;
-    let outside = marked(alloc, words.fibers(), &noted)?;
+    let outside = marked(alloc, numbers, &noted)?;
     words.close(seat);
     let left = close_queues(rt, alloc, queues, passes)?;
     report(alloc, script, bares, left, outside, late)
