@@ -10,6 +10,7 @@ pub mod GatheredLaws
 pub mod WholeEntries
 pub mod MarkedNumbers
 pub mod EndLaws
+pub mod Declared
 pub mod CloseFaults
 pub mod Starters
 pub mod Lawful

@@ -1,22 +1,25 @@
 //! The end of a run on threads.
-ghost use Rattle.std.specs.Prelude.{◌≡◌, ℕ, Bool, IfOk, IfErr, map};
+ghost use Rattle.std.specs.Prelude.{◌≡◌, ◌≤◌, ℕ, Bool, All, IfOk, IfErr, length, map};
 ghost use Rattle.std.specs.List.Sorted.{IsStrictlyIncreasing};
 ghost use Rattle.fx_term.specs.Script.{total};
-ghost use Rattle.fx_model.specs.LawfulReport.{IsLawfulReport};
 ghost use Rattle.fx_model.specs.Headline.{KeepsWhatIsPromised};
 ghost use Rattle.fx_text.specs.View.{meaning};
 ghost use Rattle.fx_report.specs.Script.{script_of};
 ghost use Rattle.fx_queue.specs.Queues.{QueueId};
 ghost use Rattle.fx_run.specs.Reported.{AreAscending};
 ghost use Rattle.fx_run.specs.Gathered.{IsGathered, AreAllowed};
-ghost use Rattle.fx_run.specs.EndOfRun.{EndsWithReport};
+ghost use Rattle.fx_report.specs.Text.{queue_names, IsWritable};
+ghost use Rattle.fx_report.specs.Waits.{WaitsAtQueueBelow};
+ghost use Rattle.fx_run.specs.RunWaits.{IsLawfulWithWaits};
 ghost use Rattle.fx_run.specs.Closing.{AreMarked, IsCloseFault};
 
 use crate::gathered::Gathered;
+use crate::halt::Halt;
 use crate::lost::test_for_lost;
 use crate::run_fault::RunFault;
+use crate::waits::waits_of;
 use crate::whole_report::report;
-use fx_fiber::{Report, main_begin};
+use fx_fiber::main_begin;
 use fx_port::{Marks, close_queues};
 use fx_queue::FiberQueue;
 use fx_term::Memory;
@@ -48,18 +51,23 @@ pub(crate) fn close_run<R: Wait>(
     queues: Vec<FiberQueue>,
     gathered: Gathered,
     late: u64,
-) -> Result<Report, RunFault>
+) -> Result<Halt, RunFault>
     requires gathered { IsGathered script.now.code.nodes words queues.items gathered }
     requires ascending { AreAscending gathered.bares.items }
     requires fibers { words.fibers ≡ total (script_of (meaning script.now)) }
     requires capacities { map (λ (i : QueueId). i.cap) queues.items
         ≡ (script_of (meaning script.now)).capacities }
-    ensures ends { (may : ℕ → Bool) → AreAllowed may gathered.noted
-        → IfOk result (λ r. EndsWithReport (script_of (meaning script.now)) may r) }
-    ensures lawful { (may : ℕ → Bool) → AreAllowed may gathered.noted
-        → IfOk result (λ r. IsLawfulReport (script_of (meaning script.now)) may r) }
+    ensures halted { (may : ℕ → Bool) → AreAllowed may gathered.noted
+        → IfOk result (λ halt. IsLawfulWithWaits (script_of (meaning script.now)) may
+        halt.report halt.waits.items) }
     ensures promised { (may : ℕ → Bool) → AreAllowed may gathered.noted
-        → IfOk result (λ r. KeepsWhatIsPromised (script_of (meaning script.now)) may r) }
+        → IfOk result (λ halt. KeepsWhatIsPromised (script_of (meaning script.now)) may
+        halt.report) }
+    ensures writable { script.now.code.queues ≤ length script.now.queues.items
+        → IfOk result (λ halt. IsWritable (queue_names (meaning script.now)) halt.report) }
+    ensures named { script.now.code.queues ≤ length script.now.queues.items
+        → IfOk result (λ halt. All (WaitsAtQueueBelow (length (queue_names (meaning script.now))))
+        halt.waits.items) }
     ensures fault { IfErr result
         (λ fault. IsCloseFault (script_of (meaning script.now)) gathered late fault) }
 {
@@ -74,5 +82,7 @@ pub(crate) fn close_run<R: Wait>(
     let outside = marked(alloc, numbers, &noted)?;
     words.close(seat);
     let left = close_queues(rt, alloc, queues, passes)?;
-    report(alloc, script, bares, left, outside, late)
+    let waits = waits_of(alloc, &script.code, &bares)?;
+    let report = report(alloc, script, bares, left, outside, late)?;
+    Ok(Halt { report, waits })
 }

@@ -39,6 +39,7 @@
 mod closing;
 mod flows;
 mod gathered;
+mod halt;
 pub mod laws;
 mod ledger;
 mod lost;
@@ -50,7 +51,8 @@ mod waits;
 mod whole_report;
 mod whole_run;
 
+pub use halt::Halt;
 pub use lost::test_for_lost;
 pub use run_fault::RunFault;
 pub use whole_report::report;
-pub use whole_run::{Halt, MOST_WORKERS, run, run_to_halt};
+pub use whole_run::{MOST_WORKERS, run, run_to_halt};

@@ -17,13 +17,13 @@ ghost use Rattle.fx_run.specs.declared.run_fault.RunFault.TheVariants.{Workers};
 
 use crate::closing::close_run;
 use crate::gathered::{Gathered, gather_all};
+use crate::halt::Halt;
 use crate::rounds::run_rounds;
 use crate::run_fault::RunFault;
 use crate::whole_report::capacities;
 use fx_fiber::{Fiber, Report};
 use fx_port::{Notes, Passes, RunBrand, Sources, ThreadPort, open_queues};
 use fx_queue::FiberQueue;
-use fx_report::Wait as Blocked;
 use fx_sched::Gate;
 use fx_term::Memory;
 use fx_text::Script;
@@ -36,14 +36,6 @@ use std::thread::Threads;
 
 /// The most workers that a run can have.
 pub const MOST_WORKERS: u32 = 16;
-
-/// What there is once no fiber of a run can step any more: the report, and what each fiber waits for that
-/// is blocked, in the report's order.
-#[derive(Drop)]
-pub struct Halt {
-    pub report: Report,
-    pub waits: Vec<Blocked>,
-}
 
 /// What the fibers of a run left, and how many waiting ones only a sweep put back.
 #[derive(Drop)]
@@ -116,6 +108,8 @@ fn run_by<R: Wait + Threads + Sync + RandomSource + AllocGlobal, G: Gate + Sync>
         (G.may gate.now) halt.report halt.waits.items) }
     ensures promised { IfOk result (λ halt. KeepsWhatIsPromised (script_of (meaning script.now))
         (G.may gate.now) halt.report) }
+    ensures writable { script.now.code.queues ≤ length script.now.queues.items
+        → IfOk result (λ halt. IsWritable (queue_names (meaning script.now)) halt.report) }
     ensures named { script.now.code.queues ≤ length script.now.queues.items
         → IfOk result (λ halt. All (WaitsAtQueueBelow (length (queue_names (meaning script.now))))
         halt.waits.items) }

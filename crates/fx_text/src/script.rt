@@ -37,11 +37,12 @@ pub struct Script {
 
 impl Script {
     ghost use Rattle.std.specs.Prelude.{◌+◌};
-    ghost use Rattle.fx_term.specs.Need.{need};
+    ghost use Rattle.fx_term.specs.Need.{need, most_need};
 
     /// How many fibers there can be, main included: at most 1,024. Their numbers are below it.
     pub fn total(&self) -> u32
-        ensures { result ≡ 1 + need (meaning self.now).term }
+        ensures is { result ≡ 1 + need (meaning self.now).term }
+        ensures few { result ≤ 1 + most_need }
     {
         1 + self.code.need(self.code.root())
     }

@@ -1,20 +1,22 @@
-use Rattle.std.proofs.Common.{rules, ◌≡◌, Err, ℕ, ◌<◌, All, map, sym, ap, subst, refl}
-use Rattle.std.proofs.lemmas.Result.{IfOk-weaker, IfErr-weaker}
+use Rattle.std.proofs.Common.{rules, ◌≡◌, ◌∙◌, Err, ℕ, ◌<◌, List, All, true, length, map, sym, ap, subst, refl}
+use Rattle.std.proofs.lemmas.List.{length-map}
 use Rattle.fx_term.proofs.CoreTerms.{code_is_core}
 use Rattle.fx_term.specs.declared.begin.Begin.{Begin}
 use Rattle.fx_term.specs.Script.{total}
-use Rattle.fx_model.specs.LawfulReport.{IsLawfulReport}
-use Rattle.fx_model.specs.Headline.{KeepsWhatIsPromised}
+use Rattle.fx_model.proofs.HeadlineLaws.{lawful_report_holds}
+use Rattle.fx_model.proofs.ScopedCode.{code_is_scoped}
 use Rattle.fx_fiber.specs.Bare.{BareView}
 use Rattle.fx_text.specs.View.{meaning}
 use Rattle.fx_report.specs.Script.{script_of}
-use Rattle.fx_run.specs.Reported.{NoneIsLost, report_of, IsReported}
-use Rattle.fx_run.specs.EndOfRun.{EndsWithReport}
+use Rattle.fx_report.specs.Waits.{WaitsAtQueueBelow}
+use Rattle.fx_report.proofs.QueueNames.{names_declared}
+use Rattle.fx_report.proofs.WritableReports.{lawful_is_writable}
+use Rattle.fx_run.specs.Reported.{RanCode, NoneIsLost, report_of}
+use Rattle.fx_run.specs.RunWaits.{all_waits}
 use Rattle.fx_run.specs.RunFault.{IsReportFault}
 use Rattle.fx_run.specs.Closing.{AreMarked, IsCloseFault}
 use Rattle.fx_run.proofs.CloseFaults.{lost_so, reported_so}
-use Rattle.fx_run.proofs.Lawful.{end_is_lawful, end_keeps_promises}
-use Rattle.fx_run.proofs.EndLaws.{all_below, ran_so, seat_whole, passes_whole, ends_so}
+use Rattle.fx_run.proofs.EndLaws.{all_below, ran_so, seat_whole, passes_whole, waits_so, waits_named_so}
 use Rattle.fx_run.proofs.closing.close_run.Goals as goal
 
 pub test_for_lost-requires-clause-below : goal.test_for_lost-requires-clause-below
@@ -41,31 +43,51 @@ report-requires-clause-below g c =
     let n = total (script_of (meaning c.args.script.now)) in
     all_below c.args.script.now.code.nodes c.args.words c.args.queues.items c.args.gathered c.requires.gathered n c.requires.fibers
 
-pub returns-clause-ends : goal.returns-clause-ends
-returns-clause-ends g c may allowed =
+pub waits_of-requires : goal.waits_of-requires
+waits_of-requires g c =
+    subst (RanCode c.args.script.now.code.nodes) (sym c.deref-2.ensures.value)
+    (ran_so c.args.script.now.code.nodes c.args.words c.args.queues.items c.args.gathered c.requires.gathered)
+
+pub returns-clause-halted : goal.returns-clause-halted
+returns-clause-halted g c may allowed =
     let s = script_of (meaning c.args.script.now) in
     let nodes = c.args.script.now.code.nodes in
     let left = map (λ items. items.items) c.in_ok-left.left.items in
     let outside = c.in_ok-outside.outside.items in
     let lost = subst NoneIsLost c.deref.ensures.value c.in_ok-test_for_lost.ensures.whole in
-    let told = subst (λ (n : ℕ). AreMarked n c.args.gathered.noted outside) (ap (λ (b : Begin). b.end) c.main_begin-numbers.ensures.begin) c.in_ok-outside.ensures.marked in
-    IfOk-weaker c.report.result (IsReported s c.args.gathered.bares.items (report_of c.args.gathered.bares.items left outside c.args.late))
-    (EndsWithReport s may)
-    (ends_so nodes c.args.words c.args.queues.items c.args.gathered c.requires.gathered lost c.requires.ascending s refl c.requires.fibers c.requires.capacities
-    left c.in_ok-left.ensures outside c.in_ok-outside.ensures.ascending told may allowed c.close.ensures c.args.late)
-    c.report.ensures.report
-
-pub returns-clause-lawful : goal.returns-clause-lawful
-returns-clause-lawful g c may allowed =
-    let s = script_of (meaning c.args.script.now) in
-    IfOk-weaker c.report.result (EndsWithReport s may) (IsLawfulReport s may) (λ r. end_is_lawful s may r) (returns-clause-ends g c may allowed)
+    let told = subst (λ (n : ℕ). AreMarked n c.args.gathered.noted outside) (ap (λ (b : Begin). b.end) c.main_begin-numbers.ensures.begin)
+    c.in_ok-outside.ensures.marked in
+    waits_so nodes c.args.words c.args.queues.items c.args.gathered c.requires.gathered lost c.requires.ascending s refl c.requires.fibers c.requires.capacities
+    left c.in_ok-left.ensures outside c.in_ok-outside.ensures.ascending told may allowed c.close.ensures c.args.late _ c.in_ok-report.ensures.report
+    (code_is_scoped (λ f. true) nodes c.main_begin-numbers.ensures.code) _ (c.in_ok-waits.ensures ∙ ap all_waits c.deref-2.ensures.value)
 
 pub returns-clause-promised : goal.returns-clause-promised
 returns-clause-promised g c may allowed =
     let s = script_of (meaning c.args.script.now) in
     let core = code_is_core c.args.script.now.code.nodes c.main_begin-numbers.ensures.code in
-    IfOk-weaker c.report.result (EndsWithReport s may) (KeepsWhatIsPromised s may) (λ r h. end_keeps_promises s may r h core)
-    (returns-clause-ends g c may allowed)
+    let lawful = (returns-clause-halted g c may allowed).lawful in
+    record { lawful = lawful; promised = lawful_report_holds s may _ core lawful }
+
+pub returns-clause-writable : goal.returns-clause-writable
+returns-clause-writable g c le =
+    let named = names_declared c.args.script.now c.main_begin-numbers.ensures.code le in
+    lawful_is_writable (meaning c.args.script.now) (λ f. true) _ named (returns-clause-halted g c (λ f. true) (λ f marked. refl)).lawful
+
+pub returns-clause-named : goal.returns-clause-named
+returns-clause-named g c le =
+    let m = meaning c.args.script.now in
+    let s = script_of m in
+    let nodes = c.args.script.now.code.nodes in
+    let left = map (λ items. items.items) c.in_ok-left.left.items in
+    let outside = c.in_ok-outside.outside.items in
+    let lost = subst NoneIsLost c.deref.ensures.value c.in_ok-test_for_lost.ensures.whole in
+    let told = subst (λ (n : ℕ). AreMarked n c.args.gathered.noted outside) (ap (λ (b : Begin). b.end) c.main_begin-numbers.ensures.begin)
+    c.in_ok-outside.ensures.marked in
+    subst (λ (n : ℕ). All (WaitsAtQueueBelow n) c.in_ok-waits.waits.items) (sym (length-map m.queues (λ (q : List ℕ × ℕ). q.0)))
+    (waits_named_so nodes c.args.words c.args.queues.items c.args.gathered c.requires.gathered lost c.requires.ascending s refl c.requires.fibers
+    c.requires.capacities left c.in_ok-left.ensures outside c.in_ok-outside.ensures.ascending told (λ f. true) (λ f marked. refl) c.close.ensures c.args.late _
+    c.in_ok-report.ensures.report (code_is_scoped (λ f. true) nodes c.main_begin-numbers.ensures.code) _ (c.in_ok-waits.ensures ∙ ap all_waits c.deref-2.ensures.value) (length m.queues)
+    (names_declared c.args.script.now c.main_begin-numbers.ensures.code le))
 
 pub returns-in_err-test_for_lost-clause-fault : goal.returns-in_err-test_for_lost-clause-fault
 returns-in_err-test_for_lost-clause-fault g c =
@@ -75,13 +97,13 @@ returns-in_err-test_for_lost-clause-fault g c =
     let same : c.from_residual.result ≡ Err c.in_err-test_for_lost.field-0.0 = search rules in
     rw same told
 
-pub returns-clause-fault : goal.returns-clause-fault
-returns-clause-fault g c =
+pub returns-in_err-report-clause-fault : goal.returns-in_err-report-clause-fault
+returns-in_err-report-clause-fault g c =
     let s = script_of (meaning c.args.script.now) in
-    let bares = c.args.gathered.bares.items in
     let left = map (λ items. items.items) c.in_ok-left.left.items in
     let outside = c.in_ok-outside.outside.items in
     let marked = subst (λ (n : ℕ). AreMarked n c.args.gathered.noted outside) (ap (λ (b : Begin). b.end) c.main_begin-numbers.ensures.begin)
     c.in_ok-outside.ensures.marked in
-    IfErr-weaker c.report.result (IsReportFault s bares (report_of bares left outside c.args.late)) (IsCloseFault s c.args.gathered c.args.late)
-    (reported_so s c.args.gathered c.args.late left outside c.in_ok-left.ensures marked) c.report.ensures.fault
+    let told = reported_so s c.args.gathered c.args.late left outside c.in_ok-left.ensures marked c.in_err-report.field-0.0 c.in_err-report.ensures.fault in
+    let same : c.from_residual-in_err-report.result ≡ Err c.in_err-report.field-0.0 = search rules in
+    rw same told

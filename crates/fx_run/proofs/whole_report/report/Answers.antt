@@ -7,7 +7,7 @@ use Rattle.fx_run.proofs.whole_report.report.Goals as goal
 pub returns-in-Some-clause-fault : goal.returns-in-Some-clause-fault
 returns-in-Some-clause-fault c =
     unsettled_answer (script_of (meaning c.args.script.now)) c.args.bares.items (map (λ items. items.items) c.args.left.items) c.args.outside.items
-    c.args.late c.total.result c.total.ensures c.requires.ascending c.requires.below
+    c.args.late c.total.result c.total.ensures.is c.requires.ascending c.requires.below
     (record {
       caps = c.in_ok-caps.caps;
       rests = c.in_ok-rests.rests;
@@ -22,7 +22,7 @@ returns-in-Some-clause-fault c =
 pub returns-clause-report : goal.returns-clause-report
 returns-clause-report c =
     reported_answer (script_of (meaning c.args.script.now)) c.args.bares.items (map (λ items. items.items) c.args.left.items) c.args.outside.items
-    c.args.late c.total.result c.total.ensures c.requires.ascending c.requires.below
+    c.args.late c.total.result c.total.ensures.is c.requires.ascending c.requires.below
     (record {
       caps = c.in_ok-caps.caps;
       rests = c.in_ok-rests.rests;

@@ -1,0 +1,12 @@
+//! What there is once a run has ended.
+
+use fx_fiber::Report;
+use fx_report::Wait;
+
+/// What there is once no fiber of a run can step any more: the report, and what each fiber waits for that
+/// is blocked, in the report's order.
+#[derive(Drop)]
+pub struct Halt {
+    pub report: Report,
+    pub waits: Vec<Wait>,
+}
