@@ -16,7 +16,6 @@ use Rattle.fx_report.specs.declared.out_fault.OutFault.TheVariants as out
 use Rattle.fx_report.specs.Output.{FailsToWrite, fault_of_writing}
 use Rattle.fx_command.specs.declared.call.Command.{Command}
 use Rattle.fx_command.specs.declared.call.Command.TheVariants.{Replay, Trace, Run}
-use Rattle.fx_command.specs.declared.command_fault.CommandFault.{CommandFault}
 use Rattle.fx_command.specs.declared.command_fault.CommandFault.TheVariants.{Memory, Write}
 use Rattle.fx_command.specs.Workers.{CanBeDone}
 use Rattle.fx_command.specs.Performed.{nobody, IsPerformed, replayed, traced, ran, Performs}

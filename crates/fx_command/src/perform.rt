@@ -114,8 +114,8 @@ fn run<'a, R: Wait + Threads + Sync + RandomSource + AllocGlobal, W: Write>(
     })
 }
 
-/// Does with the script and the picks what is asked, and prints it; the script's code names no queue that
-/// is not declared. The status is 0 where all fibers ended or are only counted, and 1 where one waits for
+/// Does with the script and the picks what is asked, and prints it; a run goes by no picks. The script's
+/// code names no queue that is not declared. The status is 0 where all fibers ended or are only counted, and 1 where one waits for
 /// good: then the words are a line for each fiber that does, and else there are none.
 pub(crate) fn perform<'a, R: Wait + Threads + Sync + RandomSource + AllocGlobal, W: Write>(
     rt: &R,
