@@ -35,26 +35,28 @@ fn woken_twice<P: Port + Drop, R: Wait>(rt: &R, lot: &Lot<P>, fiber: Fiber<P>) -
     lot.wake(rt, id)
 }
 
-/// The fibers that are left in a lot, by number, and whether each has ended: those of the script, of which
-/// the main fiber was woken twice before it ended.
-fn left<P: Port + Drop, R: Wait>(
+/// Lays down the fiber that main starts, and main after it was woken twice, once each has ended.
+fn lay_down<P: Port + Drop, R: Wait>(
     rt: &R,
-    alloc: Global,
+    lot: &Lot<P>,
     mut main: Fiber<P>,
     code: &Code,
     shared: &mut P::Shared,
-    total: u32,
-) -> Result<Vec<(u32, bool)>, Memory>
+) -> Result<(), Memory>
     requires code { code.now.nodes ≡ P.code }
-    requires total { P.total ≤ total }
+    requires total { P.total ≤ lot.now }
 {
-    let lot: Lot<P> = Lot::new(alloc, total)?;
     if let Some(child) = step(&mut main, code, shared)? {
         lot.settle(rt, rested(child, code, shared)?);
     }
-    if let Some(main) = woken_twice(rt, &lot, main) {
+    if let Some(main) = woken_twice(rt, lot, main) {
         lot.settle(rt, rested(main, code, shared)?);
     }
+    Ok(())
+}
+
+/// The fibers that are left in a lot, by number, and whether each has ended.
+fn left<P: Port + Drop>(alloc: Global, lot: Lot<P>) -> Result<Vec<(u32, bool)>, Memory> {
     let mut left = Vec::new(alloc);
     for fiber in lot.empty(alloc)? {
         left.push((fiber.id(), fiber.has_ended()))?;
@@ -73,7 +75,9 @@ fn left_of<J: CodeBrand, R: Wait>(
     let board = Mutex::new(Board::new(alloc, total, Vec::new(alloc))?);
     let mut notes: Notes<J> = Notes::new(alloc, total)?;
     let main = main_fiber::<R, J>(rt, &board, alloc, code)?;
-    left(rt, alloc, main, code, &mut notes, total)
+    let lot = Lot::new(alloc, total)?;
+    lay_down(rt, &lot, main, code, &mut notes)?;
+    left(alloc, lot)
 }
 
 fn left_of_nodes<R: Wait>(

@@ -46,11 +46,10 @@ fn ends_of<
 {
     let total = main_begin(alloc, code).end;
     let board = Mutex::new(Board::new(alloc, total, Vec::from_slice(alloc, &[capacity])?)?);
-    let mut notes: Notes<J> = Notes::new(alloc, total)?;
+    let notes: Notes<J> = Notes::new(alloc, total)?;
     let main = main_fiber::<R, J>(rt, &board, alloc, code)?;
-    let (able, resting) = begun(alloc, main, starts, code, &mut notes)?;
     let shared = notes_of_four(alloc, total)?;
-    ends_from(rt, alloc, total, able, resting, shared, code, gate)
+    ends_from(rt, alloc, total, main, starts, notes, shared, code, gate)
 }
 
 fn notes_of_four<J: CodeBrand>(alloc: Global, total: u32) -> Result<Vec<Notes<J>>, Memory>
@@ -92,8 +91,9 @@ fn ends_from<
     rt: &R,
     alloc: Global,
     total: u32,
-    able: Vec<Fiber<P>>,
-    resting: Vec<Fiber<P>>,
+    main: Fiber<P>,
+    starts: u32,
+    mut before: P::Shared,
     shared: Vec<P::Shared>,
     code: &Code,
     gate: &G,
@@ -102,9 +102,14 @@ fn ends_from<
     requires total { P.total ≤ total }
     requires gate { (id : ℕ) → G.may gate.now id ≡ true → P.may id ≡ true }
 {
+    let (able, resting) = begun(alloc, main, starts, code, &mut before)?;
     let end = round(rt, alloc, total, able, resting, shared, code, gate)?;
+    last_events(alloc, end.fibers)
+}
+
+fn last_events<P: Port + Drop>(alloc: Global, fibers: Vec<Fiber<P>>) -> Result<Ends, Memory> {
     let mut ends = Vec::new(alloc);
-    for fiber in end.fibers {
+    for fiber in fibers {
         ends.push(fiber.trace().last().copied())?;
     }
     Ok(ends)
