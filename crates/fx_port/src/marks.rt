@@ -39,6 +39,13 @@ impl Marks {
         place < self.row.len() && self.row[place]
     }
 
+    /// The marks, by number.
+    pub fn row(&self) -> &[bool]
+        ensures { result.now ≡ self.now }
+    {
+        &self.row
+    }
+
     /// Marks the number, where it is below the bound.
     pub fn mark(&mut self, id: u32)
         ensures { self.new ≡ slice_set self.old id true }

@@ -85,6 +85,13 @@ impl<'a, R: Wait, N: RunBrand> ThreadPort<'a, R, N> {
         })
     }
 
+    /// The numbers that were requested from outside through it.
+    pub fn noted(&self) -> &Marks
+        ensures { result.now ≡ self.now.noted }
+    {
+        &self.noted
+    }
+
     /// The seat, the passes, and the numbers that were requested from outside.
     pub fn into_parts(self) -> (WordSeat, Passes, Marks)
         ensures seat { IsOf result.0 N.words × (result.0.view ≡ self.entry.words) }

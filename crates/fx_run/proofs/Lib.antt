@@ -16,5 +16,7 @@ pub mod LostLaws
 pub mod ToldLaws
 pub mod ClosedLists
 pub mod Unsettled
+pub mod FlowLaws
+pub mod Sweeps
 pub mod ExampleRuns
 pub mod Example

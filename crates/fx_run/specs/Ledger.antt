@@ -1,5 +1,5 @@
 -- What traces tell, by fiber number.
-use Rattle.std.specs.Prelude.{◌≡◌, ℕ, ◌<◌, ◌==◌, nat_lt, Bool, true, false, not, ◌&&◌}
+use Rattle.std.specs.Prelude.{◌≡◌, ℕ, ◌+◌, ◌<◌, ◌==◌, nat_lt, Bool, true, false, not, ◌&&◌}
 use Rattle.std.specs.Prelude.{◌||◌, if◌then◌else◌, Option, Some, None, is_some, List, [], ◌∷◌, ◌⊎◌, length}
 use Rattle.std.specs.Prelude.{replicate, slice_set, slice_index_or}
 use Rattle.fx_term.specs.declared.outcome.Outcome.{Outcome}
@@ -60,9 +60,13 @@ abbrev pub with_events : ℕ → List Event → LedgerView → LedgerView
 with_events id [] v = v
 with_events id (e ∷ es) v = with_events id es (with_event id e v)
 
+-- fiber id was given, with this trace
+abbrev pub with_trace : ℕ → List Event → LedgerView → LedgerView
+with_trace id es v = with_events id es (record v { given = slice_set v.given id true })
+
 -- the fiber was given, with its trace
 abbrev pub with_fiber : BareView → LedgerView → LedgerView
-with_fiber x v = with_events x.id x.trace (record v { given = slice_set v.given x.id true })
+with_fiber x v = with_trace x.id x.trace v
 
 abbrev pub with_fibers : List BareView → LedgerView → LedgerView
 with_fibers [] v = v
@@ -72,6 +76,11 @@ with_fibers (x ∷ xs) v = with_fibers xs (with_fiber x v)
 abbrev pub with_requests : List ℕ → LedgerView → LedgerView
 with_requests [] v = v
 with_requests (f ∷ fs) v = with_requests fs (with_request f v)
+
+-- those that are marked were requested from outside, where the marks are of the numbers from n on
+abbrev pub with_marks : ℕ → List Bool → LedgerView → LedgerView
+with_marks n [] v = v
+with_marks n (m ∷ ms) v = with_marks (n + 1) ms (if m then with_request n v else v)
 
 -- the number is of a fiber that is lost: it was not given, and is 0 or was started
 abbrev pub is_lost_in : LedgerView → ℕ → Bool

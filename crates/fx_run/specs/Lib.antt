@@ -7,5 +7,7 @@ pub mod Ledger
 pub mod RunFault
 pub mod ClosedAs
 pub mod EndOfRun
+pub mod Flows
+pub mod Between
 pub mod RunWaits
 pub mod Example

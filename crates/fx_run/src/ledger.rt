@@ -1,7 +1,8 @@
 //! What traces tell, by fiber number.
 ghost use Rattle.std.specs.Prelude.{◌≡◌, ℕ, ◌<◌, true, false, IfOk, IfSome, IfNone};
 ghost use Rattle.fx_run.specs.Ledger.{empty_ledger, with_start, with_request, with_end};
-ghost use Rattle.fx_run.specs.Ledger.{with_event, with_events, with_fiber, with_fibers, with_requests};
+ghost use Rattle.fx_run.specs.Ledger.{with_event, with_events, with_trace, with_fibers, with_requests};
+ghost use Rattle.fx_run.specs.Ledger.{with_marks};
 ghost use Rattle.fx_run.specs.Ledger.{is_lost_in, IsFirstLost};
 
 use fx_fiber::Bare;
@@ -68,10 +69,10 @@ impl Ledger {
         }
     }
 
-    fn request(&mut self, id: u32)
-        ensures { self.new ≡ with_request id self.old }
+    fn request(&mut self, place: usize)
+        ensures { self.new ≡ with_request place self.old }
     {
-        if let Some(is_requested) = self.requested.get_mut(id as usize) {
+        if let Some(is_requested) = self.requested.get_mut(place) {
             *is_requested = true;
         }
     }
@@ -91,7 +92,7 @@ impl Ledger {
     {
         match event {
             Event::Start(child) => self.start(id, child),
-            Event::Request(other) => self.request(other),
+            Event::Request(other) => self.request(other as usize),
             Event::Ended(outcome) => self.end(id, outcome),
             _ => {}
         }
@@ -105,13 +106,14 @@ impl Ledger {
         }
     }
 
-    fn fiber(&mut self, bare: &Bare)
-        ensures { self.new ≡ with_fiber bare.now self.old }
+    /// The fiber of this number was given, with this trace.
+    pub fn fiber(&mut self, id: u32, trace: &[Event])
+        ensures { self.new ≡ with_trace id trace.now self.old }
     {
-        if let Some(is_given) = self.given.get_mut(bare.id() as usize) {
+        if let Some(is_given) = self.given.get_mut(id as usize) {
             *is_given = true;
         }
-        self.events(bare.id(), bare.trace());
+        self.events(id, trace);
     }
 
     /// These fibers were given.
@@ -119,7 +121,7 @@ impl Ledger {
         ensures { self.new ≡ with_fibers bares.now self.old }
     {
         for k in 0..bares.len() {
-            self.fiber(&bares[k]);
+            self.fiber(bares[k].id(), bares[k].trace());
         }
     }
 
@@ -128,7 +130,18 @@ impl Ledger {
         ensures { self.new ≡ with_requests outside.now self.old }
     {
         for k in 0..outside.len() {
-            self.request(outside[k]);
+            self.request(outside[k] as usize);
+        }
+    }
+
+    /// Those that are marked in this row, which is by number, were requested from outside.
+    pub fn marks(&mut self, row: &[bool])
+        ensures { self.new ≡ with_marks 0 row.now self.old }
+    {
+        for k in 0..row.len() {
+            if row[k] {
+                self.request(k);
+            }
         }
     }
 

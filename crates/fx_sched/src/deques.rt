@@ -1,5 +1,5 @@
 //! The deques of the workers, and what they share.
-ghost use Rattle.std.specs.Prelude.{◌≡◌, IfErr};
+ghost use Rattle.std.specs.Prelude.{◌≡◌, vec_len, IfOk, IfErr};
 
 use crossbeam_deque::{Injector, Steal, Stealer, Worker};
 use fx_fiber::Fiber;
@@ -43,7 +43,9 @@ pub type Hand<P> = Owner<Fiber<P>>;
 
 impl<T: Drop> Tasks<T> {
     /// A deque for each worker, and what they share. Each worker counts as one that may have a task.
-    pub fn new(alloc: Global, workers: usize) -> Result<(Tasks<T>, Vec<Owner<T>>), Memory> {
+    pub fn new(alloc: Global, workers: usize) -> Result<(Tasks<T>, Vec<Owner<T>>), Memory>
+        ensures { IfOk result (λ made. vec_len made.1 ≡ workers) }
+    {
         let injector = Injector::new(alloc)?;
         let mut stealers = Vec::new(alloc);
         let mut hands = Vec::new(alloc);

@@ -1,7 +1,8 @@
 //! A round of workers.
-ghost use Rattle.std.specs.Prelude.{◌≡◌, ◌≤◌, ℕ, true, map, IfOk};
+ghost use Rattle.std.specs.Prelude.{◌≡◌, ◌≤◌, ℕ, true, map, vec_len, All, IfOk};
 ghost use Rattle.std.specs.List.Sorted.{IsStrictlyIncreasing};
 ghost use Rattle.fx_fiber.specs.Fiber.{FiberView};
+ghost use Rattle.fx_sched.specs.declared.worker.WorkerEnd.TheVariants.{Done};
 
 use crate::deques::{Owner, Work};
 use crate::gate::Gate;
@@ -50,8 +51,9 @@ pub fn round<
     requires code { code.now.nodes ≡ P.code }
     requires total { P.total ≤ total }
     requires gate { (id : ℕ) → G.may gate.now id ≡ true → P.may id ≡ true }
-    ensures { IfOk result (λ end. IsStrictlyIncreasing
+    ensures ascending { IfOk result (λ end. IsStrictlyIncreasing
         (map (λ (f : FiberView P). (P.facts f.port).number) end.fibers.items)) }
+    ensures workers { IfOk result (λ end. vec_len end.shared ≡ vec_len shared) }
 {
     let lot = Lot::new(alloc, total)?;
     let (all, hands) = Work::new(alloc, shared.len())?;
@@ -106,7 +108,10 @@ fn jobs<T: Drop, S: Drop>(
     alloc: Global,
     hands: Vec<Owner<T>>,
     shared: Vec<S>,
-) -> Result<Vec<Job<T, S>>, Memory> {
+) -> Result<Vec<Job<T, S>>, Memory>
+    requires { vec_len hands ≡ vec_len shared }
+    ensures { IfOk result (λ jobs. vec_len jobs ≡ vec_len shared) }
+{
     let mut jobs = Vec::new(alloc);
     let mut worker = 0u32;
     for (hand, shared) in hands.into_iter().zip(shared) {
@@ -124,13 +129,16 @@ fn jobs<T: Drop, S: Drop>(
 fn given_back<P: Port<Shared: Drop> + Drop>(
     alloc: Global,
     ends: Vec<(WorkerEnd<P>, P::Shared)>,
-) -> Result<Vec<P::Shared>, Memory> {
+) -> Result<Vec<P::Shared>, Memory>
+    ensures shared { IfOk result (λ shared. shared.items ≡ map (λ end. end.1) ends.items) }
+    ensures done { IfOk result (λ shared. All (λ end. end.0 ≡ Done) ends.items) }
+{
     let mut shared = Vec::new(alloc);
     for (end, one) in ends {
-        if let WorkerEnd::Memory(..) = end {
-            return Err(Memory);
+        match end {
+            WorkerEnd::Done => shared.push(one)?,
+            WorkerEnd::Memory(..) => return Err(Memory),
         }
-        shared.push(one)?;
     }
     Ok(shared)
 }
@@ -151,6 +159,7 @@ fn workers<
     requires code { code.now.nodes ≡ P.code }
     requires total { P.total ≤ lot.now }
     requires gate { (id : ℕ) → G.may gate.now id ≡ true → P.may id ≡ true }
+    ensures { IfOk result (λ ends. vec_len ends ≡ vec_len jobs) }
 {
     Ok(thread::map_vec(
         rt,

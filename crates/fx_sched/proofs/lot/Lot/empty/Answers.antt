@@ -1,4 +1,4 @@
-use Rattle.std.proofs.Common.{rules, ◌≡◌, sym, ◌∙◌}
+use Rattle.std.proofs.Common.{sym, ◌∙◌}
 use Rattle.fx_fiber.specs.Fiber.{FiberView}
 use Rattle.fx_sched.proofs.Ascending.{one_more}
 use Rattle.fx_sched.proofs.lot.Lot.empty.Goals as goal
