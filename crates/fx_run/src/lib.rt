@@ -34,6 +34,17 @@
 //! A fiber is lost where it was not given, and is the main one or was started; the least that is lost is
 //! told first ([`test_for_lost`] is that test alone). Then the least that could still step by these lists
 //! and by how many elements are left. Else the report is that of what was given.
+//!
+//! Before that the fibers run in rounds (`run_rounds`). The workers of a round are done when no fiber is
+//! able to go on. Then the run sweeps: each waiting fiber that can step, by what all fibers tell, is able
+//! again in the next round, and counts as late. Where the sweep finds none the run has ended. Where each
+//! fiber is woken that is to be, no sweep finds one.
+//!
+//! | what a sweep knows | from |
+//! |---|---|
+//! | the capacities of the queues | the script |
+//! | how many elements are left in a queue | all traces: their puts less their gots |
+//! | how a fiber ended, and who is requested | the traces as above, and the marks of what each port noted from outside |
 #![tactic(auto)]
 
 mod closing;

@@ -16,4 +16,6 @@ mod notes;
 #[cfg(test)]
 mod rounds;
 #[cfg(test)]
+mod steps;
+#[cfg(test)]
 mod turns;

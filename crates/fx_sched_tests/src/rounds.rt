@@ -1,12 +1,14 @@
 //! Rounds of four workers.
 ghost use Rattle.std.specs.Prelude.{◌≡◌, ◌≤◌, ℕ, true, false};
+ghost use Rattle.fx_model.specs.Origin.{main_begin_of};
 
 use crate::board::Board;
 use crate::locked_port::main_fiber;
 use crate::notes::Notes;
+use crate::steps::{rested, step};
 use fx_fiber::{Fiber, Port, main_begin};
 use fx_sched::{Free, Gate, round};
-use fx_term::{Arg, Code, CodeBrand, Event, Node, NodeId, Outcome};
+use fx_term::{Arg, Code, CodeBrand, Event, Memory, Node, NodeId, Outcome};
 use std::alloc::{AllocGlobal, Global};
 use std::marker::Brand;
 use std::random::RandomSource;
@@ -19,33 +21,66 @@ use std::thread::Threads;
 /// The last event of each fiber, ascending by number.
 type Ends = Vec<Option<Event>>;
 
+/// Plays a script of these nodes, with one queue of this capacity. Before the round the main fiber starts
+/// so many, and these go on until each waits or has ended.
 fn ends<R: Wait + Threads + Send + Sync + RandomSource + AllocGlobal, G: Gate + Sync>(
     rt: &R,
-    alloc: Global,
     nodes: &[Node],
     capacity: u32,
+    starts: u32,
     gate: &G,
-) -> Result<Ends, Fail> {
-    let code = Code::build(alloc, Vec::from_slice(alloc, nodes)?, 1)?;
-    ends_of::<Brand, R, G>(rt, alloc, &code, capacity, gate)
+) -> Result<Ends, Memory> {
+    let alloc = rt.alloc();
+    let Ok(code) = Code::build(alloc, Vec::from_slice(alloc, nodes)?, 1) else {
+        return Err(Memory);
+    };
+    ends_of::<Brand, R, G>(rt, alloc, &code, capacity, starts, gate)
 }
 
 fn ends_of<
     J: CodeBrand + Send + Sync,
     R: Wait + Threads + Send + Sync + RandomSource + AllocGlobal,
     G: Gate + Sync,
->(rt: &R, alloc: Global, code: &Code, capacity: u32, gate: &G) -> Result<Ends, Fail>
+>(rt: &R, alloc: Global, code: &Code, capacity: u32, starts: u32, gate: &G) -> Result<Ends, Memory>
     requires { code.now.nodes ≡ J.nodes }
 {
     let total = main_begin(alloc, code).end;
     let board = Mutex::new(Board::new(alloc, total, Vec::from_slice(alloc, &[capacity])?)?);
-    let mut shared = Vec::new(alloc);
-    for _ in 0..4u32 {
-        let notes: Notes<J> = Notes::new(alloc, total)?;
-        shared.push(notes)?;
-    }
+    let notes: Notes<J> = Notes::new(alloc, total)?;
     let main = main_fiber::<R, J>(rt, &board, alloc, code)?;
-    ends_from(rt, alloc, total, main, shared, code, gate)
+    let shared = notes_of_four(alloc, total)?;
+    ends_from(rt, alloc, total, main, starts, notes, shared, code, gate)
+}
+
+fn notes_of_four<J: CodeBrand>(alloc: Global, total: u32) -> Result<Vec<Notes<J>>, Memory>
+    requires { total ≤ (main_begin_of J.nodes).end }
+{
+    let mut all = Vec::new(alloc);
+    for _ in 0..4u32 {
+        all.push(Notes::new(alloc, total)?)?;
+    }
+    Ok(all)
+}
+
+/// The main fiber after it has started so many, and these, each once it waits or has ended.
+fn begun<P: Port + Drop>(
+    alloc: Global,
+    mut main: Fiber<P>,
+    starts: u32,
+    code: &Code,
+    shared: &mut P::Shared,
+) -> Result<(Vec<Fiber<P>>, Vec<Fiber<P>>), Memory>
+    requires code { code.now.nodes ≡ P.code }
+{
+    let mut resting = Vec::new(alloc);
+    for _ in 0..starts {
+        if let Some(child) = step(&mut main, code, shared)? {
+            resting.push(rested(child, code, shared)?)?;
+        }
+    }
+    let mut able = Vec::new(alloc);
+    able.push(main)?;
+    Ok((able, resting))
 }
 
 fn ends_from<
@@ -57,22 +92,22 @@ fn ends_from<
     alloc: Global,
     total: u32,
     main: Fiber<P>,
+    starts: u32,
+    mut before: P::Shared,
     shared: Vec<P::Shared>,
     code: &Code,
     gate: &G,
-) -> Result<Ends, Fail>
+) -> Result<Ends, Memory>
     requires code { code.now.nodes ≡ P.code }
     requires total { P.total ≤ total }
     requires gate { (id : ℕ) → G.may gate.now id ≡ true → P.may id ≡ true }
 {
-    let mut able = Vec::new(alloc);
-    able.push(main)?;
-    let resting = Vec::new(alloc);
+    let (able, resting) = begun(alloc, main, starts, code, &mut before)?;
     let end = round(rt, alloc, total, able, resting, shared, code, gate)?;
     last_events(alloc, end.fibers)
 }
 
-fn last_events<P: Port + Drop>(alloc: Global, fibers: Vec<Fiber<P>>) -> Result<Ends, Fail> {
+fn last_events<P: Port + Drop>(alloc: Global, fibers: Vec<Fiber<P>>) -> Result<Ends, Memory> {
     let mut ends = Vec::new(alloc);
     for fiber in fibers {
         ends.push(fiber.trace().last().copied())?;
@@ -118,13 +153,6 @@ static WELL: [Option<Event>; 5] = [
     Some(Event::Ended(Outcome::Succeeded(0))),
 ];
 
-#[test]
-fn pairs_exchange_on_four_workers(rt: HostRuntime) -> Result<(), Fail> {
-    let ends = ends(&rt, rt.alloc(), PAIRS, 4, &Free)?;
-    assert!(rt; ends.as_slice() == WELL.as_slice());
-    Ok(())
-}
-
 /// It counts the turns of each worker, and holds the first turns of fiber 1 until another worker had a
 /// turn too.
 #[derive(Drop)]
@@ -164,7 +192,7 @@ impl Gate for Pair {
 }
 
 #[test]
-fn another_worker_steals(rt: HostRuntime) -> Result<(), Fail> {
+fn four_workers_run_all_fibers_and_one_steals_from_another(rt: HostRuntime) -> Result<(), Fail> {
     let gate = Pair {
         turns: [
             AtomicU64::new(0),
@@ -173,8 +201,29 @@ fn another_worker_steals(rt: HostRuntime) -> Result<(), Fail> {
             AtomicU64::new(0),
         ],
     };
-    let ends = ends(&rt, rt.alloc(), PAIRS, 4, &gate)?;
-    assert!(rt; ends.as_slice() == WELL.as_slice());
-    assert!(rt; gate.workers() > 1);
+    let ends = ends(&rt, PAIRS, 4, 0, &gate)?;
+    assert!(rt; ends.as_slice() == WELL.as_slice() && gate.workers() > 1);
+    Ok(())
+}
+
+/// `start g (pure 1) (start h (take q) (offer q 5))`.
+const WAITED: &[Node] = &[
+    Node::Pure(Arg::Number(1)),
+    Node::Take(0),
+    Node::Offer(0, Arg::Number(5)),
+    Node::Start(1, NodeId(1), NodeId(2)),
+    Node::Start(0, NodeId(0), NodeId(3)),
+];
+
+static WOKEN: [Option<Event>; 3] = [
+    Some(Event::Ended(Outcome::Succeeded(0))),
+    Some(Event::Ended(Outcome::Succeeded(1))),
+    Some(Event::Ended(Outcome::Succeeded(5))),
+];
+
+#[test]
+fn a_fiber_that_rests_as_the_round_begins_is_woken(rt: HostRuntime) -> Result<(), Fail> {
+    let ends = ends(&rt, WAITED, 1, 2, &Free)?;
+    assert!(rt; ends.as_slice() == WOKEN.as_slice());
     Ok(())
 }

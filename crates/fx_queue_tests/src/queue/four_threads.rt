@@ -1,6 +1,6 @@
 //! Two fibers put and two take, each on a thread of its own.
 ghost use Rattle.std.specs.Prelude.{◌≡◌, []};
-ghost use Rattle.fx_queue.specs.Queues.{IsOf, IsSameFiber};
+ghost use Rattle.fx_queue.specs.Queues.{IsOf, IsSameFiber, joined_pass};
 
 use super::putting::{Tally, put};
 use fx_queue::{FiberQueue, QueuePass};
@@ -115,6 +115,21 @@ fn sum_of(items: &[Item]) -> u64 {
     sum
 }
 
+/// How many elements two passes put or took, and their sum. Their taker takes both in.
+fn gathered(queue: &FiberQueue, main: &mut QueuePass, two: (Tally, Tally)) -> (u64, u64)
+    requires queue { IsOf main.old queue.now × IsOf two.0.pass queue.now
+        × IsOf two.1.pass queue.now }
+    ensures { main.new ≡ joined_pass (joined_pass main.old two.0.pass) two.1.pass }
+{
+    let (one, other) = two;
+    queue.gather(main, one.pass);
+    queue.gather(main, other.pass);
+    (
+        one.count.wrapping_add(other.count),
+        one.sum.wrapping_add(other.sum),
+    )
+}
+
 /// What was put was taken, or is left. The first eight offers find room, whoever runs when.
 #[test]
 fn nothing_is_lost_and_nothing_comes_twice(rt: HostRuntime) -> Result<(), Fail> {
@@ -124,22 +139,12 @@ fn nothing_is_lost_and_nothing_comes_twice(rt: HostRuntime) -> Result<(), Fail> 
     let three = queue.pass(&mut main, 3, 4);
     let four = queue.pass(&mut main, 4, 5);
     let (putters, takers) = exchange(&rt, &queue, (one, two), (three, four));
-    let (one, two) = putters;
-    let (three, four) = takers;
-    queue.gather(&mut main, one.pass);
-    queue.gather(&mut main, two.pass);
-    queue.gather(&mut main, three.pass);
-    queue.gather(&mut main, four.pass);
+    let put = gathered(&queue, &mut main, putters);
+    let taken = gathered(&queue, &mut main, takers);
     let rest = queue.close(&rt, main)?;
-    let put = (
-        one.count.wrapping_add(two.count),
-        one.sum.wrapping_add(two.sum),
-    );
-    let taken = three.count.wrapping_add(four.count);
-    let sum = three.sum.wrapping_add(four.sum);
     let all = (
-        taken.wrapping_add(rest.len() as u64),
-        sum.wrapping_add(sum_of(&rest)),
+        taken.0.wrapping_add(rest.len() as u64),
+        taken.1.wrapping_add(sum_of(&rest)),
     );
     assert!(rt; 8 <= put.0 && put == all);
     Ok(())

@@ -1,6 +1,6 @@
 //! Four fibers, each on a thread of its own.
 ghost use Rattle.std.specs.Prelude.{◌≡◌, ◌<◌, None};
-ghost use Rattle.fx_word.specs.Words.{IsOf};
+ghost use Rattle.fx_word.specs.Words.{IsOf, joined_seat};
 ghost use Rattle.fx_word_tests.specs.Fibers.{IsSameFiber};
 
 use super::begin_of;
@@ -121,6 +121,28 @@ fn finds_all(words: &Words, seat: &mut WordSeat) -> bool
     found
 }
 
+/// Whether what two seats learnt was right, and each of them finds the request of its fiber and the end
+/// of each.
+fn both_find_all(words: &Words, two: &mut Two) -> bool
+    requires words { IsOf two.old.0.0 words.now × IsOf two.old.1.0 words.now }
+    requires fibers { words.now.fibers ≡ 4 }
+    ensures { IsSameFiber two.old.0.0 two.new.0.0 × IsSameFiber two.old.1.0 two.new.1.0 }
+{
+    let one = finds_all(words, &mut two.0.0);
+    let other = finds_all(words, &mut two.1.0);
+    one && other && two.0.1 && two.1.1
+}
+
+/// The first seat, which has taken the other one in.
+fn gathered(words: &Words, two: Two) -> WordSeat
+    requires words { IsOf two.0.0 words.now × IsOf two.1.0 words.now }
+    ensures { result ≡ joined_seat two.0.0 two.1.0 }
+{
+    let ((mut seat, _), (other, _)) = two;
+    words.gather(&mut seat, other);
+    seat
+}
+
 /// Four fibers run, and each seat finds what all of them did.
 #[test]
 fn each_seat_finds_all_requests_and_ends(rt: HostRuntime) -> Result<(), Fail> {
@@ -128,15 +150,11 @@ fn each_seat_finds_all_requests_and_ends(rt: HostRuntime) -> Result<(), Fail> {
     let one = words.split(&mut main, 1, &begin_of(rt.alloc(), 1));
     let two = words.split(&mut main, 2, &begin_of(rt.alloc(), 2));
     let three = words.split(&mut main, 3, &begin_of(rt.alloc(), 3));
-    let (first, second) = run_four(&rt, &words, (main, one), (two, three));
-    let ((mut main, main_right), (mut one, one_right)) = first;
-    let ((mut two, two_right), (mut three, three_right)) = second;
-    assert!(rt; main_right && one_right && two_right && three_right);
-    assert!(rt; finds_all(&words, &mut main) && finds_all(&words, &mut one));
-    assert!(rt; finds_all(&words, &mut two) && finds_all(&words, &mut three));
-    words.gather(&mut main, one);
-    words.gather(&mut main, two);
-    words.gather(&mut main, three);
+    let (mut first, mut second) = run_four(&rt, &words, (main, one), (two, three));
+    let found = both_find_all(&words, &mut first) && both_find_all(&words, &mut second);
+    assert!(rt; found);
+    let mut main = gathered(&words, first);
+    words.gather(&mut main, gathered(&words, second));
     words.close(main);
     Ok(())
 }

@@ -5,18 +5,25 @@ use fx_word::Words;
 use std::alloc::Global;
 use std::test::Fail;
 
-#[test]
-fn request_is_seen_and_end_is_peeked(rt: HostRuntime) -> Result<(), Fail> {
-    let (words, mut main) = Words::new(rt.alloc(), 3)?;
-    let mut child = words.split(&mut main, 1, &begin_of(rt.alloc(), 1));
+/// What a fiber sees of a request before and after, and what is peeked of its end before and after.
+type Told = ((bool, bool), (Option<Outcome>, Option<Outcome>));
+
+fn told_of_child(alloc: Global) -> Result<Told, Memory> {
+    let (words, mut main) = Words::new(alloc, 3)?;
+    let mut child = words.split(&mut main, 1, &begin_of(alloc, 1));
     let before = words.look(&mut child);
     words.request(&mut main, 1);
     let after = words.look(&mut child);
-    assert_eq!(rt; (before, after), (false, true));
     let running = words.peek(&mut main, 1);
     words.finish(&mut child, Outcome::Canceled);
     let ended = words.peek(&mut main, 1);
-    assert_eq!(rt; (running, ended), (None, Some(Outcome::Canceled)));
+    Ok(((before, after), (running, ended)))
+}
+
+#[test]
+fn request_is_seen_and_end_is_peeked(rt: HostRuntime) -> Result<(), Fail> {
+    let told = told_of_child(rt.alloc())?;
+    assert_eq!(rt; told, ((false, true), (None, Some(Outcome::Canceled))));
     Ok(())
 }
 
@@ -40,7 +47,7 @@ static OUTCOMES: [Outcome; 5] = [
 
 #[test]
 fn each_end_is_peeked_and_requests_nobody(rt: HostRuntime) -> Result<(), Fail> {
-    for outcome in OUTCOMES {
+    for &outcome in &OUTCOMES {
         assert_eq!(rt; end_as_peeked(rt.alloc(), outcome)?, (false, Some(outcome)));
     }
     Ok(())

@@ -1,4 +1,4 @@
-use Rattle.std.proofs.Common.{◌≡◌, ◌∙◌, ℕ, List, [], ◌∷◌, inl, inr, ⊎_elim, sym, ap, subst}
+use Rattle.std.proofs.Common.{◌≡◌, ◌∙◌, ℕ, List, [], ◌∷◌, inl, inr, ⊎_elim, refl, sym, ap, subst}
 use Rattle.fx_term.specs.Lists.{Among}
 use Rattle.fx_queue.specs.declared.pass_view.PassView.{PassView}
 use Rattle.fx_queue.specs.PassView.{first_view, kept_part, IsWhole}
@@ -61,4 +61,4 @@ close-requires-clause-whole g c =
     whole _ _ _ _ _ _ _ _ _ _ _ _ _ _ _ _ _ c.in_ok-queue.ensures.3
     c.pass-one.ensures.kept c.pass-one.ensures.given c.pass-two.ensures.kept c.pass-two.ensures.given
     c.pass-three.ensures.kept c.pass-three.ensures.given c.pass-four.ensures.kept c.pass-four.ensures.given
-    same.0 same.1 same.2 same.3 c.gather.ensures c.gather-2.ensures c.gather-3.ensures c.gather-4.ensures
+    same.0 same.1 same.2 same.3 refl c.gathered-put.ensures refl c.gathered-taken.ensures
