@@ -8,6 +8,7 @@ pub mod RunFault
 pub mod ClosedAs
 pub mod EndOfRun
 pub mod Flows
+pub mod Told
 pub mod Between
 pub mod RunWaits
 pub mod Example
