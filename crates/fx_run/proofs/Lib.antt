@@ -24,6 +24,7 @@ pub mod ToldLaws
 pub mod ClosedLists
 pub mod Unsettled
 pub mod FlowLaws
+pub mod BetweenLaws
 pub mod Sweeps
 pub mod ExampleRuns
 pub mod Example

@@ -9,8 +9,10 @@ use Rattle.fx_term.specs.declared.outcome.Outcome.{Outcome}
 use Rattle.fx_term.specs.Script.{ScriptView}
 use Rattle.fx_fiber.specs.Fiber.{FiberView}
 use Rattle.fx_port.specs.PortView.{PortView}
-use Rattle.fx_run.specs.Between.{ClosedLists, can_go, rests_still, closed_of, NoneCanGo, IsSwept, ToldView, nothing_told, with_live, with_lives, events_of}
+use Rattle.fx_run.specs.Between.{ClosedLists, can_go, rests_still, closed_of, NoneCanGo, IsSwept, events_of}
+use Rattle.fx_run.specs.Told.{ToldView, nothing_told, with_live, with_lives}
 use Rattle.fx_run.specs.Flows.{with_moves, rests_in, rests_of}
+use Rattle.fx_run.proofs.BetweenLaws.{told_outcomes, told_requested}
 use Rattle.fx_run.proofs.FlowLaws.{counted_rests, moves_append}
 
 -- where none passes, each fails
@@ -58,7 +60,8 @@ pub closed_parts : (s : ScriptView) (fs : List (FiberView PortView)) (c : Closed
     → c.caps ≡ s.capacities → c.rests ≡ rests_in t.flows → c.outcomes ≡ t.ledger.outcomes → c.requested ≡ t.ledger.requested → c ≡ closed_of s fs
 closed_parts s fs c t told caps rests outcomes requested =
     by_parts caps (rests ∙ ap (λ (t : ToldView). rests_in t.flows) told ∙ told_rests s fs)
-    (outcomes ∙ ap (λ (t : ToldView). t.ledger.outcomes) told) (requested ∙ ap (λ (t : ToldView). t.ledger.requested) told)
+    (outcomes ∙ ap (λ (t : ToldView). t.ledger.outcomes) told ∙ told_outcomes s fs)
+    (requested ∙ ap (λ (t : ToldView). t.ledger.requested) told ∙ told_requested s fs)
   where
     by_parts : {a a' b b' : List ℕ} {d d' : List (Option Outcome)} {e e' : List Bool} → a ≡ a' → b ≡ b' → d ≡ d' → e ≡ e'
         → ◌≡◌ {A = ClosedLists} (record { caps = a; rests = b; outcomes = d; requested = e }) (record { caps = a'; rests = b'; outcomes = d'; requested = e' })

@@ -22,15 +22,15 @@ or_true : (b : Bool) → true ≡ (b || true)
 or_true true = refl
 or_true false = refl
 
-or_false : (b : Bool) → b ≡ (b || false)
+pub or_false : (b : Bool) → b ≡ (b || false)
 or_false true = refl
 or_false false = refl
 
-or_or : (a b c : Bool) → ((a || b) || c) ≡ (a || (b || c))
+pub or_or : (a b c : Bool) → ((a || b) || c) ≡ (a || (b || c))
 or_or true b c = refl
 or_or false b c = refl
 
-request_requested : (f g : ℕ) (v : LedgerView) → f < length v.requested → requested_at (with_request g v) f ≡ (requested_at v f || (g == f))
+pub request_requested : (f g : ℕ) (v : LedgerView) → f < length v.requested → requested_at (with_request g v) f ≡ (requested_at v f || (g == f))
 request_requested f g v lt = elim (cases_eq g f) [
   | inl same ↦
       ap (λ (i : ℕ). slice_index_or (slice_set v.requested i true) f false) same ∙ get_or-set_same v.requested f true false lt
@@ -53,11 +53,11 @@ event_long id (event.Start g) v = refl
 event_long id (event.Ended o) v = refl
 event_long id _ v = refl
 
-events_long : (id : ℕ) (es : List Event) (v : LedgerView) → length (with_events id es v).requested ≡ length v.requested
+pub events_long : (id : ℕ) (es : List Event) (v : LedgerView) → length (with_events id es v).requested ≡ length v.requested
 events_long id [] v = refl
 events_long id (e ∷ es) v = events_long id es (with_event id e v) ∙ event_long id e v
 
-events_requested : (f id : ℕ) (es : List Event) (v : LedgerView) → f < length v.requested
+pub events_requested : (f id : ℕ) (es : List Event) (v : LedgerView) → f < length v.requested
     → requested_at (with_events id es v) f ≡ (requested_at v f || list_any (is_request_for f) es)
 events_requested f id [] v lt = or_false (requested_at v f)
 events_requested f id (e ∷ es) v lt =
@@ -102,7 +102,7 @@ outcome_at v f = slice_index_or v.outcomes f None
 end_long : (id : ℕ) (o : Outcome) (v : LedgerView) → length (with_end id o v).outcomes ≡ length v.outcomes
 end_long id o v = length-set v.outcomes id (first_of (slice_index_or v.outcomes id None) o)
 
-ends_long : (id : ℕ) (es : List Event) (v : LedgerView) → length (with_events id es v).outcomes ≡ length v.outcomes
+pub ends_long : (id : ℕ) (es : List Event) (v : LedgerView) → length (with_events id es v).outcomes ≡ length v.outcomes
 ends_long id [] v = refl
 ends_long id (event.Ended o ∷ es) v = ends_long id es (with_end id o v) ∙ end_long id o v
 ends_long id (event.Start g ∷ es) v = ends_long id es (with_start id g v)
@@ -118,7 +118,7 @@ first_stands None x p = refl
 first_stands (Some y) x p = refl
 
 -- of a fiber its trace tells it
-events_outcome : (id : ℕ) (es : List Event) (v : LedgerView) → id < length v.outcomes
+pub events_outcome : (id : ℕ) (es : List Event) (v : LedgerView) → id < length v.outcomes
     → outcome_at (with_events id es v) id ≡ or_first (outcome_at v id) (outcome_shown es)
 events_outcome id [] v lt = kept_or (outcome_at v id)
 events_outcome id (event.Ended o ∷ es) v lt =
@@ -130,7 +130,7 @@ events_outcome id (event.Request g ∷ es) v lt = events_outcome id es (with_req
 events_outcome id (_ ∷ es) v lt = events_outcome id es v lt
 
 -- and those of others do not
-events_elsewhere : (f id : ℕ) (es : List Event) (v : LedgerView) → id ≢ f → outcome_at (with_events id es v) f ≡ outcome_at v f
+pub events_elsewhere : (f id : ℕ) (es : List Event) (v : LedgerView) → id ≢ f → outcome_at (with_events id es v) f ≡ outcome_at v f
 events_elsewhere f id [] v apart = refl
 events_elsewhere f id (event.Ended o ∷ es) v apart =
     events_elsewhere f id es (with_end id o v) apart

@@ -1,6 +1,6 @@
 -- What fibers tell that are between two rounds.
-use Rattle.std.specs.Prelude.{◌≡◌, ℕ, Bool, false, not, Option, List, [], ◌∷◌, length, map, All}
-use Rattle.std.specs.List.{filter, flat_map}
+use Rattle.std.specs.Prelude.{◌≡◌, ◌==◌, ◌||◌, cond, ℕ, Bool, false, not, Option, List, [], length, map, All}
+use Rattle.std.specs.List.{filter, flat_map, list_any, range_with_len}
 use Rattle.std.specs.List.Sorted.{IsStrictlyIncreasing}
 use Rattle.fx_term.specs.declared.node.Node.{Node}
 use Rattle.fx_term.specs.declared.event.Event.{Event}
@@ -8,10 +8,11 @@ use Rattle.fx_term.specs.declared.outcome.Outcome.{Outcome}
 use Rattle.fx_term.specs.Script.{ScriptView, total}
 use Rattle.fx_model.specs.declared.closed.Closed.{Closed}
 use Rattle.fx_model.specs.Outside.{Outside, outside_of_lists, can_step}
+use Rattle.fx_model.specs.Report.{outcome_shown, is_request_for}
 use Rattle.fx_fiber.specs.Fiber.{FiberView, progress}
+use Rattle.fx_port.specs.Marks.{is_marked}
 use Rattle.fx_port.specs.PortView.{PortView}
-use Rattle.fx_run.specs.Ledger.{LedgerView, empty_ledger, with_trace, with_marks}
-use Rattle.fx_run.specs.Flows.{FlowsView, no_flows, with_moves, rests_of}
+use Rattle.fx_run.specs.Flows.{rests_of}
 
 -- how many elements each queue can have and has, and by number how each fiber ended, if it has, and who is requested
 pub record ClosedLists : Type 0 where
@@ -23,37 +24,25 @@ pub record ClosedLists : Type 0 where
 abbrev pub lists_of : Closed → ClosedLists
 lists_of c = record { caps = c.caps.items; rests = c.rests.items; outcomes = c.outcomes.items; requested = c.requested.items }
 
--- what is told by fiber number, and what the queues' counters have
-pub record ToldView : Type 0 where
-  pub ledger : LedgerView
-  pub flows : FlowsView
-
--- nothing is told of a script's run
-abbrev pub nothing_told : ScriptView → ToldView
-nothing_told s = record { ledger = empty_ledger (total s); flows = no_flows (length s.capacities) }
-
--- the fiber is there, with its trace and what its port noted from outside
-abbrev pub with_live : FiberView PortView → ToldView → ToldView
-with_live f t = record {
-  ledger = with_marks 0 f.port.noted (with_trace f.port.words.own.id f.trace t.ledger);
-  flows = with_moves f.trace t.flows;
-}
-
-abbrev pub with_lives : List (FiberView PortView) → ToldView → ToldView
-with_lives [] t = t
-with_lives (f ∷ fs) t = with_lives fs (with_live f t)
-
--- the events of all traces
+-- the events of all traces, and those of the fiber with this number
 abbrev pub events_of : List (FiberView PortView) → List Event
-events_of fs = flat_map (λ (f : FiberView PortView). f.trace) fs
+events_of fs = flat_map (λ (x : FiberView PortView). x.trace) fs
 
--- what the fibers of a script's run have come to: what their traces leave in each queue, and tell of each fiber
+abbrev pub events_by : ℕ → List (FiberView PortView) → List Event
+events_by f fs = flat_map (λ (x : FiberView PortView). cond (x.port.words.own.id == f) x.trace []) fs
+
+-- some trace requests the fiber, or some port noted that it was requested from outside
+abbrev pub is_requested_by : List (FiberView PortView) → ℕ → Bool
+is_requested_by fs f = list_any (λ (x : FiberView PortView). list_any (is_request_for f) x.trace || is_marked x.port.noted f) fs
+
+-- what the fibers of a script's run have come to: what all traces together leave in each queue, and of each number how the trace of that fiber ends, and
+-- whether it is requested
 abbrev pub closed_of : ScriptView → List (FiberView PortView) → ClosedLists
 closed_of s fs = record {
   caps = s.capacities;
   rests = rests_of (length s.capacities) (events_of fs);
-  outcomes = (with_lives fs (nothing_told s)).ledger.outcomes;
-  requested = (with_lives fs (nothing_told s)).ledger.requested;
+  outcomes = map (λ f. outcome_shown (events_by f fs)) (range_with_len 0 (total s));
+  requested = map (is_requested_by fs) (range_with_len 0 (total s));
 }
 
 abbrev pub outside_at : ClosedLists → Outside

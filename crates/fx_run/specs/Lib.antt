@@ -10,6 +10,7 @@ pub mod Closing
 pub mod ClosedAs
 pub mod EndOfRun
 pub mod Flows
+pub mod Told
 pub mod Between
 pub mod RunWaits
 pub mod Example

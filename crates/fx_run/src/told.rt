@@ -3,7 +3,7 @@ ghost use Rattle.std.specs.Prelude.{◌≡◌, IfOk};
 ghost use Rattle.fx_text.specs.View.{meaning};
 ghost use Rattle.fx_report.specs.Script.{script_of};
 ghost use Rattle.fx_run.specs.Flows.{rests_in};
-ghost use Rattle.fx_run.specs.Between.{nothing_told, with_live, with_lives};
+ghost use Rattle.fx_run.specs.Told.{nothing_told, with_live, with_lives};
 
 use crate::flows::Flows;
 use crate::ledger::Ledger;
@@ -24,7 +24,7 @@ pub(crate) struct Told {
 }
 
 impl Model for Told {
-    ghost use Rattle.fx_run.specs.Between.{ToldView};
+    ghost use Rattle.fx_run.specs.Told.{ToldView};
 
     ghost Value = { ToldView };
 

@@ -1,7 +1,7 @@
 use Rattle.std.proofs.Common.{rules, ◌≡◌, ◌∙◌, ap, map}
 use Rattle.fx_text.specs.View.{meaning}
 use Rattle.fx_report.specs.Script.{script_of}
-use Rattle.fx_run.specs.Between.{with_lives}
+use Rattle.fx_run.specs.Told.{with_lives}
 use Rattle.fx_run.proofs.Unsettled.{declared_capacities}
 use Rattle.fx_run.proofs.Sweeps.{closed_parts}
 use Rattle.fx_run.proofs.sweep.closed_between.Goals as goal

@@ -1,5 +1,5 @@
 use Rattle.std.proofs.Common.{◌≡◌, drop}
-use Rattle.fx_run.specs.Between.{with_lives}
+use Rattle.fx_run.specs.Told.{with_lives}
 use Rattle.fx_run.proofs.told.Told.fibers.Given as goal
 
 abbrev pub invariant-loop-k : goal.invariant-loop-k
