@@ -22,7 +22,7 @@ returns-clause-stands g c =
     let port : c.in_ok-fiber.fiber.port ≡ new_port 0 (main_begin_of c.args.script.now.code.nodes) = c.in_ok-fiber.ensures.port ∙ c.in_ok-world.ensures.port in
     let total : c.total.result - 1 ≡ need script.term =
     let long = length-replicate (need script.term) Unstarted in
-    let e : c.total.result ≡ suc (length (replicate (need script.term) Unstarted)) = c.total.ensures.is ∙ ap (λ (w : WorldView). length w.classes) world in
+    let e : c.total.result ≡ suc (length (replicate (need script.term) Unstarted)) = c.total.ensures ∙ ap (λ (w : WorldView). length w.classes) world in
     omega arith in
     opening_stands_for g.J.CodeBrand.nodes script _ (record { parent = None; fiber = c.in_ok-fiber.fiber }) world
     (rw total at c.in_ok-fibers.ensures)
