@@ -1,4 +1,6 @@
 //! Gates that hold a turn until others have come.
+ghost use Rattle.std.specs.Prelude.{false};
+
 use crate::rows::{PAIRS, run_text};
 use fx_sched::Gate;
 use std::sync::atomic::{AtomicU64, Ordering};

@@ -1,9 +1,6 @@
 //! What scripts print whose runs all have one report, by workers as by a replay.
 use super::*;
 
-/// Whether `fx_run` runs fibers. The body that stands there until then answers want of memory.
-const RUNS_FIBERS: bool = false;
-
 /// The script, the status, what is printed, and what is said on standard error.
 type Row = (&'static str, u8, &'static str, &'static str);
 
@@ -74,16 +71,7 @@ fn replay_prints_these_reports(rt: HostRuntime) -> Result<(), Fail> {
 #[test]
 fn run_prints_what_a_replay_does(rt: HostRuntime) -> Result<(), Fail> {
     for words in ["run F 1", "run F 4", "run F 016"] {
-        if RUNS_FIBERS {
-            assert_prints(&rt, words, &WHOLE)?;
-            continue;
-        }
-        let ran = run_of(&rt, words, &[("F", whole(b"(main (pure 5))"))])?;
-        assert_eq!(rt;
-            (ran.status, ran.out.as_slice(), ran.err.as_slice()),
-            (FAULT, b"".as_slice(), b"fault memory\n".as_slice()),
-            "{words}"
-        );
+        assert_prints(&rt, words, &WHOLE)?;
     }
     Ok(())
 }

@@ -2,7 +2,7 @@
 use super::fibers::{Row, assert_runs};
 use super::*;
 
-static TOUR: [Row; 7] = [
+static TOUR: [Row; 8] = [
     (
         "replay F",
         "(queue permits 1)\n(main (start worker (bracket p (pure 7) (never) (offer permits p))\n        (cancel worker)))",
@@ -52,6 +52,14 @@ static TOUR: [Row; 7] = [
         "0 0 0 2 2",
         ENDED,
         "fiber 0 succeeded 2\nfiber 1 canceled\nfiber 2 succeeded 2\n",
+    ),
+    (
+        "run F 4",
+        "(queue q 2)\n(main (start a (for i 100 (offer q i))\n        (start b (for i 100 (offer q i))\n          \
+            (start c (for i 100 (take q))\n            (start d (for i 100 (take q))\n              (pure 9))))))",
+        "",
+        ENDED,
+        "fiber 0 succeeded 9\nfiber 1 succeeded 0\nfiber 2 succeeded 0\nfiber 3 succeeded 0\nfiber 4 succeeded 0\nqueue q left\n",
     ),
 ];
 
