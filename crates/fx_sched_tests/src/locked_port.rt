@@ -111,7 +111,7 @@ impl<'a, R: Wait, J: CodeBrand> Port for LockedPort<'a, R, J> {
     fn offer(&mut self, notes: &mut Notes<J>, queue: u8, value: u64) -> Result<Offered, Memory> {
         let mut guard = self.board.lock(self.rt);
         let board = &mut *guard;
-        let answer = board.put(queue, value)?;
+        let answer = board.put(value)?;
         if answer == Offered::Done {
             wake(board, notes, Source::Element(queue));
             self.puts += 1;
@@ -122,7 +122,7 @@ impl<'a, R: Wait, J: CodeBrand> Port for LockedPort<'a, R, J> {
     fn take(&mut self, notes: &mut Notes<J>, queue: u8) -> Option<u64> {
         let mut guard = self.board.lock(self.rt);
         let board = &mut *guard;
-        let front = board.take(queue)?;
+        let front = board.take()?;
         wake(board, notes, Source::Room(queue));
         Some(front)
     }

@@ -72,7 +72,7 @@ fn left_of<J: CodeBrand, R: Wait>(
     requires { code.now.nodes ≡ J.nodes }
 {
     let total = main_begin(alloc, code).end;
-    let board = Mutex::new(Board::new(alloc, total, Vec::new(alloc))?);
+    let board = Mutex::new(Board::new(alloc, total, 1)?);
     let mut notes: Notes<J> = Notes::new(alloc, total)?;
     let main = main_fiber::<R, J>(rt, &board, alloc, code)?;
     let lot = Lot::new(alloc, total)?;

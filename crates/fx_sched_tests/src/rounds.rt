@@ -26,7 +26,7 @@ type Ends = Vec<Option<Event>>;
 fn ends<R: Wait + Threads + Send + Sync + RandomSource + AllocGlobal, G: Gate + Sync>(
     rt: &R,
     nodes: &[Node],
-    capacity: u32,
+    capacity: usize,
     starts: u32,
     gate: &G,
 ) -> Result<Ends, Memory> {
@@ -41,11 +41,18 @@ fn ends_of<
     J: CodeBrand + Send + Sync,
     R: Wait + Threads + Send + Sync + RandomSource + AllocGlobal,
     G: Gate + Sync,
->(rt: &R, alloc: Global, code: &Code, capacity: u32, starts: u32, gate: &G) -> Result<Ends, Memory>
+>(
+    rt: &R,
+    alloc: Global,
+    code: &Code,
+    capacity: usize,
+    starts: u32,
+    gate: &G,
+) -> Result<Ends, Memory>
     requires { code.now.nodes ≡ J.nodes }
 {
     let total = main_begin(alloc, code).end;
-    let board = Mutex::new(Board::new(alloc, total, Vec::from_slice(alloc, &[capacity])?)?);
+    let board = Mutex::new(Board::new(alloc, total, capacity)?);
     let notes: Notes<J> = Notes::new(alloc, total)?;
     let main = main_fiber::<R, J>(rt, &board, alloc, code)?;
     let shared = notes_of_four(alloc, total)?;

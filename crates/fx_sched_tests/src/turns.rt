@@ -105,7 +105,7 @@ fn turns_of<J: CodeBrand, R: Wait + RandomSource + AllocGlobal>(
     requires { code.now.nodes ≡ J.nodes }
 {
     let total = main_begin(alloc, code).end;
-    let board = Mutex::new(Board::new(alloc, total, Vec::new(alloc))?);
+    let board = Mutex::new(Board::new(alloc, total, 1)?);
     let mut notes: Notes<J> = Notes::new(alloc, total)?;
     let main = main_fiber::<R, J>(rt, &board, alloc, code)?;
     turns(rt, gate, main, code, &mut notes)
