@@ -10,7 +10,7 @@ ghost use Rattle.fx_queue.specs.Queues.{QueueId};
 ghost use Rattle.fx_run.specs.Reported.{AreAscending};
 ghost use Rattle.fx_run.specs.Gathered.{IsGathered, AreAllowed};
 ghost use Rattle.fx_run.specs.EndOfRun.{EndsWithReport};
-ghost use Rattle.fx_run.specs.Closing.{AreMarked, IsCloseFault};
+ghost use Rattle.fx_run.specs.Closing.{AreMarked, IsReportOf, IsCloseFault};
 
 use crate::gathered::Gathered;
 use crate::lost::test_for_lost;
@@ -54,6 +54,8 @@ pub(crate) fn close_run<R: Wait>(
     requires fibers { words.fibers ≡ total (script_of (meaning script.now)) }
     requires capacities { map (λ (i : QueueId). i.cap) queues.items
         ≡ (script_of (meaning script.now)).capacities }
+    ensures report { IfOk result
+        (λ r. IsReportOf (script_of (meaning script.now)) gathered late r) }
     ensures ends { (may : ℕ → Bool) → AreAllowed may gathered.noted
         → IfOk result (λ r. EndsWithReport (script_of (meaning script.now)) may r) }
     ensures lawful { (may : ℕ → Bool) → AreAllowed may gathered.noted

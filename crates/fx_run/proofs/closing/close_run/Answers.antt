@@ -11,7 +11,7 @@ use Rattle.fx_report.specs.Script.{script_of}
 use Rattle.fx_run.specs.Reported.{NoneIsLost, report_of, IsReported}
 use Rattle.fx_run.specs.EndOfRun.{EndsWithReport}
 use Rattle.fx_run.specs.RunFault.{IsReportFault}
-use Rattle.fx_run.specs.Closing.{AreMarked, IsCloseFault}
+use Rattle.fx_run.specs.Closing.{AreMarked, IsReportOf, IsCloseFault}
 use Rattle.fx_run.proofs.CloseFaults.{lost_so, reported_so}
 use Rattle.fx_run.proofs.Lawful.{end_is_lawful, end_keeps_promises}
 use Rattle.fx_run.proofs.EndLaws.{all_below, ran_so, seat_whole, passes_whole, ends_so}
@@ -41,19 +41,31 @@ report-requires-clause-below g c =
     let n = total (script_of (meaning c.args.script.now)) in
     all_below c.args.script.now.code.nodes c.args.words c.args.queues.items c.args.gathered c.requires.gathered n c.requires.fibers
 
+pub returns-clause-report : goal.returns-clause-report
+returns-clause-report g c =
+    let s = script_of (meaning c.args.script.now) in
+    let bares = c.args.gathered.bares.items in
+    let left = map (λ items. items.items) c.in_ok-left.left.items in
+    let outside = c.in_ok-outside.outside.items in
+    let marked = subst (λ (n : ℕ). AreMarked n c.args.gathered.noted outside) (ap (λ (b : Begin). b.end) c.main_begin-numbers.ensures.begin)
+    c.in_ok-outside.ensures.marked in
+    IfOk-weaker c.report.result (IsReported s bares (report_of bares left outside c.args.late)) (IsReportOf s c.args.gathered c.args.late)
+    (λ r h. record {
+      left = left;
+      outside = outside;
+      rests = c.in_ok-left.ensures;
+      ascending = c.in_ok-outside.ensures.ascending;
+      marked = marked;
+      answered = h;
+    }) c.report.ensures.report
+
 pub returns-clause-ends : goal.returns-clause-ends
 returns-clause-ends g c may allowed =
     let s = script_of (meaning c.args.script.now) in
-    let nodes = c.args.script.now.code.nodes in
-    let left = map (λ items. items.items) c.in_ok-left.left.items in
-    let outside = c.in_ok-outside.outside.items in
     let lost = subst NoneIsLost c.deref.ensures.value c.in_ok-test_for_lost.ensures.whole in
-    let told = subst (λ (n : ℕ). AreMarked n c.args.gathered.noted outside) (ap (λ (b : Begin). b.end) c.main_begin-numbers.ensures.begin) c.in_ok-outside.ensures.marked in
-    IfOk-weaker c.report.result (IsReported s c.args.gathered.bares.items (report_of c.args.gathered.bares.items left outside c.args.late))
-    (EndsWithReport s may)
-    (ends_so nodes c.args.words c.args.queues.items c.args.gathered c.requires.gathered lost c.requires.ascending s refl c.requires.fibers c.requires.capacities
-    left c.in_ok-left.ensures outside c.in_ok-outside.ensures.ascending told may allowed c.close.ensures c.args.late)
-    c.report.ensures.report
+    IfOk-weaker c.report.result (IsReportOf s c.args.gathered c.args.late) (EndsWithReport s may)
+    (ends_so c.args.script.now.code.nodes c.args.words c.args.queues.items c.args.gathered c.requires.gathered lost c.requires.ascending
+    s refl c.requires.fibers c.requires.capacities may allowed c.close.ensures c.args.late) (returns-clause-report g c)
 
 pub returns-clause-lawful : goal.returns-clause-lawful
 returns-clause-lawful g c may allowed =
