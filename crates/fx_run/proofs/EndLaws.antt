@@ -68,7 +68,7 @@ none_at [] k le = refl
 none_at (x ∷ xs) zero le = absurd (omega (arith, le))
 none_at (x ∷ xs) (suc k) le = none_at xs k (omega (arith, le))
 
-capacity_at : (queues : List QueueId) (k : ℕ) (i : QueueId) → slice_get queues k ≡ Some i → slice_index (map (λ (j : QueueId). j.cap) queues) k ≡ i.cap
+pub capacity_at : (queues : List QueueId) (k : ℕ) (i : QueueId) → slice_get queues k ≡ Some i → slice_index (map (λ (j : QueueId). j.cap) queues) k ≡ i.cap
 capacity_at [] k i e = let z : ⊥ = cc in absurd z
 capacity_at (j ∷ queues) zero i e = ap (λ (h : QueueId). h.cap) (same_Some j i e)
 capacity_at (j ∷ queues) (suc k) i e = capacity_at queues k i e
@@ -80,7 +80,7 @@ module _ (nodes : List Node) (words : word.WordsId) (queues : List QueueId) (g :
   abbrev pub parted : List Parted
   parted = map (parted_of nodes words queues) h.fibers
 
-  bares_same : bares_of parted ≡ g.bares.items
+  pub bares_same : bares_of parted ≡ g.bares.items
   bares_same = map_twice (λ (p : Parted). p.bare) (parted_of nodes words queues) h.fibers ∙ h.bares
 
   entries : AreEntries parted g.seat.view
@@ -90,7 +90,7 @@ module _ (nodes : List Node) (words : word.WordsId) (queues : List QueueId) (g :
   passes q s at = gathered_as (parted_of nodes words queues) (λ (p : Parted). p.passes q) h.fibers (queue.entries s.view) (h.passes q s at)
 
   -- whose it is
-  whose : (f : ℕ) (p : Parted) → parted_at parted f ≡ Some p → (a : Left) × Among a h.fibers × (p ≡ parted_of nodes words queues a)
+  pub whose : (f : ℕ) (p : Parted) → parted_at parted f ≡ Some p → (a : Left) × Among a h.fibers × (p ≡ parted_of nodes words queues a)
   whose f p at = among_mapped (parted_of nodes words queues) h.fibers p (found_is (λ (x : Parted). x.bare.id == f) parted p at).1
 
   pub ran_so : RanCode nodes g.bares.items

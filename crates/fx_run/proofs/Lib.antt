@@ -11,6 +11,7 @@ pub mod WholeEntries
 pub mod MarkedNumbers
 pub mod EndLaws
 pub mod CloseFaults
+pub mod RefusalLaws
 pub mod Starters
 pub mod Lawful
 pub mod Answered

@@ -9,5 +9,6 @@ pub mod RunFault
 pub mod Closing
 pub mod ClosedAs
 pub mod EndOfRun
+pub mod Refusals
 pub mod RunWaits
 pub mod Example

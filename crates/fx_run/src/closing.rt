@@ -10,6 +10,7 @@ ghost use Rattle.fx_queue.specs.Queues.{QueueId};
 ghost use Rattle.fx_run.specs.Reported.{AreAscending};
 ghost use Rattle.fx_run.specs.Gathered.{IsGathered, AreAllowed};
 ghost use Rattle.fx_run.specs.EndOfRun.{EndsWithReport};
+ghost use Rattle.fx_run.specs.Refusals.{AreRefusalsTrue};
 ghost use Rattle.fx_run.specs.Closing.{AreMarked, IsReportOf, IsCloseFault};
 
 use crate::gathered::Gathered;
@@ -62,6 +63,7 @@ pub(crate) fn close_run<R: Wait>(
         → IfOk result (λ r. IsLawfulReport (script_of (meaning script.now)) may r) }
     ensures promised { (may : ℕ → Bool) → AreAllowed may gathered.noted
         → IfOk result (λ r. KeepsWhatIsPromised (script_of (meaning script.now)) may r) }
+    ensures refusals { IfOk result (λ r. AreRefusalsTrue (script_of (meaning script.now)) r) }
     ensures fault { IfErr result
         (λ fault. IsCloseFault (script_of (meaning script.now)) gathered late fault) }
 {

@@ -10,6 +10,8 @@ use Rattle.fx_text.specs.View.{meaning}
 use Rattle.fx_report.specs.Script.{script_of}
 use Rattle.fx_run.specs.Reported.{NoneIsLost, report_of, IsReported}
 use Rattle.fx_run.specs.EndOfRun.{EndsWithReport}
+use Rattle.fx_run.specs.Refusals.{AreRefusalsTrue}
+use Rattle.fx_run.proofs.RefusalLaws.{refusals_true}
 use Rattle.fx_run.specs.RunFault.{IsReportFault}
 use Rattle.fx_run.specs.Closing.{AreMarked, IsReportOf, IsCloseFault}
 use Rattle.fx_run.proofs.CloseFaults.{lost_so, reported_so}
@@ -78,6 +80,13 @@ returns-clause-promised g c may allowed =
     let core = code_is_core c.args.script.now.code.nodes c.main_begin-numbers.ensures.code in
     IfOk-weaker c.report.result (EndsWithReport s may) (KeepsWhatIsPromised s may) (λ r h. end_keeps_promises s may r h core)
     (returns-clause-ends g c may allowed)
+
+pub returns-clause-refusals : goal.returns-clause-refusals
+returns-clause-refusals g c =
+    let s = script_of (meaning c.args.script.now) in
+    IfOk-weaker c.report.result (IsReportOf s c.args.gathered c.args.late) (AreRefusalsTrue s)
+    (refusals_true c.args.script.now.code.nodes c.args.words c.args.queues.items s c.requires.capacities c.args.gathered c.requires.gathered c.args.late)
+    (returns-clause-report g c)
 
 pub returns-in_err-test_for_lost-clause-fault : goal.returns-in_err-test_for_lost-clause-fault
 returns-in_err-test_for_lost-clause-fault g c =
