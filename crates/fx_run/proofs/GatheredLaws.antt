@@ -101,11 +101,12 @@ module _ (nodes : List Node) (words : word.WordsId) (queues : List QueueId) wher
       ]
 
   -- of the main fiber what it had itself
-  pub gathered_first : (a : Apart nodes words queues) (g : Gathered) → a.port.words.own.id ≡ 0 → g.bares.items ≡ a.bare ∷ [] → word.IsOf g.seat words
+  pub gathered_first : (a : Apart nodes words queues) (g : Gathered) (before : List BareView) → a.port.words.own.id ≡ 0 → before ≡ []
+      → g.bares.items ≡ before ++ a.bare ∷ [] → word.IsOf g.seat words
       → g.seat.view ≡ a.port.words → g.passes ≡ a.port.passes → g.noted ≡ a.port.noted → IsGathered nodes words queues g
-  gathered_first a g main bares seat_of seat passes noted = record {
+  gathered_first a g before main none bares seat_of seat passes noted = record {
     fibers = a ∷ [];
-    bares = sym bares;
+    bares = sym (bares ∙ ap (λ (l : List BareView). l ++ a.bare ∷ []) none);
     seat_of = seat_of;
     main = ap (λ (v : SeatView). v.own.id) seat ∙ main;
     entries = first_of (λ (x : Apart nodes words queues). x.port.words.own) a g.seat.view.own g.seat.view.taken
