@@ -159,7 +159,8 @@ module _ (nodes : List Node) (words : word.WordsId) (queues : List QueueId) wher
             joined_each g.passes a.port.passes q u (many ∙ sym same) (ap (λ l. slice_get l q) (sym passes) ∙ at)
 
 -- no number is marked but such as may be named
-pub allowed_more : (may : ℕ → Bool) (marks other all : List Bool) → AreAllowed may marks → AreAllowed may other → all ≡ joined_marks marks other → AreAllowed may all
+pub allowed_more : (may : ℕ → Bool) (marks other all : List Bool) → AreAllowed may marks → AreAllowed may other
+    → all ≡ joined_marks marks other → AreAllowed may all
 allowed_more may marks other all h k is f m =
     ⊎_elim (h f) (k f) (joined_from marks other f (sym (ap (λ l. is_marked l f) is) ∙ m))
 

@@ -208,7 +208,8 @@ module _ (nodes : List Node) (words : word.WordsId) (queues : List QueueId) (s :
       → AreRefusalsTrue s answer
   refusals_true g h late answer r f x at k q before after is =
       let o = of_report (parted nodes words queues g h) r.left r.outside late f x
-      (ap (λ bs. fiber_in (report_of bs r.left r.outside late) f) (bares_same nodes words queues g h) ∙ (ap (λ (y : ReportView). fiber_in y f) (sym r.answered.is) ∙ at)) in
+      (ap (λ bs. fiber_in (report_of bs r.left r.outside late) f) (bares_same nodes words queues g h)
+      ∙ (ap (λ (y : ReportView). fiber_in y f) (sym r.answered.is) ∙ at)) in
       let t = whose nodes words queues g h f o.fiber o.at in
       let same = ap (λ (p : Parted). p.bare) t.2 in
       let number = sym t.0.number ∙ (ap (λ (b : BareView). b.id) (sym same) ∙ id_at (parted nodes words queues g h) f o.fiber o.at) in
