@@ -9,7 +9,7 @@ use Rattle.fx_model.specs.Row.{Counts}
 use Rattle.fx_model.specs.Step.{Progress}
 use Rattle.fx_fiber.specs.Deed.{Deed, Started}
 use Rattle.fx_fiber.specs.Bare.{BareView, reached}
-use Rattle.fx_fiber.specs.Fiber.{IsLawful}
+use Rattle.fx_fiber.specs.Fiber.{FiberView, IsLawful}
 use Rattle.fx_word.specs.Words.{WordsId}
 use Rattle.fx_queue.specs.Queues.{QueueId, HeldPass}
 use Rattle.fx_port.specs.Marks.{is_marked}
@@ -18,7 +18,7 @@ use Rattle.fx_port.specs.PortView.{PortView, IsOfRun, beginning_in}
 use Rattle.fx_port.specs.ThreadCalls.{ThreadAgrees}
 use Rattle.fx_port.proofs.RunLaws.{numbers_are}
 use Rattle.fx_run.specs.Agreement.{QueueAgrees, PortAgrees}
-use Rattle.fx_run.specs.Apart.{Apart, entry_by, entry_at}
+use Rattle.fx_run.specs.Apart.{Apart, without_port, entry_by, entry_at}
 use Rattle.fx_run.specs.Parted.{Parted}
 use Rattle.fx_run.proofs.Members.{source}
 
@@ -85,13 +85,14 @@ module _ (nodes : List Node) (words : WordsId) (queues : List QueueId) where
   }
 
   -- what `part` tells of a fiber and its port
-  abbrev pub apart_of : (may : ℕ → Bool) (bare : BareView) (port : PortView) → bare.nodes ≡ nodes → bare.id ≡ port.words.own.id → IsOfRun words queues may port
+  abbrev pub apart_of : (may : ℕ → Bool) (fiber : FiberView PortView) (bare : BareView) (port : PortView) → bare ≡ without_port nodes fiber
+      → port ≡ fiber.port → IsOfRun words queues may port
       → IsLawful nodes (beginning_in nodes port.words.own.begin) (ThreadAgrees port) bare.trace bare.counts (reached bare) → Apart nodes words queues
-  apart_of may bare port code number of_run lawful = record {
+  apart_of may fiber bare port is whole of_run lawful = record {
     bare = bare;
     port = port;
-    code = code;
-    number = number;
+    code = ap (λ (b : BareView). b.nodes) is;
+    number = ap (λ (b : BareView). b.id) is ∙ ap (λ (p : PortView). p.words.own.id) (sym whole);
     of_run = record {
       alike = of_run.alike;
       passes = of_run.passes;
@@ -102,5 +103,5 @@ module _ (nodes : List Node) (words : WordsId) (queues : List QueueId) where
       allowed = λ f m. refl;
     };
     lawful = subst (λ (ns : List Node). IsLawful ns (beginning_in ns port.words.own.begin) (ThreadAgrees port) bare.trace bare.counts (reached bare))
-        (sym code) lawful;
+        (sym (ap (λ (b : BareView). b.nodes) is)) lawful;
   }

@@ -2,7 +2,6 @@
 use Rattle.std.proofs.Common.{◌≡◌, ℕ, ◌<◌, ◌≤◌, All, Bool, true, Some, None, List, [], ◌∷◌, length, map, slice_get, zero, suc}
 use Rattle.std.proofs.Common.{refl, sym, ◌∙◌, ap, subst, inl, inr, arith}
 use Rattle.std.specs.Prelude.{◌==◌, slice_index, slice_index_or}
-use Rattle.std.specs.List.Sorted.{IsStrictlyIncreasing}
 use Rattle.std.proofs.lemmas.Option.{same_Some}
 use Rattle.std.proofs.lemmas.List.{length-map}
 use Rattle.fx_term.specs.Lists.{Among}
@@ -30,7 +29,7 @@ use Rattle.fx_run.specs.Parted.{Parted, bares_of, parted_at}
 use Rattle.fx_run.specs.Gathered.{AreGathered, AreEntries, ArePasses, IsGathered, AreAllowed}
 use Rattle.fx_run.specs.Reported.{RanCode, AreAscending, report_of, NoneIsLost, IsReported}
 use Rattle.fx_run.specs.EndOfRun.{AreNoted, QueueEnd, IsUntouched, EndsWithReport}
-use Rattle.fx_run.specs.Closing.{AreMarked}
+use Rattle.fx_run.specs.Closing.{AreMarked, IsReportOf}
 use Rattle.fx_run.specs.RunWaits.{IsLawfulWithWaits, all_waits}
 use Rattle.fx_run.proofs.RunWaits.{end_waits, end_waits_named}
 use Rattle.fx_run.proofs.Members.{all_among, found_is}
@@ -75,7 +74,7 @@ none_at [] k le = refl
 none_at (x ∷ xs) zero le = absurd (omega (arith, le))
 none_at (x ∷ xs) (suc k) le = none_at xs k (omega (arith, le))
 
-capacity_at : (queues : List QueueId) (k : ℕ) (i : QueueId) → slice_get queues k ≡ Some i → slice_index (map (λ (j : QueueId). j.cap) queues) k ≡ i.cap
+pub capacity_at : (queues : List QueueId) (k : ℕ) (i : QueueId) → slice_get queues k ≡ Some i → slice_index (map (λ (j : QueueId). j.cap) queues) k ≡ i.cap
 capacity_at [] k i e = let z : ⊥ = cc in absurd z
 capacity_at (j ∷ queues) zero i e = ap (λ (h : QueueId). h.cap) (same_Some j i e)
 capacity_at (j ∷ queues) (suc k) i e = capacity_at queues k i e
@@ -87,7 +86,7 @@ module _ (nodes : List Node) (words : word.WordsId) (queues : List QueueId) (g :
   abbrev pub parted : List Parted
   parted = map (parted_of nodes words queues) h.fibers
 
-  bares_same : bares_of parted ≡ g.bares.items
+  pub bares_same : bares_of parted ≡ g.bares.items
   bares_same = map_twice (λ (p : Parted). p.bare) (parted_of nodes words queues) h.fibers ∙ h.bares
 
   entries : AreEntries parted g.seat.view
@@ -97,7 +96,7 @@ module _ (nodes : List Node) (words : word.WordsId) (queues : List QueueId) (g :
   passes q s at = gathered_as (parted_of nodes words queues) (λ (p : Parted). p.passes q) h.fibers (queue.entries s.view) (h.passes q s at)
 
   -- whose it is
-  whose : (f : ℕ) (p : Parted) → parted_at parted f ≡ Some p → (a : Left) × Among a h.fibers × (p ≡ parted_of nodes words queues a)
+  pub whose : (f : ℕ) (p : Parted) → parted_at parted f ≡ Some p → (a : Left) × Among a h.fibers × (p ≡ parted_of nodes words queues a)
   whose f p at = among_mapped (parted_of nodes words queues) h.fibers p (found_is (λ (x : Parted). x.bare.id == f) parted p at).1
 
   pub ran_so : RanCode nodes g.bares.items
@@ -131,6 +130,22 @@ module _ (nodes : List Node) (words : word.WordsId) (queues : List QueueId) (g :
       queues_long : length queues ≡ length s.capacities
       queues_long = sym (length-map queues (λ (i : QueueId). i.cap)) ∙ ap length capacities
 
+      untouched : (q : ℕ) → length s.capacities ≤ q → IsUntouched q parted
+      untouched q le f p at =
+          let t = whose f p at in
+          let many = t.0.of_run.passes.as_many in
+          let long = queues_long in
+          ap (λ (x : Parted). (x.passes q).acts) t.2
+          ∙ ap (λ o. (entry_by t.0.port.words.own.id o).acts) (none_at t.0.port.passes q (omega (arith, le, many, long)))
+
+      noted_so : (outside : List ℕ) → AreMarked (total s) g.noted outside → AreNoted parted outside
+      noted_so outside told i p at f m =
+          let t = whose i p at in
+          let marked = (h.noted f).1 (t.0, t.1, sym (ap (λ (x : Parted). x.noted f) t.2) ∙ m) in
+          let lt = marked_within g.noted f marked in
+          let long = h.marks in
+          (told f).1 (omega (arith, lt, long, fibers), marked)
+
       module _ (left : List (List Item)) (rests : AreRests g.passes left) where
         queue_ends : (q : ℕ) → q < length s.capacities → QueueEnd q (capacity_of s q) parted (slice_index_or left q [])
         queue_ends q lt =
@@ -147,52 +162,33 @@ module _ (nodes : List Node) (words : word.WordsId) (queues : List QueueId) (g :
               rest = subst (IsRest pass.0.view) (sym (read_at left q items.0 [] items.1)) (rests.each q pass.0 items.0 pass.1 items.1);
             }
 
-        untouched : (q : ℕ) → length s.capacities ≤ q → IsUntouched q parted
-        untouched q le f p at =
-            let t = whose f p at in
-            let many = t.0.of_run.passes.as_many in
-            let long = queues_long in
-            ap (λ (x : Parted). (x.passes q).acts) t.2
-            ∙ ap (λ o. (entry_by t.0.port.words.own.id o).acts) (none_at t.0.port.passes q (omega (arith, le, many, long)))
+      pub ends_so : (may : ℕ → Bool) → AreAllowed may g.noted → seat.IsSettled g.seat.view → (late : ℕ) (answer : ReportView)
+          → IsReportOf s g late answer → EndsWithReport s may answer
+      ends_so may allowed settled late answer r = record {
+        nodes = nodes;
+        fibers = parted;
+        left = r.left;
+        outside = r.outside;
+        late = late;
+        term = term;
+        ran = subst (RanCode nodes) (sym bares_same) ran_so;
+        ascending = ascending_so;
+        noted = noted_so r.outside r.marked;
+        named = record { ascending = r.ascending; named = λ f i. let t = (r.marked f).0 i in (t.0, allowed f t.1) };
+        words = record { view = g.seat.view; gathered = entries; settled = settled };
+        left_by_queue = r.rests.as_many ∙ h.row.as_many ∙ queues_long;
+        queues = queue_ends r.left r.rests;
+        undeclared = untouched;
+        answered = subst (λ bs. IsReported s bs (report_of bs r.left r.outside late) answer) (sym bares_same) r.answered;
+      }
 
-        module _ (outside : List ℕ) (rising : IsStrictlyIncreasing outside) (told : AreMarked (total s) g.noted outside) where
-          noted_so : AreNoted parted outside
-          noted_so i p at f m =
-              let t = whose i p at in
-              let marked = (h.noted f).1 (t.0, t.1, sym (ap (λ (x : Parted). x.noted f) t.2) ∙ m) in
-              let lt = marked_within g.noted f marked in
-              let long = h.marks in
-              (told f).1 (omega (arith, lt, long, fibers), marked)
+      -- and what its blocked fibers wait for, at queues that the script's term names
+      module _ (may : ℕ → Bool) (allowed : AreAllowed may g.noted) (settled : seat.IsSettled g.seat.view) (late : ℕ) (answer : ReportView)
+          (r : IsReportOf s g late answer) (scoped : IsScopedOver (λ f. true) s.term) (waits : List Wait) (are : waits ≡ all_waits g.bares.items) where
+        pub waits_so : IsLawfulWithWaits s may answer waits
+        unfolding ends_so
+        waits_so = end_waits s may answer (ends_so may allowed settled late answer r) scoped waits (are ∙ ap all_waits (sym bares_same))
 
-          pub ends_so : (may : ℕ → Bool) → AreAllowed may g.noted → seat.IsSettled g.seat.view → (late : ℕ) (answer : ReportView)
-              → IsReported s g.bares.items (report_of g.bares.items left outside late) answer → EndsWithReport s may answer
-          ends_so may allowed settled late answer reported = record {
-            nodes = nodes;
-            fibers = parted;
-            left = left;
-            outside = outside;
-            late = late;
-            term = term;
-            ran = subst (RanCode nodes) (sym bares_same) ran_so;
-            ascending = ascending_so;
-            noted = noted_so;
-            named = record { ascending = rising; named = λ f i. let t = (told f).0 i in (t.0, allowed f t.1) };
-            words = record { view = g.seat.view; gathered = entries; settled = settled };
-            left_by_queue = rests.as_many ∙ h.row.as_many ∙ queues_long;
-            queues = queue_ends;
-            undeclared = untouched;
-            answered = subst (λ bs. IsReported s bs (report_of bs left outside late) answer) (sym bares_same) reported;
-          }
-
-          -- and what its blocked fibers wait for, at queues that the script's term names
-          module _ (may : ℕ → Bool) (allowed : AreAllowed may g.noted) (settled : seat.IsSettled g.seat.view) (late : ℕ) (answer : ReportView)
-              (reported : IsReported s g.bares.items (report_of g.bares.items left outside late) answer) (scoped : IsScopedOver (λ f. true) s.term)
-              (waits : List Wait) (are : waits ≡ all_waits g.bares.items) where
-            pub waits_so : IsLawfulWithWaits s may answer waits
-            unfolding ends_so
-            waits_so = end_waits s may answer (ends_so may allowed settled late answer reported) scoped waits (are ∙ ap all_waits (sym bares_same))
-
-            pub waits_named_so : (n : ℕ) → NamesQueuesBelow n s.term → All (WaitsAtQueueBelow n) waits
-            unfolding ends_so
-            waits_named_so n names =
-                end_waits_named s may answer (ends_so may allowed settled late answer reported) scoped n names waits (are ∙ ap all_waits (sym bares_same))
+        pub waits_named_so : (n : ℕ) → NamesQueuesBelow n s.term → All (WaitsAtQueueBelow n) waits
+        unfolding ends_so
+        waits_named_so n names = end_waits_named s may answer (ends_so may allowed settled late answer r) scoped n names waits (are ∙ ap all_waits (sym bares_same))

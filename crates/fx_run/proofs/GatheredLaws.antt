@@ -101,11 +101,12 @@ module _ (nodes : List Node) (words : word.WordsId) (queues : List QueueId) wher
       ]
 
   -- of the main fiber what it had itself
-  pub gathered_first : (a : Apart nodes words queues) (g : Gathered) → a.port.words.own.id ≡ 0 → g.bares.items ≡ a.bare ∷ [] → word.IsOf g.seat words
+  pub gathered_first : (a : Apart nodes words queues) (g : Gathered) (before : List BareView) → a.port.words.own.id ≡ 0 → before ≡ []
+      → g.bares.items ≡ before ++ a.bare ∷ [] → word.IsOf g.seat words
       → g.seat.view ≡ a.port.words → g.passes ≡ a.port.passes → g.noted ≡ a.port.noted → IsGathered nodes words queues g
-  gathered_first a g main bares seat_of seat passes noted = record {
+  gathered_first a g before main none bares seat_of seat passes noted = record {
     fibers = a ∷ [];
-    bares = sym bares;
+    bares = sym (bares ∙ ap (λ (l : List BareView). l ++ a.bare ∷ []) none);
     seat_of = seat_of;
     main = ap (λ (v : SeatView). v.own.id) seat ∙ main;
     entries = first_of (λ (x : Apart nodes words queues). x.port.words.own) a g.seat.view.own g.seat.view.taken
@@ -158,7 +159,8 @@ module _ (nodes : List Node) (words : word.WordsId) (queues : List QueueId) wher
             joined_each g.passes a.port.passes q u (many ∙ sym same) (ap (λ l. slice_get l q) (sym passes) ∙ at)
 
 -- no number is marked but such as may be named
-pub allowed_more : (may : ℕ → Bool) (marks other all : List Bool) → AreAllowed may marks → AreAllowed may other → all ≡ joined_marks marks other → AreAllowed may all
+pub allowed_more : (may : ℕ → Bool) (marks other all : List Bool) → AreAllowed may marks → AreAllowed may other
+    → all ≡ joined_marks marks other → AreAllowed may all
 allowed_more may marks other all h k is f m =
     ⊎_elim (h f) (k f) (joined_from marks other f (sym (ap (λ l. is_marked l f) is) ∙ m))
 

@@ -12,6 +12,7 @@ pub mod MarkedNumbers
 pub mod EndLaws
 pub mod Declared
 pub mod CloseFaults
+pub mod RefusalLaws
 pub mod Starters
 pub mod Lawful
 pub mod RunWaits

@@ -40,4 +40,5 @@ told_as_well marks numbers n here told f = (
 pub rising_more : (marks : List Bool) (numbers : List ℕ) (n : ℕ) → AllPairs (λ (i j : ℕ). i < j) numbers
     → AreMarked n marks numbers → AllPairs (λ (i j : ℕ). i < j) (numbers ++ n ∷ [])
 rising_more marks numbers n rising told =
-    all_pairs_push (λ (i j : ℕ). i < j) numbers n rising (λ k d lt. ((told (get_or numbers k d)).0 (k, lt, get_or_default numbers k (get_or numbers k d) d lt)).0)
+    all_pairs_push (λ (i j : ℕ). i < j) numbers n rising
+    (λ k d lt. ((told (get_or numbers k d)).0 (k, lt, get_or_default numbers k (get_or numbers k d) d lt)).0)

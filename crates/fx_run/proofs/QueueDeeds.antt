@@ -12,7 +12,7 @@ use Rattle.fx_fiber.specs.Deed.{Deed, AreDeedsOf, AreDeeds, queue_deed, queue_de
 use Rattle.fx_model.proofs.StepLabels.{IsProper, step_tells}
 
 -- so it is for one label: a queue that was found full or empty is no event of it
-queue_label : (nodes : List Node) (q f : ℕ) (l : Label) (ds : List Deed) → IsProper l → AreDeedsOf nodes l ds
+pub queue_label : (nodes : List Node) (q f : ℕ) (l : Label) (ds : List Deed) → IsProper l → AreDeedsOf nodes l ds
     → queue_deeds q f ds ≡ queue_events q f (events (l ∷ []))
 queue_label nodes q f Silent ds p e = ap (queue_deeds q f) e
 queue_label nodes q f (Starts g b) ds p (begin, same, e) = ap (queue_deeds q f) e

@@ -12,5 +12,6 @@ pub mod EndOfRun
 pub mod Flows
 pub mod Told
 pub mod Between
+pub mod Refusals
 pub mod RunWaits
 pub mod Example

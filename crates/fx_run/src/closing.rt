@@ -11,7 +11,8 @@ ghost use Rattle.fx_run.specs.Gathered.{IsGathered, AreAllowed};
 ghost use Rattle.fx_report.specs.Text.{queue_names, IsWritable};
 ghost use Rattle.fx_report.specs.Waits.{WaitsAtQueueBelow};
 ghost use Rattle.fx_run.specs.RunWaits.{IsLawfulWithWaits};
-ghost use Rattle.fx_run.specs.Closing.{AreMarked, IsCloseFault};
+ghost use Rattle.fx_run.specs.Refusals.{AreRefusalsTrue};
+ghost use Rattle.fx_run.specs.Closing.{AreMarked, IsReportOf, IsCloseFault};
 
 use crate::gathered::Gathered;
 use crate::halt::Halt;
@@ -57,12 +58,16 @@ pub(crate) fn close_run<R: Wait>(
     requires fibers { words.fibers ≡ total (script_of (meaning script.now)) }
     requires capacities { map (λ (i : QueueId). i.cap) queues.items
         ≡ (script_of (meaning script.now)).capacities }
+    ensures report { IfOk result
+        (λ halt. IsReportOf (script_of (meaning script.now)) gathered late halt.report) }
     ensures halted { (may : ℕ → Bool) → AreAllowed may gathered.noted
         → IfOk result (λ halt. IsLawfulWithWaits (script_of (meaning script.now)) may
         halt.report halt.waits.items) }
     ensures promised { (may : ℕ → Bool) → AreAllowed may gathered.noted
         → IfOk result (λ halt. KeepsWhatIsPromised (script_of (meaning script.now)) may
         halt.report) }
+    ensures refusals { IfOk result
+        (λ halt. AreRefusalsTrue (script_of (meaning script.now)) halt.report) }
     ensures writable { script.now.code.queues ≤ length script.now.queues.items
         → IfOk result (λ halt. IsWritable (queue_names (meaning script.now)) halt.report) }
     ensures named { script.now.code.queues ≤ length script.now.queues.items

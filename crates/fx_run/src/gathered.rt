@@ -92,13 +92,14 @@ pub(crate) fn gather_all<'a, R: Wait, N: RunBrand>(
     requires code { code.now.nodes ≡ N.nodes }
     requires ascending { IsStrictlyIncreasing
         (map (λ (f : FiberView PortView). f.port.words.own.id) fibers.items) }
-    ensures gathered { IfOk result (λ g. IsGathered N.nodes N.words N.queues g) }
+    ensures gathered { IfOk result
+        (λ g. IsGathered code.now.nodes words.now queues.now g) }
     ensures bares { IfOk result
-        (λ g. g.bares.items ≡ map (without_port N.nodes) fibers.entry.items) }
+        (λ g. g.bares.items ≡ map (without_port code.now.nodes) fibers.entry.items) }
     ensures ascending { IfOk result (λ g. AreAscending g.bares.items) }
     ensures allowed { IfOk result (λ g. AreAllowed N.may g.noted) }
     ensures fault { IfErr result
-        (λ fault. IsLostFault (map (without_port N.nodes) fibers.entry.items) fault) }
+        (λ fault. IsLostFault (map (without_port code.now.nodes) fibers.entry.items) fault) }
 {
     let mut fibers = fibers.into_iter();
     let Some(main) = fibers.next() else {

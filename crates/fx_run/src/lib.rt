@@ -21,6 +21,12 @@
 //! | [`laws::gathering`] | seats and passes that took in those of all fibers given can be closed, where no fiber is lost |
 //! | [`laws::reports`] | the report of a run that has ended so is lawful, and keeps what is promised |
 //!
+//! Once no fiber can step any more, the fibers are parted from their ports, ascending, and what each port
+//! had is taken in by what the main fiber's had, one after the other. With that the words and the queues
+//! are closed, and the report is answered. Where a trace of it tells that a queue was found full, or
+//! empty, there was a moment at which it was: a legal history that leaves it so begins with what the
+//! fiber had seen by then, and has just the fiber's own puts and gets before that refusal.
+//!
 //! [`report`] tests the last line and answers that report, or why there is none. It lays what the traces
 //! tell down by fiber number, in one pass over them:
 //!

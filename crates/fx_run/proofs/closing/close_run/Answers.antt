@@ -11,11 +11,11 @@ use Rattle.fx_report.specs.Script.{script_of}
 use Rattle.fx_report.specs.Waits.{WaitsAtQueueBelow}
 use Rattle.fx_report.proofs.QueueNames.{names_declared}
 use Rattle.fx_report.proofs.WritableReports.{lawful_is_writable}
-use Rattle.fx_run.specs.Reported.{RanCode, NoneIsLost, report_of}
+use Rattle.fx_run.specs.Reported.{RanCode, NoneIsLost}
 use Rattle.fx_run.specs.RunWaits.{all_waits}
-use Rattle.fx_run.specs.RunFault.{IsReportFault}
-use Rattle.fx_run.specs.Closing.{AreMarked, IsCloseFault}
+use Rattle.fx_run.specs.Closing.{AreMarked}
 use Rattle.fx_run.proofs.CloseFaults.{lost_so, reported_so}
+use Rattle.fx_run.proofs.RefusalLaws.{refusals_true}
 use Rattle.fx_run.proofs.EndLaws.{all_below, ran_so, seat_whole, passes_whole, waits_so, waits_named_so}
 use Rattle.fx_run.proofs.closing.close_run.Goals as goal
 
@@ -48,18 +48,27 @@ waits_of-requires g c =
     subst (RanCode c.args.script.now.code.nodes) (sym c.deref-2.ensures.value)
     (ran_so c.args.script.now.code.nodes c.args.words c.args.queues.items c.args.gathered c.requires.gathered)
 
+pub returns-clause-report : goal.returns-clause-report
+returns-clause-report g c =
+    let outside = c.in_ok-outside.outside.items in
+    record {
+      left = map (λ items. items.items) c.in_ok-left.left.items;
+      outside = outside;
+      rests = c.in_ok-left.ensures;
+      ascending = c.in_ok-outside.ensures.ascending;
+      marked = subst (λ (n : ℕ). AreMarked n c.args.gathered.noted outside) (ap (λ (b : Begin). b.end) c.main_begin-numbers.ensures.begin)
+          c.in_ok-outside.ensures.marked;
+      answered = c.in_ok-report.ensures.report;
+    }
+
 pub returns-clause-halted : goal.returns-clause-halted
 returns-clause-halted g c may allowed =
     let s = script_of (meaning c.args.script.now) in
     let nodes = c.args.script.now.code.nodes in
-    let left = map (λ items. items.items) c.in_ok-left.left.items in
-    let outside = c.in_ok-outside.outside.items in
     let lost = subst NoneIsLost c.deref.ensures.value c.in_ok-test_for_lost.ensures.whole in
-    let told = subst (λ (n : ℕ). AreMarked n c.args.gathered.noted outside) (ap (λ (b : Begin). b.end) c.main_begin-numbers.ensures.begin)
-    c.in_ok-outside.ensures.marked in
     waits_so nodes c.args.words c.args.queues.items c.args.gathered c.requires.gathered lost c.requires.ascending s refl c.requires.fibers c.requires.capacities
-    left c.in_ok-left.ensures outside c.in_ok-outside.ensures.ascending told may allowed c.close.ensures c.args.late _ c.in_ok-report.ensures.report
-    (code_is_scoped (λ f. true) nodes c.main_begin-numbers.ensures.code) _ (c.in_ok-waits.ensures ∙ ap all_waits c.deref-2.ensures.value)
+    may allowed c.close.ensures c.args.late _ (returns-clause-report g c) (code_is_scoped (λ f. true) nodes c.main_begin-numbers.ensures.code) _
+    (c.in_ok-waits.ensures ∙ ap all_waits c.deref-2.ensures.value)
 
 pub returns-clause-promised : goal.returns-clause-promised
 returns-clause-promised g c may allowed =
@@ -67,6 +76,11 @@ returns-clause-promised g c may allowed =
     let core = code_is_core c.args.script.now.code.nodes c.main_begin-numbers.ensures.code in
     let lawful = (returns-clause-halted g c may allowed).lawful in
     record { lawful = lawful; promised = lawful_report_holds s may _ core lawful }
+
+pub returns-clause-refusals : goal.returns-clause-refusals
+returns-clause-refusals g c =
+    refusals_true c.args.script.now.code.nodes c.args.words c.args.queues.items (script_of (meaning c.args.script.now)) c.requires.capacities c.args.gathered
+    c.requires.gathered c.args.late _ (returns-clause-report g c)
 
 pub returns-clause-writable : goal.returns-clause-writable
 returns-clause-writable g c le =
@@ -76,17 +90,12 @@ returns-clause-writable g c le =
 pub returns-clause-named : goal.returns-clause-named
 returns-clause-named g c le =
     let m = meaning c.args.script.now in
-    let s = script_of m in
     let nodes = c.args.script.now.code.nodes in
-    let left = map (λ items. items.items) c.in_ok-left.left.items in
-    let outside = c.in_ok-outside.outside.items in
     let lost = subst NoneIsLost c.deref.ensures.value c.in_ok-test_for_lost.ensures.whole in
-    let told = subst (λ (n : ℕ). AreMarked n c.args.gathered.noted outside) (ap (λ (b : Begin). b.end) c.main_begin-numbers.ensures.begin)
-    c.in_ok-outside.ensures.marked in
     subst (λ (n : ℕ). All (WaitsAtQueueBelow n) c.in_ok-waits.waits.items) (sym (length-map m.queues (λ (q : List ℕ × ℕ). q.0)))
-    (waits_named_so nodes c.args.words c.args.queues.items c.args.gathered c.requires.gathered lost c.requires.ascending s refl c.requires.fibers
-    c.requires.capacities left c.in_ok-left.ensures outside c.in_ok-outside.ensures.ascending told (λ f. true) (λ f marked. refl) c.close.ensures c.args.late _
-    c.in_ok-report.ensures.report (code_is_scoped (λ f. true) nodes c.main_begin-numbers.ensures.code) _ (c.in_ok-waits.ensures ∙ ap all_waits c.deref-2.ensures.value) (length m.queues)
+    (waits_named_so nodes c.args.words c.args.queues.items c.args.gathered c.requires.gathered lost c.requires.ascending (script_of m) refl c.requires.fibers
+    c.requires.capacities (λ f. true) (λ f marked. refl) c.close.ensures c.args.late _ (returns-clause-report g c)
+    (code_is_scoped (λ f. true) nodes c.main_begin-numbers.ensures.code) _ (c.in_ok-waits.ensures ∙ ap all_waits c.deref-2.ensures.value) (length m.queues)
     (names_declared c.args.script.now c.main_begin-numbers.ensures.code le))
 
 pub returns-in_err-test_for_lost-clause-fault : goal.returns-in_err-test_for_lost-clause-fault

@@ -5,7 +5,7 @@ use Rattle.fx_run.proofs.gathered.gather_all.Goals as goal
 
 pub returns-then-id-ne0-clause-fault : goal.returns-then-id-ne0-clause-fault
 returns-then-id-ne0-clause-fault g c =
-    main_is_lost g.N.RunBrand.nodes c.args.fibers.items c.in-Some.main c.next.new.self.rest.items (search rules) c.requires.ascending
+    main_is_lost c.args.code.now.nodes c.args.fibers.items c.in-Some.main c.next.new.self.rest.items (search rules) c.requires.ascending
     (λ e. c.if-id-ne0.true (c.id.ensures.is ∙ e))
 
 pub returns-clause-ascending : goal.returns-clause-ascending

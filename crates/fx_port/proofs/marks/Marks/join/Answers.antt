@@ -15,7 +15,8 @@ loop-place-preserved c =
     let count = c.len-place-end.ensures in
     let long = c.other.inside.row.ok.0 in
     let read : is_marked c.args.other.now k ≡ c.index.result.now =
-    ap (λ l. is_marked l k) (sym c.other.view_is) ∙ mark_read c.other.inside.row.items k c.index.result.now (omega (arith, here, count, long)) c.index.ensures in
+    ap (λ l. is_marked l k) (sym c.other.view_is)
+    ∙ mark_read c.other.inside.row.items k c.index.result.now (omega (arith, here, count, long)) c.index.ensures in
     elim c.if-index.branch [
       | then-index w ↦ (w.self-is ∙ (w.set.ensures ∙ (ap (λ l. set l k true) c.loop-place.invariant
           ∙ (joined_marked c.args.self.now c.args.other.now k (read ∙ w.if-index.true) ∙ more))))

@@ -1,5 +1,4 @@
-use Rattle.std.proofs.Common.{◌∙◌, ◌++◌, ◌∷◌, [], sym, ap}
-use Rattle.fx_fiber.specs.Bare.{BareView}
+use Rattle.std.proofs.Common.{◌∙◌, sym, ap}
 use Rattle.fx_port.specs.Marks.{is_marked}
 use Rattle.fx_port.specs.PortView.{PortView}
 use Rattle.fx_run.proofs.Apart.{apart_of}
@@ -11,13 +10,11 @@ returns-clause-gathered g c =
     let part = c.part-bare.ensures in
     let told = c.into_parts-seat.ensures in
     gathered_first g.N.RunBrand.nodes g.N.RunBrand.words g.N.RunBrand.queues
-    (apart_of g.N.RunBrand.nodes g.N.RunBrand.words g.N.RunBrand.queues g.N.RunBrand.may c.part-bare.result.0 c.part-bare.result.1
-    (ap (λ (b : BareView). b.nodes) part.bare)
-    (ap (λ (b : BareView). b.id) part.bare ∙ ap (λ (p : PortView). p.words.own.id) (sym part.port))
-    told.of_run part.lawful)
+    (apart_of g.N.RunBrand.nodes g.N.RunBrand.words g.N.RunBrand.queues g.N.RunBrand.may c.args.main c.part-bare.result.0 c.part-bare.result.1
+    part.bare part.port told.of_run part.lawful)
     (record { bares = c.push.new.self; seat = c.into_parts-seat.result.0; passes = c.into_parts-seat.result.1; noted = c.into_parts-seat.result.2 })
-    (ap (λ (p : PortView). p.words.own.id) part.port ∙ c.requires.main)
-    (c.in_ok-push.ensures.items ∙ ap (λ l. l ++ c.part-bare.result.0 ∷ []) c.new-bares.ensures.items)
+    c.new-bares.result.items (ap (λ (p : PortView). p.words.own.id) part.port ∙ c.requires.main)
+    c.new-bares.ensures.items c.in_ok-push.ensures.items
     told.seat.0 told.seat.1 told.passes.0 told.noted
 
 pub returns-clause-allowed : goal.returns-clause-allowed

@@ -1,6 +1,4 @@
-use Rattle.std.proofs.Common.{◌∙◌, sym, ap}
-use Rattle.fx_fiber.specs.Bare.{BareView}
-use Rattle.fx_port.specs.PortView.{PortView}
+use Rattle.std.proofs.Common.{◌∙◌, ap}
 use Rattle.fx_port.specs.Marks.{joined_marks}
 use Rattle.fx_run.proofs.Apart.{apart_of}
 use Rattle.fx_run.proofs.GatheredLaws.{gathered_more, allowed_more}
@@ -11,10 +9,8 @@ returns-clause-gathered g c =
     let part = c.part-bare.ensures in
     let told = c.gather-noted.ensures in
     gathered_more g.N.RunBrand.nodes g.N.RunBrand.words g.N.RunBrand.queues c.args.self.now c.requires.gathered
-    (apart_of g.N.RunBrand.nodes g.N.RunBrand.words g.N.RunBrand.queues g.N.RunBrand.may c.part-bare.result.0 c.part-bare.result.1
-    (ap (λ (b : BareView). b.nodes) part.bare)
-    (ap (λ (b : BareView). b.id) part.bare ∙ ap (λ (p : PortView). p.words.own.id) (sym part.port))
-    told.of_run part.lawful)
+    (apart_of g.N.RunBrand.nodes g.N.RunBrand.words g.N.RunBrand.queues g.N.RunBrand.may c.args.fiber c.part-bare.result.0 c.part-bare.result.1
+    part.bare part.port told.of_run part.lawful)
     (record { bares = c.push.new.self; seat = c.gather-noted.new.seat; passes = c.gather-noted.new.passes; noted = c.join.new.self })
     c.in_ok-push.ensures.items told.table told.seat told.passes told.row
     (c.join.ensures ∙ ap (joined_marks c.args.self.now.noted) told.noted)
