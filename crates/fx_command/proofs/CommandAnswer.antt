@@ -1,5 +1,6 @@
 -- What a command answers, from what was read and what was written.
-use Rattle.std.proofs.Common.{◌≡◌, ℕ, Option, Some, None, Result, Ok, Err, List, [], string_bytes, refl, sym, ◌∙◌, ap, inl, inr, option_map, IfSome, IfOk, IfErr}
+use Rattle.std.proofs.Common.{◌≡◌, ℕ, Option, Some, None, Result, Ok, Err, List, [], string_bytes, refl, sym, ◌∙◌, ap, inl, inr, option_map}
+use Rattle.std.proofs.Common.{IfSome, IfOk, IfErr}
 use Rattle.std.specs.Io.KnownBytes.{Appends, Keeps}
 use Rattle.fx_text.specs.declared.pick.Pick.{Pick}
 use Rattle.fx_text.specs.Meaning.{Meaning}

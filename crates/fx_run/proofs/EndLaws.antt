@@ -191,4 +191,5 @@ module _ (nodes : List Node) (words : word.WordsId) (queues : List QueueId) (g :
 
         pub waits_named_so : (n : ℕ) → NamesQueuesBelow n s.term → All (WaitsAtQueueBelow n) waits
         unfolding ends_so
-        waits_named_so n names = end_waits_named s may answer (ends_so may allowed settled late answer r) scoped n names waits (are ∙ ap all_waits (sym bares_same))
+        waits_named_so n names =
+            end_waits_named s may answer (ends_so may allowed settled late answer r) scoped n names waits (are ∙ ap all_waits (sym bares_same))

@@ -223,7 +223,8 @@ module _ (nodes : List Node) (ps : List Parted) (ran : RanCode nodes (bares_of p
       where
         most : starts_of f p.bare.trace ≤ 1
         most = subst (λ (es : List Event). starts_of f es ≤ 1) p.lawful.traced
-            (starts_at_most_once (origin_of p.bare.nodes (beginning_in p.bare.nodes p.words.begin)) p.lawful.labels p.bare.counts (reached p.bare) f p.lawful.run)
+            (starts_at_most_once (origin_of p.bare.nodes (beginning_in p.bare.nodes p.words.begin)) p.lawful.labels p.bare.counts (reached p.bare) f
+            p.lawful.run)
 
         by_count : (n : ℕ) → starts_of f p.bare.trace ≡ n → starts_of f p.bare.trace ≡ (if is_parent (parent_in told f) g then 1 else 0)
         by_count zero is = rw (not_named f g p at is (parent_in told f) refl) is

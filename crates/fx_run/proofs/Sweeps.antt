@@ -40,7 +40,8 @@ module _ (nodes : List Node) (s : ScriptView) (resting : List (FiberView PortVie
   all_rest = sym (swept.resting_are ∙ none.whole)
 
   pub still_ascending : IsStrictlyIncreasing (map (λ (f : FiberView PortView). f.port.words.own.id) resting)
-  still_ascending = subst (λ (fs : List (FiberView PortView)). IsStrictlyIncreasing (map (λ (f : FiberView PortView). f.port.words.own.id) fs)) all_rest swept.ascending
+  still_ascending =
+      subst (λ (fs : List (FiberView PortView)). IsStrictlyIncreasing (map (λ (f : FiberView PortView). f.port.words.own.id) fs)) all_rest swept.ascending
 
   pub none_can_go : NoneCanGo nodes s resting
   none_can_go = subst (λ (fs : List (FiberView PortView)). NoneCanGo nodes s fs) all_rest none.each
