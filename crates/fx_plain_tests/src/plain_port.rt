@@ -113,10 +113,10 @@ fn elements_are_taken_in_the_order_in_which_they_were_put(rt: HostRuntime) -> Re
     Ok(())
 }
 
-/// What is left in queue 1. Queue 0 has no place, and there is no queue 2.
+/// What is left in the queues 0 and 1. Queue 0 has one place, and there is no queue 2.
 static LEFT: Row = Row {
     script: b"(queue p 1) (queue q 2) (queue r 1) (main (start h (offer q 6) (seq (offer q 5) (take q) \
-        (offer q 7) (tryoffer p 8) (tryoffer r 9) (trytake r x (pure x) (pure 4)))))",
+        (offer q 7) (offer p 3) (tryoffer p 8) (tryoffer r 9) (trytake r x (pure x) (pure 4)))))",
     picks: &[Step(0), Step(0), Step(1)],
     traces: &[
         &[
@@ -124,6 +124,7 @@ static LEFT: Row = Row {
             Event::Put(1, 5),
             Event::Got(1, 5),
             Event::Put(1, 7),
+            Event::Put(0, 3),
             Event::Refused(0),
             Event::Refused(2),
             Event::Empty(2),
@@ -132,7 +133,11 @@ static LEFT: Row = Row {
         &[Event::Put(1, 6), Event::Ended(Succeeded(0))],
     ],
     left: &[
-        &[],
+        &[Item {
+            fiber: 0,
+            nth: 0,
+            value: 3,
+        }],
         &[
             Item {
                 fiber: 1,
@@ -148,19 +153,16 @@ static LEFT: Row = Row {
     ],
 };
 
-/// The script of a text, but that its first queue has no place, and its last one is not there.
-fn without_queues(alloc: Global, text: &[u8]) -> Result<Script, Fail> {
+/// The script of a text, but that its last queue is not there.
+fn without_last_queue(alloc: Global, text: &[u8]) -> Result<Script, Fail> {
     let mut script = parse(alloc, text)?;
-    if let Some(first) = script.queues.first_mut() {
-        first.cap = 0;
-    }
     let _ = script.queues.pop();
     Ok(script)
 }
 
 #[test]
 fn what_is_left_has_its_fiber_and_its_number_there(rt: HostRuntime) -> Result<(), Fail> {
-    let script = without_queues(rt.alloc(), LEFT.script)?;
+    let script = without_last_queue(rt.alloc(), LEFT.script)?;
     assert!(rt; tells(&replay(rt.alloc(), &script, LEFT.picks)?, &LEFT));
     Ok(())
 }
