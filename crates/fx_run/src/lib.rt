@@ -1,4 +1,4 @@
-//! What a run of fibers on threads tells when it has ended.
+//! Runs a script's fibers on threads, and tells what the run came to when it has ended.
 //!
 //! Nobody sees an order in which the fibers of several threads step. What is known at the end is what
 //! each fiber knows of itself, and what closing the words and the queues tells:
