@@ -1,10 +1,9 @@
 -- The resources that a fiber acquires are numbered by its count of them.
-use Rattle.std.proofs.Common.{◌≡◌, ℕ, zero, suc, ◌+◌, ◌<◌, Bool, false, nat_eq, List, [], ◌∷◌, ◌++◌, refl, ap, arith}
+use Rattle.std.proofs.Common.{◌≡◌, ℕ, zero, suc, ◌+◌, ◌<◌, false, nat_eq, List, [], ◌∷◌, ◌++◌, refl, ap, arith}
 use Rattle.std.specs.List.{IsDistinct, AllByRecursion, range_with_len}
 use Rattle.std.proofs.lemmas.Bool.{ne_eqb}
 use Rattle.std.proofs.lemmas.List.Elements.{filter_map-append}
 use Rattle.std.proofs.lemmas.Map.Keys.{IsDistinct-cons}
-use Rattle.fx_term.specs.Term.{Term}
 use Rattle.fx_model.specs.Origin.{Origin}
 use Rattle.fx_model.specs.Row.{Counts, Label}
 use Rattle.fx_model.specs.Step.{Progress}

@@ -1,10 +1,8 @@
 -- A fiber that has not ended, and cannot step, stands at a leaf that waits.
-use Rattle.std.proofs.Common.{◌≡◌, ℕ, Bool, true, false, Option, Some, None, All, List, refl, sym, ◌∙◌, ap, subst}
-use Rattle.std.specs.Prelude.{◌&&◌, ◌||◌, not, option_and_then}
-use Rattle.std.proofs.lemmas.Option.{none-some}
+use Rattle.std.proofs.Common.{◌≡◌, ℕ, Bool, true, false, Option, Some, None, All, List, refl, sym, ◌∙◌}
+use Rattle.std.specs.Prelude.{◌&&◌, ◌||◌, option_and_then}
 use Rattle.std.proofs.lemmas.List.Elements.{All-weaker}
 use Rattle.fx_term.specs.Script.{ScriptView}
-use Rattle.fx_term.specs.Term.{Term}
 use Rattle.fx_model.specs.Path.{leaf, is_open, must_cancel}
 use Rattle.fx_model.specs.Row.{Counts, Label, Starts}
 use Rattle.fx_model.specs.Origin.{Origin}

@@ -1,17 +1,14 @@
 -- The labels that show an event, by what kind of event it is.
-use Rattle.std.proofs.Common.{◌≡◌, ℕ, zero, suc, Bool, Some, List, [], ◌∷◌, All, refl, ap, subst}
+use Rattle.std.proofs.Common.{◌≡◌, ℕ, zero, suc, Some, List, [], ◌∷◌, All, refl, ap, subst}
 use Rattle.std.specs.Prelude.{slice_get}
 use Rattle.std.proofs.lemmas.Option.{none-some, same_Some}
 use Rattle.std.proofs.lemmas.List.Elements.{All-nil, All-cons}
 use Rattle.fx_term.specs.declared.outcome.Outcome.{Outcome}
 use Rattle.fx_term.specs.declared.event.Event.{Event}
 use Rattle.fx_term.specs.declared.event.Event.TheVariants as event
-use Rattle.fx_term.specs.Term.{Term}
-use Rattle.fx_model.specs.Row.{Counts, Label, Silent, Shows, Learns, Starts, Row}
-use Rattle.fx_model.specs.Row as row
+use Rattle.fx_model.specs.Row.{Counts, Label, Silent, Shows, Learns, Starts}
 use Rattle.fx_model.specs.Origin.{Origin}
-use Rattle.fx_model.specs.Step.{Progress, Step}
-use Rattle.fx_model.specs.Step as step
+use Rattle.fx_model.specs.Step.{Progress}
 use Rattle.fx_model.specs.Run.{Leads, events, shown}
 use Rattle.fx_model.specs.Causes.{IsLearning}
 use Rattle.fx_model.proofs.StepLabels.{IsProper, step_tells}

@@ -29,17 +29,17 @@ module _ (s : ScriptView) (r : ReportView) (starters : HasStarters r) (runs : Ha
       starters.once p y at_p f ∙ (rw named (rw (eq-eqb p p refl) refl))
 
   -- the start of a fiber in its parent's run
-  start_told : (f p : ℕ) (x y : FiberReportView) → fiber_in r f ≡ Some x → x.parent ≡ Some p → fiber_in r p ≡ Some y → HasStart (runs.labels p) f
+  pub start_told : (f p : ℕ) (x y : FiberReportView) → fiber_in r f ≡ Some x → x.parent ≡ Some p → fiber_in r p ≡ Some y → HasStart (runs.labels p) f
   start_told f p x y at parent at_p =
       let all = run_starts (runs.origin p) (runs.labels p) (runs.counts p) (runs.progress p) (runs.run p y at_p).run in
       start_of_trace (runs.origin p).next (runs.labels p) f 0 all (ap (starts_of f) (runs.run p y at_p).trace ∙ started_once f p x y at parent at_p)
 
   -- it says what the fiber begins with
-  begin_told : (f p : ℕ) (y : FiberReportView) → fiber_in r p ≡ Some y → (h : HasStart (runs.labels p) f) → runs.origin f ≡ h.origin
+  pub begin_told : (f p : ℕ) (y : FiberReportView) → fiber_in r p ≡ Some y → (h : HasStart (runs.labels p) f) → runs.origin f ≡ h.origin
   begin_told f p y at_p h = All-contains (BeginsAs runs.origin) (runs.labels p) (Starts f h.origin) (origins.child p y at_p) h.holds
 
   -- what a fiber begins with, by its parent
-  child_begins : (f p : ℕ) (x y : FiberReportView) → fiber_in r f ≡ Some x → x.parent ≡ Some p → fiber_in r p ≡ Some y
+  pub child_begins : (f p : ℕ) (x y : FiberReportView) → fiber_in r f ≡ Some x → x.parent ≡ Some p → fiber_in r p ≡ Some y
       → StartsRightly (runs.origin p).next f (runs.origin f)
   child_begins f p x y at parent at_p =
       let h = start_told f p x y at parent at_p in
@@ -49,35 +49,39 @@ module _ (s : ScriptView) (r : ReportView) (starters : HasStarters r) (runs : Ha
       subst (λ (b : Origin). StartsRightly (runs.origin p).next f b) (sym (begin_told f p y at_p h)) right
 
   -- a fiber has numbers above its own
-  numbers_above : (f : ℕ) (x : FiberReportView) → fiber_in r f ≡ Some x → f < (runs.origin f).next
+  pub numbers_above : (f : ℕ) (x : FiberReportView) → fiber_in r f ≡ Some x → f < (runs.origin f).next
   numbers_above f x at = elim (cases_eq f 0) [
     | inl e ↦ subst (λ (n : ℕ). n < (runs.origin n).next) (sym e) (rw origins.main (omega arith))
     | inr ne ↦ (let h = starters.others f x at ne in let c = child_begins f h.0 x h.1 at h.2 h.3 in let e = c.next in omega arith)
   ]
 
-  -- what is so of the main fiber's beginning, and of what a fiber starts where it is so of its own, is so of each fiber's
-  module _ (IsSo : Origin → Type 0)
-      (starts_so : (b : Origin) (ls : List Label) (c : Counts) (p : Progress) → IsSo b → IsRun b ls c p → All (StartsSo IsSo) ls) where
-    child_begins_so : (f p : ℕ) (x y : FiberReportView) → fiber_in r f ≡ Some x → x.parent ≡ Some p → fiber_in r p ≡ Some y → IsSo (runs.origin p)
-        → IsSo (runs.origin f)
-    child_begins_so f p x y at parent at_p so =
-        let h = start_told f p x y at parent at_p in
-        let all = starts_so (runs.origin p) (runs.labels p) (runs.counts p) (runs.progress p) so (runs.run p y at_p).run in
-        subst IsSo (sym (begin_told f p y at_p h)) (All-contains (StartsSo IsSo) (runs.labels p) (Starts f h.origin) all h.holds)
-
-    begins_below : IsSo (main_origin s.term) → (n f : ℕ) → f < n → (x : FiberReportView) → fiber_in r f ≡ Some x → IsSo (runs.origin f)
-    begins_below so zero f lt x at = absurd (omega arith)
-    begins_below so (suc n) f lt x at = elim (cases_eq f 0) [
-      | inl e ↦ subst (λ (k : ℕ). IsSo (runs.origin k)) (sym e) (subst IsSo (sym origins.main) so)
+  -- what is so of the main fiber, and of each fiber whose starter it is so of, is so of each fiber of the report
+  module _ (IsSo : ℕ → Type 0) (main : IsSo 0)
+      (child : (p : ℕ) (y : FiberReportView) → fiber_in r p ≡ Some y → IsSo p → (f : ℕ) → HasStart (runs.labels p) f → IsSo f) where
+    so_below : (n f : ℕ) → f < n → (x : FiberReportView) → fiber_in r f ≡ Some x → IsSo f
+    so_below zero f lt x at = absurd (omega arith)
+    so_below (suc n) f lt x at = elim (cases_eq f 0) [
+      | inl e ↦ subst IsSo (sym e) main
       | inr ne ↦
           (let h = starters.others f x at ne in
           let above = numbers_above h.0 h.1 h.3 in
           let least = (child_begins f h.0 x h.1 at h.2 h.3).least in
-          child_begins_so f h.0 x h.1 at h.2 h.3 (begins_below so n h.0 (omega arith) h.1 h.3))
+          child h.0 h.1 h.3 (so_below n h.0 (omega arith) h.1 h.3) f (start_told f h.0 x h.1 at h.2 h.3))
     ]
 
-    pub each_begins_so : IsSo (main_origin s.term) → (f : ℕ) (x : FiberReportView) → fiber_in r f ≡ Some x → IsSo (runs.origin f)
-    each_begins_so so f x at = begins_below so (suc f) f (omega arith) x at
+    pub each_so : (f : ℕ) (x : FiberReportView) → fiber_in r f ≡ Some x → IsSo f
+    each_so f x at = so_below (suc f) f (omega arith) x at
+
+  -- what is so of the main fiber's beginning, and of what a fiber starts where it is so of its own, is so of each fiber's
+  pub each_begins_so : (IsSo : Origin → Type 0)
+      → ((b : Origin) (ls : List Label) (c : Counts) (p : Progress) → IsSo b → IsRun b ls c p → All (StartsSo IsSo) ls)
+      → IsSo (main_origin s.term) → (f : ℕ) (x : FiberReportView) → fiber_in r f ≡ Some x → IsSo (runs.origin f)
+  each_begins_so IsSo starts_so so f x at = each_so (λ g. IsSo (runs.origin g)) (subst IsSo (sym origins.main) so) begins f x at
+    where
+      begins : (p : ℕ) (y : FiberReportView) → fiber_in r p ≡ Some y → IsSo (runs.origin p) → (g : ℕ) → HasStart (runs.labels p) g → IsSo (runs.origin g)
+      begins p y at_p p_so g h =
+          let all = starts_so (runs.origin p) (runs.labels p) (runs.counts p) (runs.progress p) p_so (runs.run p y at_p).run in
+          subst IsSo (sym (begin_told g p y at_p h)) (All-contains (StartsSo IsSo) (runs.labels p) (Starts g h.origin) all h.holds)
 
   -- each fiber begins at a core term, where the script's term is core
   pub begins_at_core : IsCore s.term → (f : ℕ) (x : FiberReportView) → fiber_in r f ≡ Some x → IsCore (runs.origin f).term

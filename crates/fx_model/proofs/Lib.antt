@@ -31,6 +31,8 @@ pub mod MaskEntering
 pub mod MaskLaws
 pub mod Mapped
 pub mod Moves
+pub mod ComputedSteps
+pub mod NextSteps
 pub mod StepLabels
 pub mod StartLaws
 pub mod RangeLaws

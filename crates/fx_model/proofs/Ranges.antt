@@ -1,6 +1,6 @@
 -- The numbers that a fiber has left for the fibers that it starts.
-use Rattle.std.proofs.Common.{◌≡◌, Bool, true, false, refl}
-use Rattle.fx_model.specs.Row.{Counts, Range, range_of, Label, Silent, Shows, Learns, Starts}
+use Rattle.std.proofs.Common.{◌≡◌, Bool, true, false}
+use Rattle.fx_model.specs.Row.{Counts, range_of, Label, Silent, Shows, Learns, Starts}
 use Rattle.fx_model.specs.Step.{Progress, Step}
 use Rattle.fx_model.proofs.StepLabels.{TakesNumbers, step_tells}
 

@@ -3,13 +3,14 @@ use Rattle.std.proofs.Common.{◌≡◌, ℕ, ◌<◌, ◌≤◌, Bool, true, Op
 use Rattle.std.proofs.lemmas.List.Elements.{All-nil, All-cons}
 use Rattle.fx_term.specs.declared.outcome.Outcome.{Outcome}
 use Rattle.fx_term.specs.declared.outcome.Outcome.TheVariants as outcome
+use Rattle.fx_term.specs.declared.event.Event.TheVariants as event
 use Rattle.fx_term.specs.Term.{Term, Let, Handle, OnCancel, Bracket, Masked, Opened, InUse, InRelease, put, put_named}
 use Rattle.fx_term.specs.declared.name_kind.NameKind.{NameKind}
 use Rattle.fx_term.specs.declared.name_kind.NameKind.TheVariants as kind
 use Rattle.fx_term.specs.Scope.{with_name, with_named, IsScoped}
 use Rattle.fx_model.specs.Path.{Context, LetIn, HandleIn, OnCancelIn, AcquireIn, InUseIn, plug, cleanups_with, leaf}
 use Rattle.fx_model.specs.Origin.{Origin}
-use Rattle.fx_model.specs.Row.{Counts, Label, Starts, Row, part_after}
+use Rattle.fx_model.specs.Row.{Counts, Label, Shows, Starts, Row, part_after}
 use Rattle.fx_model.specs.Row as row
 use Rattle.fx_model.specs.Step.{Progress, Runs, Unwinds, CleansUp, HasEnded, AreAll, leaf_at, Step}
 use Rattle.fx_model.specs.Step as step
@@ -141,6 +142,30 @@ module _ (is_given : ℕ → Bool) where
       let here = step_over r.2 (λ f low high. g f low (omega arith)) h in
       All-cons (StartsScopedOver is_given) l ls here.1 (starts_over r.0 d r.1 q ls r.3 (λ f low high. g f (omega arith) high) here.0)
 
+  -- a label that requests a fiber has a number that was given
+  abbrev pub RequestsGiven : Label → Type 0
+  RequestsGiven (Shows (event.Request f)) = is_given f ≡ true
+  RequestsGiven _ = Unit {0}
+
+  row_requests : {k : Bool} {c d : Counts} {l : Label} {t t' : Term} → Row k c t l d t' → IsScopedOver is_given t → RequestsGiven l
+  row_requests row.request h = h.1
+  row_requests (row.inside f {a = a} e j r) h = row_requests r (inside_over f a (rw e at h)).0
+  row_requests _ h = tt
+
+  step_requests : {c d : Counts} {p q : Progress} {l : Label} → Step c p l d q → IsProgressScopedOver is_given p → RequestsGiven l
+  step_requests (step.row m r) h = row_requests r h
+  step_requests (step.cleans r) h = row_requests r h.0
+  step_requests _ h = tt
+
+  requests_over : (c d : Counts) (p q : Progress) (ls : List Label) → Leads c p ls d q → GivesTaken c d → IsProgressScopedOver is_given p
+      → All RequestsGiven ls
+  requests_over c d p q [] r g h = All-nil RequestsGiven
+  requests_over c d p q (l ∷ ls) r g h =
+      let after = leads_next r.0 d r.1 q ls r.3 in
+      let before = step_next r.2 in
+      let here = step_over r.2 (λ f low high. g f low (omega arith)) h in
+      All-cons RequestsGiven l ls (step_requests r.2 h) (requests_over r.0 d r.1 q ls r.3 (λ f low high. g f (omega arith) high) here.0)
+
 -- from a scoped term on
 pub run_stays_scoped : (is_given : ℕ → Bool) (b : Origin) (ls : List Label) (d : Counts) (q : Progress) → IsScopedOver is_given b.term
     → ((f : ℕ) → b.next ≤ f → f < d.next → is_given f ≡ true) → IsRun b ls d q → IsProgressScopedOver is_given q
@@ -149,3 +174,8 @@ run_stays_scoped is_given b ls d q h g r = leads_over is_given (first_counts b) 
 pub run_starts_scoped : (is_given : ℕ → Bool) (b : Origin) (ls : List Label) (d : Counts) (q : Progress) → IsScopedOver is_given b.term
     → ((f : ℕ) → b.next ≤ f → f < d.next → is_given f ≡ true) → IsRun b ls d q → All (StartsScopedOver is_given) ls
 run_starts_scoped is_given b ls d q h g r = starts_over is_given (first_counts b) d (Runs b.term) q ls r g h
+
+-- each fiber that it requests was given
+pub run_requests_given : (is_given : ℕ → Bool) (b : Origin) (ls : List Label) (d : Counts) (q : Progress) → IsScopedOver is_given b.term
+    → ((f : ℕ) → b.next ≤ f → f < d.next → is_given f ≡ true) → IsRun b ls d q → All (RequestsGiven is_given) ls
+run_requests_given is_given b ls d q h g r = requests_over is_given (first_counts b) d (Runs b.term) q ls r g h

@@ -1,0 +1,42 @@
+-- `never`, and what would come after it.
+use Rattle.std.proofs.Common.{◌≡◌, Bool, not, None, List, [], ◌∷◌, ◌++◌, refl, sym, ◌∙◌, subst}
+use Rattle.fx_term.specs.declared.node.Arg.TheVariants.{Number}
+use Rattle.fx_term.specs.Term.{Term, Pure, Never, Let}
+use Rattle.fx_model.specs.Path.{Context, LetIn, HandleIn, is_open}
+use Rattle.fx_model.specs.Row.{Counts, Label, Row, inside}
+use Rattle.fx_model.specs.Step.{Progress}
+use Rattle.fx_model.specs.MaskLaws.{forced_after}
+use Rattle.fx_model.proofs.Paths.{no_context}
+use Rattle.fx_laws.specs.Places.{placed, ShowTheSameEverywhere}
+use Rattle.fx_laws.proofs.Placed.{placed_append, result_placed, RowOfPlaced, moves_in, result_in, row_of_placed}
+use Rattle.fx_laws.proofs.Views.{View}
+use Rattle.fx_laws.proofs.SamePlaces.{IsSamePlace, same_turned, Moves, by_row, by_end, place_matched}
+use Rattle.fx_laws.proofs.SameHere.{AreSameHere}
+use Rattle.fx_laws.proofs.Showing.{showing, everywhere}
+
+never_has_no_row : {k : Bool} {c d : Counts} {l : Label} {u : Term} → Row k c Never l d u → ⊥
+never_has_no_row (inside f e g r) = no_context f _ _ refl e
+
+never_rests : {k : Bool} {c d : Counts} {l : Label} {x u : Term} {fs : List Context} → RowOfPlaced k c fs x l d u → x ≡ Never → ⊥
+never_rests {k} {c} (moves_in {w = w} {l = l} {d = d} r) at = never_has_no_row (subst (λ (z : Term). Row k c z l d w) at r)
+never_rests (result_in {w = w}) at = cc
+
+never_moves : {c d : Counts} {l : Label} {q : Progress} {x : Term} (fs : List Context) → Moves c x l d q → x ≡ placed fs Never → ⊥
+never_moves {c} {x = x} fs (by_row {u = u} {l = l} {d = d} free r) at =
+    never_rests (row_of_placed fs Never (subst (λ (z : Term). Row (not (is_open x)) c z l d u) at r)) refl
+never_moves fs (by_end {w = w} free f k) at = let e = (result_placed fs Never w (sym f ∙ at)).1 in cc
+
+never_alone : (v : View) (fs gs : List Context) → IsSamePlace (placed gs Never) Never → AreSameHere v fs (placed gs Never) Never
+never_alone v fs gs same c = (
+  place_matched v fs same (λ c d e l ls q r m after. absurd (never_moves (fs ++ gs) m (sym (placed_append fs gs Never)))) c,
+  place_matched v fs (same_turned same) (λ c d e l ls q r m after. absurd (never_moves fs m refl)) c,
+)
+
+pub never_is_last : (t : Term) → ShowTheSameEverywhere (Let None Never t) Never
+never_is_last t = everywhere (Let None Never t) Never (λ fs. never_alone showing fs (LetIn None t ∷ [])
+    (record { closed = λ outer. refl; leaf_is = refl; clean = refl }))
+
+pub forced_never_is_last : (t : Term) → ShowTheSameEverywhere (forced_after Never t) Never
+forced_never_is_last t =
+    everywhere (forced_after Never t) Never
+    (λ fs. never_alone showing fs (LetIn None t ∷ HandleIn None (Pure (Number 0)) ∷ []) (record { closed = λ outer. refl; leaf_is = refl; clean = refl }))

@@ -1,0 +1,8 @@
+use Rattle.fx_laws.proofs.ForcingLaws.{dropped_error_shows_all, dropped_error_is_nothing}
+use Rattle.fx_laws.proofs.forcing.force_r_discards_error.Goals as goal
+
+pub returns-clause-same : goal.returns-clause-same
+returns-clause-same c = dropped_error_is_nothing
+
+pub returns-clause-all : goal.returns-clause-all
+returns-clause-all c = dropped_error_shows_all

@@ -1,0 +1,24 @@
+//! What can be told apart, so that the laws say something.
+ghost use Rattle.std.specs.Prelude.{None};
+ghost use Rattle.fx_term.specs.declared.node.Arg.TheVariants.{Number};
+ghost use Rattle.fx_term.specs.Term.{Pure, Canceled, Let, Mask, OnCancel, Offer};
+ghost use Rattle.fx_laws.specs.Places.{ShowTheSameEverywhere};
+ghost use Rattle.fx_laws.specs.Others.{LookTheSame};
+
+/// Others see what a finalizer does: `(oncancel (canceled) (offer q 1))` does not look to them as
+/// `(canceled)` does.
+pub fn others_see_what_a_finalizer_does()
+    ensures { LookTheSame (OnCancel Canceled (Offer 0 (Number 1))) Canceled → ⊥ }
+{}
+
+/// `(seq (canceled) (offer q 1))` is `(canceled)` at open places alone: in a mask the element is put.
+pub fn canceled_goes_on_at_closed_places()
+    ensures { ShowTheSameEverywhere (Let None Canceled (Offer 0 (Number 1))) Canceled → ⊥ }
+{}
+
+/// `(mask p (oncancel A F))` is not `(oncancel (mask p A) F)`: a request that is seen before the mask is
+/// entered runs the finalizer of the latter alone.
+pub fn finalizer_stands_inside_a_mask_or_outside()
+    ensures { LookTheSame (Mask 0 (OnCancel (Pure (Number 1)) (Offer 0 (Number 1))))
+        (OnCancel (Mask 0 (Pure (Number 1))) (Offer 0 (Number 1))) → ⊥ }
+{}

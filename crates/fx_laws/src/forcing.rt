@@ -1,0 +1,25 @@
+//! What is forced after a term: it comes once that has succeeded or erred.
+ghost use Rattle.std.specs.Prelude.{ℕ, None};
+ghost use Rattle.fx_term.specs.declared.node.Arg.TheVariants.{Number};
+ghost use Rattle.fx_term.specs.Term.{Term, Raise, Canceled, Let};
+ghost use Rattle.fx_model.specs.MaskLaws.{forced_after};
+ghost use Rattle.fx_laws.specs.Places.{ShowTheSameEverywhere, ShowTheSameEverywhereUnlessSeenFirst, ShowsAllOfEverywhere};
+
+/// `(forcer (raise n) A)` is `A`, but for what begins with a request that is seen: seen before the fiber
+/// comes to `A`, it leaves out the finalizers that stand round the first leaf of `A`.
+pub fn force_r_discards_error()
+    ensures same { (n : ℕ) (a : Term)
+        → ShowTheSameEverywhereUnlessSeenFirst (forced_after (Raise (Number n)) a) a }
+    ensures all { (n : ℕ) (a : Term) → ShowsAllOfEverywhere (forced_after (Raise (Number n)) a) a }
+{}
+
+/// `(forcer (canceled) A)` is `(seq (canceled) A)`: at a closed place, where the fiber goes on, too.
+pub fn force_r_canceled_short_circuits()
+    ensures { (a : Term) → ShowTheSameEverywhere (forced_after Canceled a) (Let None Canceled a) }
+{}
+
+/// `(forcer A (forcer B F))` is `(forcer (forcer A B) F)`.
+pub fn force_r_associativity()
+    ensures { (a b f : Term)
+        → ShowTheSameEverywhere (forced_after a (forced_after b f)) (forced_after (forced_after a b) f) }
+{}

@@ -1,0 +1,27 @@
+//! Laws of cancellation in the form that Cats Effect gives them: two terms of which nobody can tell one
+//! from the other. A function here does nothing: its contract is the law.
+//!
+//! Two terms are compared in two ways, each with its definitions in the file of its name in `specs/`:
+//!
+//! | definitions | what they say |
+//! |---|---|
+//! | `Places` | two terms show the same wherever a fiber comes to them: whatever stands round them, and whatever the fiber has done before |
+//! | `Others` | others see the same of two fibers: what a fiber notes of its own cancellation and of its resources is left out |
+//!
+//! | laws of | what they say |
+//! |---|---|
+//! | [`never`], [`cancellation`] | what comes after `never` and `canceled` |
+//! | [`forcing`], [`binding`] | what is forced after a term, and what takes its value |
+//! | [`finalizers`], [`brackets`] | which forms of finalizers are the same, and what a bracket is |
+//! | [`places`] | what holds everywhere holds of whole fibers |
+//! | [`apart`] | terms that can be told apart |
+#![tactic(auto)]
+
+pub mod apart;
+pub mod binding;
+pub mod brackets;
+pub mod cancellation;
+pub mod finalizers;
+pub mod forcing;
+pub mod never;
+pub mod places;

@@ -1,0 +1,10 @@
+pub mod Requests
+pub mod LearntOutcomes
+pub mod RestingRuns
+pub mod Outcomes
+pub mod CanceledChildren
+pub mod StartedFibers
+pub mod StartAndJoin
+pub mod JoinLaws
+pub mod CancelLaws
+pub mod RaceLaws
