@@ -1,6 +1,7 @@
 -- What a fiber makes in a step, from what came before the rule of its place, and from that rule.
-use Rattle.std.proofs.Common.{◌≡◌, ℕ, Bool, false, Option, Some, None, List, ◌∷◌, ◌++◌, [], refl, sym, ◌∙◌, ap, append-nil}
-use Rattle.std.specs.Prelude.{◌&&◌, ◌||◌, slice_get}
+use Rattle.std.proofs.Common.{◌≡◌, ℕ, Bool, true, false, Option, Some, None, List, ◌∷◌, ◌++◌, [], refl, sym, ◌∙◌, ap, append-nil}
+use Rattle.std.specs.Prelude.{◌&&◌, ◌||◌, not, slice_get}
+use Rattle.std.specs.Bool.{OnTrue}
 use Rattle.fx_term.specs.declared.node.NodeId.{NodeId}
 use Rattle.fx_term.specs.declared.node.Node.{Node}
 use Rattle.fx_term.specs.declared.node.Node.TheVariants as node
@@ -17,10 +18,10 @@ use Rattle.fx_fiber.specs.declared.machine.interruption.Interruption.TheVariants
 use Rattle.fx_fiber.specs.declared.machine.made.Made.{Made}
 use Rattle.fx_fiber.specs.declared.machine.made.Made.TheVariants as made
 use Rattle.fx_fiber.specs.declared.machine.Machine.{Machine}
-use Rattle.fx_fiber.specs.Machine.{loop_of, inner, unwinding, progress_of}
+use Rattle.fx_fiber.specs.Machine.{loop_of, unwinding, progress_of}
 use Rattle.fx_fiber.specs.Sound.{IsSoundMachine}
 use Rattle.fx_fiber.specs.Leaves.{IsLeafNode, is_canceled_node}
-use Rattle.fx_fiber.specs.Places.{IsSame, IsEvaluating, IsEntered, IsGoing, is_open_machine, must_cancel_machine}
+use Rattle.fx_fiber.specs.Places.{IsSame, IsEvaluating, IsInside, is_open_machine, must_cancel_machine}
 use Rattle.fx_fiber.specs.Makes.{Makes, MakesRule}
 use Rattle.fx_fiber.specs.Interruption.{Interrupts, IsInterrupted, ComesFirst}
 use Rattle.fx_fiber.specs.MakesCall.{MakesCall}
@@ -32,13 +33,6 @@ use Rattle.fx_fiber.proofs.Looks.{looks_first_before, none_due, not_due_after, d
 use Rattle.fx_fiber.proofs.Fibers.{await_unlooked}
 use Rattle.fx_fiber.proofs.Calls.{local_is_rule, told_nothing, agreed_nothing, framed_nothing}
 
--- a fiber inside all contexts, at `canceled` or not
-pub record IsInside (nodes : List Node) (s : Machine) (at_canceled : Bool) : Type 0 where
-  pub sound : IsSoundMachine nodes s
-  pub going : IsGoing s.focus
-  pub entered : IsEntered nodes s.focus
-  pub canceled : is_canceled_form (inner nodes s.registers s.focus) ≡ at_canceled
-
 pub inside_leaf : (nodes : List Node) (s : Machine) (id : NodeId) (n : Node) (b : Bool) → IsEvaluating nodes s id n → IsLeafNode (Some n)
     → b ≡ is_canceled_node n → IsInside nodes s b
 inside_leaf nodes s id n b at leaf e = record {
@@ -47,6 +41,11 @@ inside_leaf nodes s id n b at leaf e = record {
   entered = rw (at.focus, at.node) leaf;
   canceled = canceled_at nodes s id n at ∙ sym e;
 }
+
+-- no `canceled` stands there, where this is so
+pub inside_other : (nodes : List Node) (s : Machine) (b : Bool) → IsInside nodes s b → OnTrue (not b) (IsInside nodes s false)
+inside_other nodes s true h = tt
+inside_other nodes s false h = h
 
 pub inside_result : (nodes : List Node) (s : Machine) (v : Done) → IsSoundMachine nodes s → s.focus ≡ Return v → IsInside nodes s false
 inside_result nodes s v sound e = record { sound = sound; going = rw e tt; entered = rw e tt; canceled = rw e refl }

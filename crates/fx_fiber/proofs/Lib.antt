@@ -14,6 +14,7 @@ pub mod QueueLeaves
 pub mod Advances
 pub mod Keeping
 pub mod Telling
+pub mod Bursts
 pub mod Starts
 pub mod LeavesBelow
 pub mod WaitsBelow

@@ -1,5 +1,5 @@
 -- Which nodes are leaves, whether a leaf's rule asks the port, and the context that is entered at any other node.
-use Rattle.std.specs.Prelude.{◌≡◌, ℕ, Bool, true, false, Option, Some, None}
+use Rattle.std.specs.Prelude.{◌≡◌, ℕ, Bool, true, false, Option, Some, None, List, [], ◌∷◌}
 use Rattle.fx_term.specs.declared.node.NodeId.{NodeId}
 use Rattle.fx_term.specs.declared.node.Node.{Node}
 use Rattle.fx_term.specs.declared.node.Node.TheVariants as node
@@ -43,6 +43,24 @@ IsLocalLeaf (node.TryOffer q v) = ⊥
 IsLocalLeaf (node.Take q) = ⊥
 IsLocalLeaf (node.TryTake q x a b) = ⊥
 IsLocalLeaf n = IsLeafNode (Some n)
+
+-- a leaf whose rule shows nothing, asks nothing of the port, and is not that of `cede`
+abbrev pub is_silent_node : Node → Bool
+is_silent_node (node.Pure a) = true
+is_silent_node (node.Raise a) = true
+is_silent_node (node.If v a b) = true
+is_silent_node (node.For i c a) = true
+is_silent_node (node.Mask p a) = true
+is_silent_node (node.Poll p a) = true
+is_silent_node _ = false
+
+-- a result shows nothing in the innermost of these contexts
+abbrev pub is_silent_inside : List Frame → Bool
+is_silent_inside [] = false
+is_silent_inside (frame.Acquire id ∷ outer) = false
+is_silent_inside (frame.Using k r ∷ outer) = false
+is_silent_inside (frame.Releasing k v ∷ outer) = false
+is_silent_inside (f ∷ outer) = true
 
 -- a `join`
 abbrev pub IsJoin : Node → Type 0

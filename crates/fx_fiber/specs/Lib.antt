@@ -15,6 +15,7 @@ pub mod Fiber
 pub mod Bare
 pub mod MakesStep
 pub mod MakesStart
+pub mod Bursts
 pub mod Turns
 pub mod Telling
 pub mod LeafBelow

@@ -1,5 +1,5 @@
 -- What a machine made: one rule of its place, or none where the fiber waits or is to start another.
-use Rattle.std.specs.Prelude.{◌≡◌, false, Some, option_and_then, List}
+use Rattle.std.specs.Prelude.{◌≡◌, Bool, true, false, Some, option_and_then, List}
 use Rattle.fx_term.specs.declared.node.Node.{Node}
 use Rattle.fx_term.specs.Term.{Cede}
 use Rattle.fx_model.specs.Row.{Label, Silent, Shows, Learns}
@@ -39,3 +39,12 @@ pub record MakesRule (nodes : List Node) (s : Machine) (m : Made) (s' : Machine)
   pub sound : IsSoundMachine nodes s'
   pub rule : Makes nodes s m s'
   pub is_local : IsLocal m
+
+-- a rule was made that shows nothing, and is not that of `cede`
+abbrev pub MakesSilently : List Node → Machine → Machine → Type 0
+MakesSilently nodes s s' = MakesRule nodes s made.Silent s'
+
+-- that, or nothing was made and nothing has changed
+abbrev pub MakesIfSilent : List Node → Machine → Bool → Machine → Type 0
+MakesIfSilent nodes s true s' = MakesSilently nodes s s'
+MakesIfSilent nodes s false s' = s' ≡ s

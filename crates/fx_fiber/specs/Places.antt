@@ -46,6 +46,13 @@ IsEntered nodes (Eval id) = IsLeafNode (slice_get nodes id.0)
 IsEntered nodes (Await f) = ⊥
 IsEntered nodes _ = Unit {0}
 
+-- a fiber inside all contexts, at `canceled` or not
+pub record IsInside (nodes : List Node) (s : Machine) (at_canceled : Bool) : Type 0 where
+  pub sound : IsSoundMachine nodes s
+  pub going : IsGoing s.focus
+  pub entered : IsEntered nodes s.focus
+  pub canceled : is_canceled_form (inner nodes s.registers s.focus) ≡ at_canceled
+
 -- the fiber stands at this node
 pub record IsEvaluating (nodes : List Node) (s : Machine) (id : NodeId) (n : Node) : Type 0 where
   pub sound : IsSoundMachine nodes s

@@ -12,13 +12,17 @@ use std::alloc::Global;
 use std::marker::Model;
 
 mod advance;
+pub(crate) mod ahead;
 pub(crate) mod body;
+mod burst;
 mod child;
+pub(crate) mod glide;
 mod start;
 mod step;
 mod tell;
 
 use body::Body;
+use burst::burst;
 use step::step;
 
 /// A fiber: a running term, what it keeps beside it, its trace, and its port. By its type the trace
@@ -57,6 +61,7 @@ impl<P: Port> Fiber<P> {
     ghost use Rattle.fx_model.specs.NeedLeft.{HasRoom};
     ghost use Rattle.fx_fiber.specs.Fiber.{is_fiber_number, IsAtFirst, IsLawful, IsUnchanged, progress};
     ghost use Rattle.fx_fiber.specs.MakesStep.{DoesStep};
+    ghost use Rattle.fx_fiber.specs.Bursts.{Bursts, BurstsShort};
     ghost use Rattle.std.specs.Prelude.{option_and_then};
     ghost use Rattle.fx_model.specs.Step.{Runs, leaf_at, has_ended};
     ghost use Rattle.fx_model.specs.Waiting.{wait_at};
@@ -223,5 +228,23 @@ impl<P: Port> Fiber<P> {
         ensures source { self.new.source ≡ self.old.source }
     {
         step(&mut self.port, &mut self.body, code, shared)
+    }
+
+    /// Makes silent rules in one go, at most so many, and stops at the latest before the first one that
+    /// shows something, asks the port for something or yields. At an open place it looks, once, since
+    /// nothing is asked after that; where it sees a request, that is its last step. It answers how many
+    /// steps it made. Want of memory leaves the rules that were made before it.
+    pub fn burst(&mut self, code: &Code, shared: &mut P::Shared, most: u32) -> Result<u32, Memory>
+        requires code { code.now.nodes ≡ P.code }
+        requires some { 0 < most }
+        ensures ok { IfOk result (λ n. Bursts P.calls P.facts P.code most n
+            self.old shared.old self.new shared.new) }
+        ensures err { OnErr result (BurstsShort P.calls P.facts P.code most
+            self.old shared.old self.new shared.new) }
+        ensures number { (P.facts self.new.port).number ≡ (P.facts self.old.port).number }
+        ensures beginning { (P.facts self.new.port).beginning ≡ (P.facts self.old.port).beginning }
+        ensures source { self.new.source ≡ self.old.source }
+    {
+        burst(&mut self.port, &mut self.body, code, shared, most)
     }
 }

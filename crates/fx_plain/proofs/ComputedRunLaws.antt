@@ -28,8 +28,8 @@ use Rattle.fx_plain.specs.Chosen as chosen
 use Rattle.fx_model.proofs.Paths.{leaf_plug, row_plug}
 use Rattle.fx_model.proofs.Mapped.{mapped}
 use Rattle.fx_model.proofs.Moves.{Moved, done_of, ends, moved_in, move_in, loop_move}
-use Rattle.fx_plain.proofs.ComputedSteps.{Answers, Next, if_move, canceled_move, join_move, await_move, first_move, offer_move}
-use Rattle.fx_plain.proofs.ComputedSteps.{try_offer_move, take_move, try_take_move, move, runs_on, cleans_on, running, looking, at_place, cleaning, next}
+use Rattle.fx_model.proofs.ComputedSteps.{Answers, Next, if_move, canceled_move, join_move, await_move, first_move, offer_move}
+use Rattle.fx_model.proofs.ComputedSteps.{try_offer_move, take_move, try_take_move, move, runs_on, cleans_on, running, looking, at_place, cleaning, next}
 use Rattle.fx_plain.proofs.ComputedRuns.{answers_of, MoveMade, went, stepped_fiber, step_of, least_able, RunTo, after, and_then, run_to_rest, replayed}
 use Rattle.fx_plain.proofs.LawfulRuns.{IsKept, step_keeps, request_keeps}
 

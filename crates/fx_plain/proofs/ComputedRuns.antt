@@ -8,7 +8,7 @@ use Rattle.fx_model.specs.Report.{ReportView}
 use Rattle.fx_plain.specs.WholeMachine.{StartedFiber, WholeMachine, Move, Steps, Requests, outcome_of, has_room, front, can_step_in, moved}
 use Rattle.fx_plain.specs.WholeMachine.{requested_from_outside}
 use Rattle.fx_plain.specs.SettledRun.{report_of_fiber}
-use Rattle.fx_plain.proofs.ComputedSteps.{Answers, Next, next}
+use Rattle.fx_model.proofs.ComputedSteps.{Answers, Next, next}
 
 abbrev pub answers_of : ScriptView → WholeMachine → ℕ → Answers
 answers_of s m f = record { outcome = outcome_of m; has_room = has_room s m; front = λ q. front (m.queues q); is_requested = m.requested f }

@@ -11,7 +11,6 @@ pub mod CausesKept
 pub mod RunOrder
 pub mod ChosenRuns
 pub mod StepsCan
-pub mod ComputedSteps
 pub mod ComputedRuns
 pub mod ComputedRunLaws
 pub mod ComputedReports
@@ -46,6 +45,7 @@ pub mod PlainMachineWaking
 pub mod PlainMachineOpening
 pub mod PlainMachineWay
 pub mod PlainMachineWork
+pub mod PlainMachineBursts
 pub mod PlainMachineReports
 pub mod NamedQueues
 pub mod Waits

@@ -204,5 +204,9 @@ module _ {J : Type 0} (nodes : List Node) where
           numbered = all_numbered;
         }
 
+        -- so the step leads on
+        pub step_leads : is_able (class_at p.world.classes f) ≡ true → (m' : WholeMachine) × ChosenStep s m f l m' × StandsForRun nodes s p' m'
+        step_leads able = (after, chosen, stands_after able)
+
         pub step_is_tried : is_able (class_at p.world.classes f) ≡ true → Tries nodes s m f p p'
         step_is_tried able = steps chosen (stands_after able)

@@ -1,9 +1,10 @@
--- What a machine comes to that lets a fiber make a step: the fiber is taken out of its place, makes a step or waits, and is laid down there.
+-- What a machine comes to that lets a fiber make a step: it makes the step or waits where it stands, and a child is laid down at its own place.
 use Rattle.std.proofs.Common.{◌≡◌, ◌⊎◌, ℕ, ◌+◌, ◌<◌, Bool, true, false, Option, Some, None, option_map, List, [], length, refl, sym, ◌∙◌, ap, subst}
 use Rattle.std.proofs.Common.{inl, inr, arith}
 use Rattle.std.proofs.Common.{get_or-set_same, get_or-set_other, length-set}
 use Rattle.std.specs.Prelude.{if◌then◌else◌, slice_index, slice_index_or, slice_set}
 use Rattle.std.proofs.lemmas.Bool.{cases_eq}
+use Rattle.std.proofs.lemmas.Option.{none-some}
 use Rattle.std.proofs.lemmas.List.{length-map}
 use Rattle.std.proofs.lemmas.List.Sums.{sum_by-set}
 use Rattle.fx_term.specs.declared.node.Node.{Node}
@@ -15,7 +16,7 @@ use Rattle.fx_term.specs.Script.{ScriptView, total}
 use Rattle.fx_model.specs.Row.{Label, Silent, Shows, Learns, Starts}
 use Rattle.fx_model.specs.Origin.{Origin, origin_of}
 use Rattle.fx_model.specs.Step.{leaf_at}
-use Rattle.fx_fiber.specs.Fiber.{FiberView, progress, IsAtFirst}
+use Rattle.fx_fiber.specs.Fiber.{FiberView, progress, IsUnchanged, IsAtFirst}
 use Rattle.fx_model.specs.declared.source.Source.{Source}
 use Rattle.fx_fiber.specs.declared.stepped.Stepped.{Stepped}
 use Rattle.fx_fiber.specs.declared.stepped.Stepped.TheVariants.{Went, Child, Waits, Gave, Ended}
@@ -25,20 +26,21 @@ use Rattle.fx_plain.specs.declared.plain_machine.Started.{Started}
 use Rattle.fx_plain.specs.declared.plain_machine.PlainMachine.{PlainMachine}
 use Rattle.fx_term.specs.Maps.{with_at}
 use Rattle.fx_plain.specs.WholeMachine.{StartedFiber, WholeMachine, begun, fibers_after}
+use Rattle.fx_plain.specs.Chosen.{ChosenStep}
 use Rattle.fx_plain.specs.PlainQueue.{have_room, have_element}
 use Rattle.fx_plain.specs.Classes.{is_ready}
 use Rattle.fx_plain.specs.ClassSets.{class_at, is_able}
 use Rattle.fx_plain.specs.World.{WorldView, is_ready_in, HeldFiber, held_of, StandsFor}
 use Rattle.fx_plain.specs.WorldClasses.{TellsWhoSteps}
 use Rattle.fx_plain.specs.PlainCalls.{PortView, facts_of, plain_calls}
-use Rattle.fx_plain.specs.PlainMachine.{held, all_held, IsNumbered, able_count, StandsForRun, Tries, waits}
+use Rattle.fx_plain.specs.PlainMachine.{held, all_held, IsNumbered, able_count, StandsForRun, Tries, steps, waits}
 use Rattle.fx_term.proofs.MapLaws.{at_that, at_other}
 use Rattle.fx_plain.proofs.Maps.{at_itself}
 use Rattle.fx_plain.proofs.WorldClasses.{unready_cannot}
 use Rattle.fx_plain.proofs.ClassSets.{class_at_set}
 use Rattle.fx_plain.proofs.WaitSteps.{refused_unready, noted_wait_tells}
 use Rattle.fx_plain.proofs.PlainMachineSteps.{at_number, held_option, held_at, same_made, IsFiber, is_fiber, below_total, own_number, child_is_free}
-use Rattle.fx_plain.proofs.PlainMachineSteps.{step_is_tried}
+use Rattle.fx_plain.proofs.PlainMachineSteps.{step_leads, step_is_tried}
 
 -- what a step does, by another name of the world before it and of its answer
 pub does_as : (nodes : List Node) (old new : FiberView PortView) (w world w' : WorldView) (answer named : Stepped PortView WorldView) → w ≡ world
@@ -154,45 +156,55 @@ module _ {J : Type 0} (nodes : List Node) (s : ScriptView) (p : PlainMachine J) 
         let e = start.number_is in let n = long_is in let lt = start.below in
         omega arith
 
-  -- the machine after it, in which the fiber was laid down after these others
-  module _ (p' : PlainMachine J) (x' : Started J) (taken middle : List (Option (Started J))) (took : taken ≡ slice_set p.fibers.items f None)
-      (laid : p'.fibers.items ≡ slice_set middle f (Some x')) where
-    taken_long : length taken ≡ length p.fibers.items
-    taken_long = ap length took ∙ length-set p.fibers.items f None
+  -- the machine after it; the places of all fibers once this one has made its step
+  module _ (p' : PlainMachine J) (x' : Started J) (middle : List (Option (Started J))) (stepped : middle ≡ slice_set p.fibers.items f (Some x')) where
+    middle_long : length middle ≡ length p.fibers.items
+    middle_long = ap length stepped ∙ length-set p.fibers.items f (Some x')
 
-    taken_others : (h : ℕ) → (h ≡ f → ⊥) → slice_index_or taken h None ≡ at_number nodes p h
-    taken_others h apart = ap (λ (xs : List (Option (Started J))). slice_index_or xs h None) took ∙ get_or-set_other p.fibers.items f h None None apart
+    middle_there : slice_index_or middle f None ≡ Some x'
+    middle_there =
+        ap (λ (xs : List (Option (Started J))). slice_index_or xs f None) stepped
+        ∙ get_or-set_same p.fibers.items f (Some x') None (let e = long_is in let lt = below in omega arith)
 
-    module _ (middle_long : length middle ≡ length p.fibers.items) where
-      laid_long : length p'.fibers.items ≡ length p.fibers.items
-      laid_long = ap length laid ∙ length-set middle f (Some x') ∙ middle_long
+    middle_others : (h : ℕ) → (h ≡ f → ⊥) → slice_index_or middle h None ≡ at_number nodes p h
+    middle_others h apart =
+        ap (λ (xs : List (Option (Started J))). slice_index_or xs h None) stepped ∙ get_or-set_other p.fibers.items f h (Some x') None apart
 
-      laid_there : at_number nodes p' f ≡ Some x'
-      laid_there =
-          ap (λ (xs : List (Option (Started J))). slice_index_or xs f None) laid
-          ∙ get_or-set_same middle f (Some x') None (let e = long_is in let lt = below in omega arith)
+    -- where no fiber was laid down since
+    module _ (same : p'.fibers.items ≡ middle) where
+      same_long : length p'.fibers.items ≡ length p.fibers.items
+      same_long = ap length same ∙ middle_long
 
-      laid_others : (h : ℕ) → (h ≡ f → ⊥) → at_number nodes p' h ≡ slice_index_or middle h None
-      laid_others h apart = ap (λ (xs : List (Option (Started J))). slice_index_or xs h None) laid ∙ get_or-set_other middle f h (Some x') None apart
+      same_there : at_number nodes p' f ≡ Some x'
+      same_there = ap (λ (xs : List (Option (Started J))). slice_index_or xs f None) same ∙ middle_there
+
+      same_others : (h : ℕ) → (h ≡ f → ⊥) → at_number nodes p' h ≡ at_number nodes p h
+      same_others h apart = ap (λ (xs : List (Option (Started J))). slice_index_or xs h None) same ∙ middle_others h apart
 
     module _ (w' : WorldView) (new : FiberView PortView) (parent : x'.parent ≡ x.parent) (fiber : x'.fiber ≡ new)
         (number : new.port.number ≡ x.fiber.port.number) (beginning : new.port.beginning ≡ x.fiber.port.beginning) where
       -- after a step that starts none
+      pub step_leads_on : (answer : Stepped PortView WorldView) → IsQuiet nodes x.fiber new p.world w' answer
+          → DoesStep plain_calls facts_of nodes x.fiber p.world answer new w' → p'.fibers.items ≡ middle → p'.world ≡ w'
+          → is_able (class_at p.world.classes f) ≡ true
+          → (l : Label) × (m' : WholeMachine) × ChosenStep s m f l m' × StandsForRun nodes s p' m'
+      step_leads_on answer quiet does same world able =
+          let made = (quiet_is nodes x.fiber new p.world w' answer quiet does).0 in
+          let none = (quiet_is nodes x.fiber new p.world w' answer quiet does).1 in
+          let unstarted = none_started nodes (leaf_at (progress nodes x.fiber)) f m.fibers made.label answer none made.answers in
+          let on = step_leads nodes s p m so f x here is w' answer new made p' x' world parent fiber number beginning (same_long same) (same_there same)
+          (λ h apart. ap (held_option nodes) (same_others same h apart) ∙ others_held h
+          ∙ sym (ap (λ (fibers : ℕ → Option StartedFiber). option_map held_of (fibers h)) unstarted))
+          (λ h apart. subst (IsNumbered nodes h) (sym (same_others same h apart)) (so.numbered h)) able in
+          (made.label, on.0, on.1, on.2)
+
       pub tries_step : (answer : Stepped PortView WorldView) → IsQuiet nodes x.fiber new p.world w' answer
-          → DoesStep plain_calls facts_of nodes x.fiber p.world answer new w' → middle ≡ taken → p'.world ≡ w'
+          → DoesStep plain_calls facts_of nodes x.fiber p.world answer new w' → p'.fibers.items ≡ middle → p'.world ≡ w'
           → is_able (class_at p.world.classes f) ≡ true
           → Tries nodes s m f p p'
       tries_step answer quiet does same world able =
-          let made = (quiet_is nodes x.fiber new p.world w' answer quiet does).0 in
-          let none = (quiet_is nodes x.fiber new p.world w' answer quiet does).1 in
-          let long = ap length same ∙ taken_long in
-          let unstarted = none_started nodes (leaf_at (progress nodes x.fiber)) f m.fibers made.label answer none made.answers in
-          let middle_is = λ (h : ℕ) (apart : h ≡ f → ⊥). laid_others long h apart
-          ∙ ap (λ (xs : List (Option (Started J))). slice_index_or xs h None) same ∙ taken_others h apart in
-          step_is_tried nodes s p m so f x here is w' answer new made p' x' world parent fiber number beginning (laid_long long) (laid_there long)
-          (λ h apart. ap (held_option nodes) (middle_is h apart) ∙ others_held h
-          ∙ sym (ap (λ (fibers : ℕ → Option StartedFiber). option_map held_of (fibers h)) unstarted))
-          (λ h apart. subst (IsNumbered nodes h) (sym (middle_is h apart)) (so.numbered h)) able
+          let on = step_leads_on answer quiet does same world able in
+          steps on.2 on.3
 
       -- after a step that starts a child, which was laid down at its number
       module _ (c : FiberView PortView) (made : MakesStep plain_calls facts_of nodes x.fiber p.world (Child c) new w') where
@@ -206,7 +218,7 @@ module _ {J : Type 0} (nodes : List Node) (s : ScriptView) (p : PlainMachine J) 
         b = start.origin
 
         module _ (child : Started J) (its_parent : child.parent ≡ Some f) (its_fiber : child.fiber ≡ c)
-            (in_place : middle ≡ slice_set taken c.port.number (Some child)) where
+            (in_place : p'.fibers.items ≡ slice_set middle c.port.number (Some child)) where
           child_is : held nodes child ≡ held_of (begun (Some f) b)
           child_is =
               same_made its_parent (ap (λ (v : FiberView PortView). origin_of nodes v.port.beginning) its_fiber ∙ start.begins)
@@ -226,19 +238,29 @@ module _ {J : Type 0} (nodes : List Node) (s : ScriptView) (p : PlainMachine J) 
             child_counts,
           )
 
-          in_place_long : length middle ≡ length p.fibers.items
-          in_place_long = ap length in_place ∙ length-set taken c.port.number (Some child) ∙ taken_long
+          in_place_long : length p'.fibers.items ≡ length p.fibers.items
+          in_place_long = ap length in_place ∙ length-set middle c.port.number (Some child) ∙ middle_long
 
-          child_there : (h : ℕ) → (h ≡ f → ⊥) → h ≡ g → at_number nodes p' h ≡ Some child
-          child_there h apart same =
-              laid_others in_place_long h apart ∙ ap (λ (xs : List (Option (Started J))). slice_index_or xs h None) in_place
-              ∙ ap (λ (k : ℕ). slice_index_or (slice_set taken c.port.number (Some child)) k None) (same ∙ sym start.number_is)
-              ∙ get_or-set_same taken c.port.number (Some child) None (let lt = child_below w' new c made in let n = taken_long in omega arith)
+          -- it is another fiber
+          is_another : f ≡ c.port.number → ⊥
+          is_another same =
+              none-some is.fiber (sym start.free ∙ ap m.fibers (sym (same ∙ start.number_is)) ∙ is.at)
+
+          fiber_there : at_number nodes p' f ≡ Some x'
+          fiber_there =
+              ap (λ (xs : List (Option (Started J))). slice_index_or xs f None) in_place
+              ∙ get_or-set_other middle c.port.number f (Some child) None is_another ∙ middle_there
+
+          child_there : (h : ℕ) → h ≡ g → at_number nodes p' h ≡ Some child
+          child_there h same =
+              ap (λ (xs : List (Option (Started J))). slice_index_or xs h None) in_place
+              ∙ ap (λ (k : ℕ). slice_index_or (slice_set middle c.port.number (Some child)) k None) (same ∙ sym start.number_is)
+              ∙ get_or-set_same middle c.port.number (Some child) None (let lt = child_below w' new c made in let n = middle_long in omega arith)
 
           rest_there : (h : ℕ) → (h ≡ f → ⊥) → (h ≡ g → ⊥) → at_number nodes p' h ≡ at_number nodes p h
           rest_there h apart ne =
-              laid_others in_place_long h apart ∙ ap (λ (xs : List (Option (Started J))). slice_index_or xs h None) in_place
-              ∙ get_or-set_other taken c.port.number h (Some child) None (λ e. ne (e ∙ start.number_is)) ∙ taken_others h apart
+              ap (λ (xs : List (Option (Started J))). slice_index_or xs h None) in_place
+              ∙ get_or-set_other middle c.port.number h (Some child) None (λ e. ne (e ∙ start.number_is)) ∙ middle_others h apart
 
           fibers_are : (h : ℕ) → option_map held_of (fibers_after f made.label m.fibers h) ≡ option_map held_of (with_at g (Some (begun (Some f) b)) m.fibers h)
           fibers_are h = ap (λ (l : Label). option_map held_of (fibers_after f l m.fibers h)) start.is
@@ -246,7 +268,7 @@ module _ {J : Type 0} (nodes : List Node) (s : ScriptView) (p : PlainMachine J) 
           others : (h : ℕ) → (h ≡ f → ⊥) → held_option nodes (at_number nodes p' h) ≡ option_map held_of (fibers_after f made.label m.fibers h)
           others h apart = elim (cases_eq h g) [
             | inl same ↦
-                ap (held_option nodes) (child_there h apart same) ∙ ap Some child_is
+                ap (held_option nodes) (child_there h same) ∙ ap Some child_is
                 ∙ sym (fibers_are h ∙ ap (option_map held_of) (at_that g (Some (begun (Some f) b)) m.fibers h same))
             | inr ne ↦
                 ap (held_option nodes) (rest_there h apart ne) ∙ others_held h
@@ -256,62 +278,79 @@ module _ {J : Type 0} (nodes : List Node) (s : ScriptView) (p : PlainMachine J) 
           others_numbered : (h : ℕ) → (h ≡ f → ⊥) → IsNumbered nodes h (at_number nodes p' h)
           others_numbered h apart = elim (cases_eq h g) [
             | inl same ↦
-                subst (IsNumbered nodes h) (sym (child_there h apart same)) (subst (λ (k : ℕ). IsNumbered nodes k (Some child)) (sym same) child_numbered)
+                subst (IsNumbered nodes h) (sym (child_there h same)) (subst (λ (k : ℕ). IsNumbered nodes k (Some child)) (sym same) child_numbered)
             | inr ne ↦ subst (IsNumbered nodes h) (sym (rest_there h apart ne)) (so.numbered h)
           ]
 
           pub tries_start : p'.world ≡ w' → is_able (class_at p.world.classes f) ≡ true → Tries nodes s m f p p'
           tries_start world able =
-              step_is_tried nodes s p m so f x here is w' (Child c) new made p' x' world parent fiber number beginning (laid_long in_place_long)
-              (laid_there in_place_long) others others_numbered able
+              step_is_tried nodes s p m so f x here is w' (Child c) new made p' x' world parent fiber number beginning in_place_long fiber_there
+              others others_numbered able
 
-      -- after it was noted that it waits
-      module _ (source : Source) (wait : OnlyWaits plain_calls nodes x.fiber p.world source new w') (same : middle ≡ taken)
-          (world : p'.world ≡ record w' { classes = slice_set w'.classes f (class.Waits source) }) where
-        long : length middle ≡ length p.fibers.items
-        long = ap length same ∙ taken_long
-
-        world_is : p'.world ≡ record p.world { classes = slice_set p.world.classes f (class.Waits source) }
-        world_is = world ∙ ap (λ (w : WorldView). record w { classes = slice_set w.classes f (class.Waits source) }) wait.shared_is
-
+      -- where it has made none
+      module _ (unchanged : IsUnchanged nodes x.fiber new) (same : p'.fibers.items ≡ middle) where
         still : held nodes x' ≡ held nodes x
         still =
             same_made parent (ap (λ (v : FiberView PortView). origin_of nodes v.port.beginning) fiber ∙ ap (origin_of nodes) beginning)
-            (ap (λ (v : FiberView PortView). v.trace) fiber ∙ wait.unchanged.trace) (ap (λ (v : FiberView PortView). v.counts) fiber ∙ wait.unchanged.counts)
-            (ap (progress nodes) fiber ∙ wait.unchanged.progress_is)
+            (ap (λ (v : FiberView PortView). v.trace) fiber ∙ unchanged.trace) (ap (λ (v : FiberView PortView). v.counts) fiber ∙ unchanged.counts)
+            (ap (progress nodes) fiber ∙ unchanged.progress_is)
 
         still_numbered : IsNumbered nodes f (Some x')
         still_numbered = (
           ap (λ (v : FiberView PortView). v.port.number) fiber ∙ number ∙ own_number nodes s p m so f x here is,
-          λ q. ap (λ (v : FiberView PortView). slice_index v.port.put_counts q) fiber ∙ ap (λ (r : PortView). slice_index r.put_counts q) wait.unchanged.port
+          λ q. ap (λ (v : FiberView PortView). slice_index v.port.put_counts q) fiber ∙ ap (λ (r : PortView). slice_index r.put_counts q) unchanged.port
               ∙ (rw here at (so.numbered f)).1 q
-              ∙ sym (ap (λ (es : List Event). length (values_put q es)) (ap (λ (v : FiberView PortView). v.trace) fiber ∙ wait.unchanged.trace)),
+              ∙ sym (ap (λ (es : List Event). length (values_put q es)) (ap (λ (v : FiberView PortView). v.trace) fiber ∙ unchanged.trace)),
         )
-
-        others_there : (h : ℕ) → (h ≡ f → ⊥) → at_number nodes p' h ≡ at_number nodes p h
-        others_there h apart = laid_others long h apart ∙ ap (λ (xs : List (Option (Started J))). slice_index_or xs h None) same ∙ taken_others h apart
 
         all_still : (h : ℕ) → slice_index_or (all_held nodes p') h None ≡ option_map held_of (m.fibers h)
         all_still h = held_at nodes p' h ∙ elim (cases_eq h f) [
           | inl e ↦
-              ap (λ (k : ℕ). held_option nodes (at_number nodes p' k)) e ∙ ap (held_option nodes) (laid_there long) ∙ ap Some still
+              ap (λ (k : ℕ). held_option nodes (at_number nodes p' k)) e ∙ ap (held_option nodes) (same_there same) ∙ ap Some still
               ∙ sym (ap (held_option nodes) here) ∙ ap (λ (k : ℕ). held_option nodes (at_number nodes p k)) (sym e) ∙ others_held h
-          | inr apart ↦ ap (held_option nodes) (others_there h apart) ∙ others_held h
+          | inr apart ↦ ap (held_option nodes) (same_others same h apart) ∙ others_held h
         ]
 
         all_numbered : (h : ℕ) → IsNumbered nodes h (at_number nodes p' h)
         all_numbered h = elim (cases_eq h f) [
-          | inl e ↦ subst (λ (k : ℕ). IsNumbered nodes k (at_number nodes p' k)) (sym e) (rw (laid_there long) still_numbered)
-          | inr apart ↦ subst (IsNumbered nodes h) (sym (others_there h apart)) (so.numbered h)
+          | inl e ↦ subst (λ (k : ℕ). IsNumbered nodes k (at_number nodes p' k)) (sym e) (rw (same_there same) still_numbered)
+          | inr apart ↦ subst (IsNumbered nodes h) (sym (same_others same h apart)) (so.numbered h)
         ]
+
+        -- it stands for the same
+        pub still_stands : p'.world ≡ p.world → StandsForRun nodes s p' m
+        still_stands world = record {
+          moves = so.moves;
+          run = so.run;
+          stands = rw world (record {
+            held_long = length-map p'.fibers.items (held_option nodes) ∙ same_long same ∙ long_is;
+            requested_long = so.stands.requested_long;
+            outside_long = so.stands.outside_long;
+            outcomes_long = so.stands.outcomes_long;
+            fibers = all_still;
+            requested = so.stands.requested;
+            from_outside = so.stands.from_outside;
+            outcomes = so.stands.outcomes;
+            capacities = so.stands.capacities;
+            queues = so.stands.queues;
+          });
+          tells = rw world so.tells;
+          numbered = all_numbered;
+        }
+
+      -- after it was noted that it waits
+      module _ (source : Source) (wait : OnlyWaits plain_calls nodes x.fiber p.world source new w') (same : p'.fibers.items ≡ middle)
+          (world : p'.world ≡ record w' { classes = slice_set w'.classes f (class.Waits source) }) where
+        world_is : p'.world ≡ record p.world { classes = slice_set p.world.classes f (class.Waits source) }
+        world_is = world ∙ ap (λ (w : WorldView). record w { classes = slice_set w.classes f (class.Waits source) }) wait.shared_is
 
         stands : StandsFor s p'.world (all_held nodes p') m
         stands = rw world_is (record {
-          held_long = length-map p'.fibers.items (held_option nodes) ∙ laid_long long ∙ long_is;
+          held_long = length-map p'.fibers.items (held_option nodes) ∙ same_long same ∙ long_is;
           requested_long = so.stands.requested_long;
           outside_long = so.stands.outside_long;
           outcomes_long = so.stands.outcomes_long;
-          fibers = all_still;
+          fibers = all_still wait.unchanged same;
           requested = so.stands.requested;
           from_outside = so.stands.from_outside;
           outcomes = so.stands.outcomes;
@@ -343,4 +382,4 @@ module _ {J : Type 0} (nodes : List Node) (s : ScriptView) (p : PlainMachine J) 
 
         pub tries_waiting : is_able (class_at p.world.classes f) ≡ true → Tries nodes s m f p p'
         tries_waiting able = waits (unready_cannot s p'.world (all_held nodes p') m stands tells f unready)
-            (record { moves = so.moves; run = so.run; stands = stands; tells = tells; numbered = all_numbered }) (fewer able)
+            (record { moves = so.moves; run = so.run; stands = stands; tells = tells; numbered = all_numbered wait.unchanged same }) (fewer able)

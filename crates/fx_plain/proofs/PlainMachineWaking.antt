@@ -1,13 +1,15 @@
 -- A machine lets a ready fiber make a step: one that waited at a queue is woken first, and then does make one.
-use Rattle.std.proofs.Common.{◌≡◌, ℕ, ◌<◌, Bool, true, false, List, refl, sym, ◌∙◌, ap, arith}
+use Rattle.std.proofs.Common.{◌≡◌, ℕ, ◌<◌, Bool, true, false, List, length, refl, sym, ◌∙◌, ap, arith}
 use Rattle.std.specs.Prelude.{slice_set}
-use Rattle.std.proofs.lemmas.List.{set-get_or}
+use Rattle.std.proofs.lemmas.List.{length-map, set-get_or}
 use Rattle.fx_term.specs.declared.node.Node.{Node}
 use Rattle.fx_term.specs.Script.{ScriptView, total}
 use Rattle.fx_plain.specs.declared.class.Class.{Class}
 use Rattle.fx_plain.specs.declared.class.Class.TheVariants.{Unstarted, Able}
 use Rattle.fx_plain.specs.declared.plain_machine.PlainMachine.{PlainMachine}
 use Rattle.fx_plain.specs.WholeMachine.{WholeMachine}
+use Rattle.fx_plain.specs.PlainQueue.{have_room, have_element}
+use Rattle.fx_plain.specs.Classes.{is_ready}
 use Rattle.fx_plain.specs.ClassSets.{class_at, is_able}
 use Rattle.fx_plain.specs.World.{WorldView, is_ready_in, after_start}
 use Rattle.fx_plain.specs.PlainMachine.{able_count, all_held, StandsForRun, StandsForSome, Tries, steps, waits}
@@ -20,6 +22,17 @@ use Rattle.fx_plain.proofs.WorldClasses.{ready_goes, ready_can, wake_tells}
 able_class : (k : Class) → is_able k ≡ true → k ≡ Able
 able_class Able e = refl
 able_class _ e = absurd cc
+
+-- who is able has a place
+pub able_has_place : {J : Type 0} (nodes : List Node) (s : ScriptView) (p : PlainMachine J) (m : WholeMachine) → StandsForRun nodes s p m → (f : ℕ)
+    → is_able (class_at p.world.classes f) ≡ true → f < length p.fibers.items
+able_has_place nodes s p m so f able =
+    let ready : is_ready_in p.world f ≡ true =
+    ap (is_ready (have_room p.world.queues) (have_element p.world.queues)) (able_class (class_at p.world.classes f) able) in
+    let going = ready_goes s p.world (all_held nodes p) m so.stands so.tells f ready in
+    let below = (run_keeps s so.moves m so.run).ranges.started_below f going.fiber going.at in
+    let long : length p.fibers.items ≡ total s = sym (length-map p.fibers.items _) ∙ so.stands.held_long in
+    omega arith
 
 module _ {J : Type 0} (nodes : List Node) (p : PlainMachine J) (f : ℕ) (w' : WorldView) (world : w' ≡ after_start f p.world)
     (ready : is_ready_in p.world f ≡ true) where

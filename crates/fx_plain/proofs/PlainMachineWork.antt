@@ -60,10 +60,10 @@ module _ {J : Type 0} (nodes : List Node) where
   left_of p = work_held p * (length p.fibers.items + 1) + able_count p.world.classes
 
   module _ (s : ScriptView) (p : PlainMachine J) (m : WholeMachine) (so : StandsForRun nodes s p m) where
-    places : length p.fibers.items ≡ total s
+    pub places : length p.fibers.items ≡ total s
     places = sym (length-map p.fibers.items _) ∙ so.stands.held_long
 
-    work_is : work_held p ≡ whole_machine_work s m
+    pub work_is : work_held p ≡ whole_machine_work s m
     work_is =
         same_sum (λ f. work_of_held (slice_index_or (all_held nodes p) f None)) (λ f. work_of_fiber (m.fibers f)) 0 (length p.fibers.items)
         (λ f low high. ap work_of_held (so.stands.fibers f) ∙ held_work_is (m.fibers f))

@@ -8,6 +8,9 @@ use Rattle.fx_term.specs.Script.{ScriptView}
 use Rattle.fx_model.specs.Row.{Label}
 use Rattle.fx_model.specs.Origin.{origin_of}
 use Rattle.fx_fiber.specs.Fiber.{progress}
+use Rattle.fx_fiber.specs.declared.stepped.Stepped.{Stepped}
+use Rattle.fx_fiber.specs.MakesStep.{DoesStep}
+use Rattle.fx_fiber.specs.Bursts.{Bursts}
 use Rattle.fx_model.specs.Step.{has_ended, leaf_at}
 use Rattle.fx_model.specs.Waiting.{wait_at}
 use Rattle.fx_model.specs.Report.{FiberReportView}
@@ -19,7 +22,8 @@ use Rattle.fx_plain.specs.WholeMachine.{WholeMachine, Move, can_step_in, IsWhole
 use Rattle.fx_plain.specs.Chosen.{ChosenStep}
 use Rattle.fx_plain.specs.declared.class.Class.{Class}
 use Rattle.fx_plain.specs.ClassSets.{is_able}
-use Rattle.fx_plain.specs.World.{HeldFiber, is_ready_in, StandsFor}
+use Rattle.fx_plain.specs.World.{WorldView, HeldFiber, is_ready_in, StandsFor}
+use Rattle.fx_plain.specs.PlainCalls.{PortView, facts_of, plain_calls}
 use Rattle.fx_plain.specs.WorldClasses.{TellsWhoSteps}
 use Rattle.fx_plain.specs.OnTheWay.{IsOnTheWay}
 
@@ -70,6 +74,33 @@ module _ {J : Type 0} (nodes : List Node) where
   IsNumbered f None = Unit {0}
   IsNumbered f (Some x) = (x.fiber.port.number ≡ f) × ((q : ℕ) → slice_index x.fiber.port.put_counts q ≡ length (values_put q x.fiber.trace))
 
+  -- a fiber has started at the place, and has not ended
+  abbrev pub IsGoingAt : Option (Started J) → Type 0
+  IsGoingAt None = ⊥
+  IsGoingAt (Some x) = has_ended (progress nodes x.fiber) ≡ false
+
+  -- the fiber of the place made a step with this answer, or waits, and stands there as before
+  pub record StepsAt (old : Option (Started J)) (world : WorldView) (answer : Stepped PortView WorldView) (new : Option (Started J)) (world' : WorldView)
+      : Type 0 where
+    pub before : Started J
+    pub after : Started J
+    pub from : old ≡ Some before
+    pub to : new ≡ Some after
+    pub does : DoesStep plain_calls facts_of nodes before.fiber world answer after.fiber world'
+    pub parent : after.parent ≡ before.parent
+    pub number : after.fiber.port.number ≡ before.fiber.port.number
+    pub beginning : after.fiber.port.beginning ≡ before.fiber.port.beginning
+
+  -- the fiber of the place made a burst of at most so many steps, and stands there as before
+  pub record BurstsAt (most : ℕ) (old : Option (Started J)) (world : WorldView) (new : Option (Started J)) (world' : WorldView) : Type 0 where
+    pub before : Started J
+    pub after : Started J
+    pub from : old ≡ Some before
+    pub to : new ≡ Some after
+    pub n : ℕ
+    pub does : Bursts plain_calls facts_of nodes most n before.fiber world after.fiber world'
+    pub parent : after.parent ≡ before.parent
+
   -- it stands for that whole machine, to which some run leads
   pub record StandsForRun (s : ScriptView) (p : PlainMachine J) (m : WholeMachine) : Type 0 where
     pub moves : List Move
@@ -87,6 +118,12 @@ module _ {J : Type 0} (nodes : List Node) where
     pub machine : WholeMachine
     pub stands : StandsForRun s p machine
     pub way : IsOnTheWay s all left machine
+
+  -- fiber f makes steps that a schedule makes, none or more, each with the world as it was, which lead from one whole machine to another
+  pub data GoesOn (s : ScriptView) (f : ℕ) (m : WholeMachine) (p : PlainMachine J) : WholeMachine → PlainMachine J → Type 0 where
+    stays : {p' : PlainMachine J} → StandsForRun s p' m → p'.world ≡ p.world → GoesOn s f m p m p'
+    goes : {l : Label} {n n' : WholeMachine} {q p' : PlainMachine J} → GoesOn s f m p n q → ChosenStep s n f l n' → StandsForRun s p' n'
+        → p'.world ≡ q.world → GoesOn s f m p n' p'
 
   -- a step of fiber f that a schedule makes; or that fiber cannot step, and it is noted that it waits, so that one fiber less is able
   pub data Tries (s : ScriptView) (m : WholeMachine) (f : ℕ) (p p' : PlainMachine J) : Type 0 where

@@ -1,5 +1,5 @@
 -- What the fibers wait for that are blocked at the end of the run that picks choose.
-use Rattle.std.specs.Prelude.{◌≡◌, ℕ, Option, Some, None, option_and_then, List, map, All}
+use Rattle.std.specs.Prelude.{◌≡◌, Option, Some, None, option_and_then, List, map, All}
 use Rattle.fx_term.specs.Script.{ScriptView}
 use Rattle.fx_model.specs.Step.{leaf_at}
 use Rattle.fx_model.specs.Report.{ReportView}

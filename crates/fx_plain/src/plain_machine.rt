@@ -1,15 +1,21 @@
 //! All fibers of a script on one thread.
-ghost use Rattle.std.specs.Prelude.{◌≡◌, ℕ, ◌<◌, ◌-◌, ◌∷◌, [], true, Some, None, List, IfOk, OnOk};
+ghost use Rattle.std.specs.Prelude.{◌≡◌, ℕ, ◌<◌, ◌-◌, ◌^◌, ◌∷◌, [], true, false, Some, None, List, IfOk, OnOk};
 ghost use Rattle.std.specs.Prelude.{length, option_and_then, replicate, slice_index_or, slice_set};
 ghost use Rattle.fx_term.specs.Code.{IsCode};
 ghost use Rattle.fx_term.specs.Script.{ScriptView};
 ghost use Rattle.fx_text.specs.View.{meaning};
 ghost use Rattle.fx_text.specs.declared.pick.Pick.{Pick};
+ghost use Rattle.fx_model.specs.Step.{has_ended};
+ghost use Rattle.fx_fiber.specs.Fiber.{progress};
+ghost use Rattle.fx_fiber.specs.MakesStep.{DoesStep};
+ghost use Rattle.fx_fiber.specs.Bursts.{Bursts};
+ghost use Rattle.fx_plain.specs.PlainCalls.{facts_of, plain_calls};
 ghost use Rattle.fx_plain.specs.WholeMachine.{WholeMachine, opening};
 ghost use Rattle.fx_plain.specs.Chosen.{IsReplay};
 ghost use Rattle.fx_plain.specs.ClassSets.{class_at, is_able};
 ghost use Rattle.fx_plain.specs.World.{is_ready_in};
 ghost use Rattle.fx_plain.specs.PlainMachine.{reported, all_reported, StandsForRun, StandsForSome, Tries, IsUnderWay, Rests};
+ghost use Rattle.fx_plain.specs.PlainMachine.{IsGoingAt, StepsAt, BurstsAt, GoesOn};
 ghost use Rattle.fx_plain.specs.PlainMachine.{wait_of, all_waits};
 ghost use Rattle.fx_report.specs.Script.{script_of};
 
@@ -39,6 +45,29 @@ impl<J: CodeBrand> Started<J> {
             fiber: self.fiber.id(),
             source,
         })
+    }
+
+    /// Lets it make one step.
+    fn step(&mut self, code: &Code, world: &mut PlainWorld) -> Result<Stepped<PlainPort<J>>, Memory>
+        requires code { code.now.nodes ≡ J.nodes }
+        requires going { has_ended (progress J.nodes self.old.fiber) ≡ false }
+        ensures ok { IfOk result (λ answer. DoesStep plain_calls facts_of J.nodes
+            self.old.fiber world.old answer self.new.fiber world.new) }
+        ensures same { self.new ≡ record self.old { fiber = self.new.fiber } }
+        ensures number { self.new.fiber.port.number ≡ self.old.fiber.port.number }
+        ensures beginning { self.new.fiber.port.beginning ≡ self.old.fiber.port.beginning }
+    {
+        self.fiber.step(code, world)
+    }
+
+    /// Lets it make silent steps in one go, as many as it can, and answers how many it made.
+    fn burst(&mut self, code: &Code, world: &mut PlainWorld) -> Result<u32, Memory>
+        requires code { code.now.nodes ≡ J.nodes }
+        ensures ok { IfOk result (λ n. Bursts plain_calls facts_of J.nodes (2 ^ 32 - 1) n
+            self.old.fiber world.old self.new.fiber world.new) }
+        ensures same { self.new ≡ record self.old { fiber = self.new.fiber } }
+    {
+        self.fiber.burst(code, world, u32::MAX)
     }
 
     /// What is reported of it.
@@ -119,6 +148,40 @@ fn alone<J: CodeBrand>(
     Ok(fibers)
 }
 
+/// Lets the fiber of this place make one step where it stands.
+fn step_at<J: CodeBrand>(
+    place: &mut Option<Started<J>>,
+    code: &Code,
+    world: &mut PlainWorld,
+) -> Result<Stepped<PlainPort<J>>, Memory>
+    requires code { code.now.nodes ≡ J.nodes }
+    requires going { IsGoingAt J.nodes place.old }
+    ensures { IfOk result (λ answer.
+        StepsAt J.nodes place.old world.old answer place.new world.new) }
+{
+    let Some(started) = place else {
+        unreachable!();
+    };
+    started.step(code, world)
+}
+
+/// Lets the fiber of this place make silent steps in one go where it stands.
+fn burst_at<J: CodeBrand>(
+    place: &mut Option<Started<J>>,
+    code: &Code,
+    world: &mut PlainWorld,
+) -> Result<(), Memory>
+    requires code { code.now.nodes ≡ J.nodes }
+    requires going { IsGoingAt J.nodes place.old }
+    ensures { OnOk result (BurstsAt J.nodes (2 ^ 32 - 1) place.old world.old place.new world.new) }
+{
+    let Some(started) = place else {
+        unreachable!();
+    };
+    let _ = started.burst(code, world)?;
+    Ok(())
+}
+
 /// All fibers of a script on one thread: the world that they share, and by number each one that has
 /// started.
 #[derive(Drop)]
@@ -142,15 +205,6 @@ impl<J: CodeBrand> PlainMachine<J> {
         Ok(PlainMachine { world, fibers })
     }
 
-    /// The fiber of this number, taken out of its place, if it has started.
-    fn take(&mut self, id: u32) -> Option<Started<J>>
-        ensures fiber { result ≡ slice_index_or self.old.fibers.items id None }
-        ensures fibers { self.new.fibers.items ≡ slice_set self.old.fibers.items id None }
-        ensures world { self.new.world ≡ self.old.world }
-    {
-        self.fibers.get_mut(id as usize)?.take()
-    }
-
     /// Lays a fiber down at its place.
     fn put(&mut self, id: u32, started: Started<J>)
         requires { id < length self.old.fibers.items }
@@ -169,10 +223,7 @@ impl<J: CodeBrand> PlainMachine<J> {
         ensures tries { OnOk result ((s : ScriptView) (m : WholeMachine)
             → StandsForRun J.nodes s self.old m → Tries J.nodes s m id self.old self.new) }
     {
-        let Some(mut started) = self.take(id) else {
-            unreachable!();
-        };
-        match started.fiber.step(code, &mut self.world)? {
+        match step_at(&mut self.fibers[id as usize], code, &mut self.world)? {
             Stepped::Went | Stepped::Gave | Stepped::Ended => {}
             Stepped::Child(fiber) => {
                 let parent = Some(id);
@@ -180,7 +231,19 @@ impl<J: CodeBrand> PlainMachine<J> {
             }
             Stepped::Waits(source) => self.world.wait(id, source),
         }
-        self.put(id, started);
+        Ok(())
+    }
+
+    /// Lets a fiber that is able make silent steps in one go. One that waits stands at none.
+    fn burst(&mut self, code: &Code, id: u32) -> Result<(), Memory>
+        requires code { code.now.nodes ≡ J.nodes }
+        requires stands { StandsForSome J.nodes self.old }
+        ensures goes { OnOk result ((s : ScriptView) (m : WholeMachine) → StandsForRun J.nodes s self.old m
+            → (m' : WholeMachine) × GoesOn J.nodes s id m self.old m' self.new) }
+    {
+        if self.world.is_able(id) {
+            burst_at(&mut self.fibers[id as usize], code, &mut self.world)?;
+        }
         Ok(())
     }
 
@@ -226,6 +289,7 @@ impl<J: CodeBrand> PlainMachine<J> {
             → IsUnderWay J.nodes s all [] self.old → IsUnderWay J.nodes s all [] self.new) }
     {
         while let Some(fiber) = self.world.least() {
+            self.burst(code, fiber)?;
             self.try_step(code, fiber)?;
         }
         Ok(())

@@ -4,6 +4,7 @@ ghost use Rattle.std.specs.Prelude.{option_map, length, map, slice_index_or, sli
 ghost use Rattle.std.specs.List.{filter, range_with_len};
 ghost use Rattle.fx_plain.specs.declared.class.Class.TheVariants.{Able, Waits};
 ghost use Rattle.fx_plain.specs.NumberSet.{IsLeastOf};
+ghost use Rattle.fx_plain.specs.ClassSets.{class_at, is_able};
 ghost use Rattle.fx_plain.specs.PlainQueue.{empty_queue, queue_at, have_room, have_element, front_of};
 ghost use Rattle.fx_term.specs.Code.{IsCode};
 ghost use Rattle.fx_term.specs.Script.{ScriptView, total};
@@ -161,6 +162,13 @@ impl PlainWorld {
             Class::Waits(Source::Element(queue)) => self.has_element(queue),
             Class::Unstarted | Class::Waits(_) | Class::Over => false,
         }
+    }
+
+    /// Whether the fiber is able: it has started, has not ended, and is not known to wait.
+    pub(crate) fn is_able(&self, fiber: u32) -> bool
+        ensures { result ≡ is_able (class_at self.now.classes fiber) }
+    {
+        matches!(self.classes.class(fiber), Class::Able)
     }
 
     /// Puts the element at the back of the queue.

@@ -19,7 +19,7 @@ use fx_term::{Code, Memory};
 
 /// What comes before the rule of the place: at an open one cancellation where it is due, and else a
 /// request where a look finds one.
-fn interruption<P: Port>(
+pub(crate) fn interruption<P: Port>(
     port: &mut P,
     machine: &Machine,
     shared: &mut P::Shared,
@@ -78,7 +78,10 @@ pub(crate) fn advance<P: Port>(
         },
         Focus::Turn(id, turn) => match interruption(port, machine, shared, false) {
             Some(first) => machine.interrupted(first),
-            None => machine.turn_rule(id, turn, code.node(id)),
+            None => {
+                machine.turn_rule(id, turn, code.node(id))?;
+                Ok(Made::Silent)
+            }
         },
         Focus::Await(fiber) => Ok(machine.awaits(port, shared, fiber)),
         Focus::Unwinding => Ok(machine.unwinds()),

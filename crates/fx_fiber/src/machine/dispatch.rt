@@ -64,58 +64,13 @@ impl Machine {
         ensures ok { IfOk result (λ made. MakesRule nodes self.old made self.new) }
         ensures err { OnErr result (IsSame nodes self.old self.new) }
     {
+        if self.silent_leaf(id, node)? {
+            return Ok(Made::Silent);
+        }
         match *node {
-            Node::Pure(value) => Ok(self.pure(value)),
-            Node::Raise(error) => Ok(self.raise(error)),
             Node::Canceled => Ok(self.self_request()),
             Node::Cede => Ok(self.cede()),
-            Node::If(value, part, other) => Ok(self.if_rule(value, part, other)),
-            Node::For(..) => Ok(self.for_begins(id)),
-            Node::Mask(name, part) => self.mask(name, part),
-            Node::Poll(name, part) => self.poll(name, part),
-            Node::Never
-            | Node::Let(..)
-            | Node::Handle(..)
-            | Node::OnCancel(..)
-            | Node::Bracket(..)
-            | Node::Start(..)
-            | Node::Join(..)
-            | Node::Cancel(_)
-            | Node::First(..)
-            | Node::Offer(..)
-            | Node::TryOffer(..)
-            | Node::Take(_)
-            | Node::TryTake(..) => { unreachable!() }
-        }
-    }
-
-    /// The row of an `if`, by its number.
-    fn if_rule(&mut self, value: Arg, part: NodeId, other: NodeId) -> Made
-        ghost nodes: { List Node }
-        requires at { (id : NodeId) × StandsAt nodes self.old id (node.If value part other) }
-        ensures { MakesRule nodes self.old result self.new }
-    {
-        if self.registers.number_of(value) != 0 {
-            self.if_not_zero(part)
-        } else {
-            self.if_zero(other)
-        }
-    }
-
-    /// The row of a loop: a turn, or its end.
-    pub fn turn_rule(&mut self, id: NodeId, turn: u32, node: &Node) -> Result<Made, Memory>
-        ghost nodes: { List Node }
-        requires at { IsBeforeTurn nodes self.old id turn node.now }
-        ensures ok { IfOk result (λ made. MakesRule nodes self.old made self.new) }
-        ensures err { OnErr result (IsSame nodes self.old self.new) }
-    {
-        let Node::For(name, count, part) = *node else {
-            unreachable!();
-        };
-        if turn < count {
-            self.loop_turns(id, turn, name, part)
-        } else {
-            Ok(self.loop_ends())
+            _ => unreachable!(),
         }
     }
 
@@ -128,21 +83,16 @@ impl Machine {
         ensures ok { IfOk result (λ made. MakesRule nodes self.old made self.new) }
         ensures err { OnErr result (IsSame nodes self.old self.new) }
     {
+        if self.silent_result(done)? {
+            return Ok(Made::Silent);
+        }
         match (self.frames.last(), done) {
-            (Some(&Frame::Let(name, b)), Done::Val(n)) => self.let_value(name, b, n),
-            (Some(&Frame::Let(..)), Done::Err(_)) => Ok(self.let_error()),
-            (Some(&Frame::Handle(..)), Done::Val(_)) => Ok(self.handle_value()),
-            (Some(&Frame::Handle(name, b)), Done::Err(e)) => self.handle_error(name, b, e),
-            (Some(&Frame::OnCancel(_)), _) => Ok(self.oncancel_ends()),
-            (Some(&Frame::Masked), _) => Ok(self.masked_ends()),
-            (Some(&Frame::Opened(r, took_off)), _) => Ok(self.opened_ends(r, took_off)),
-            (Some(&Frame::Loop(id, turn)), Done::Val(_)) => Ok(self.turn_value(id, turn)),
-            (Some(&Frame::Loop(..)), Done::Err(_)) => Ok(self.turn_error()),
             (Some(&Frame::Acquire(id)), Done::Val(n)) => self.acquire_rule(id, code.node(id), n),
             (Some(&Frame::Acquire(_)), Done::Err(_)) => Ok(self.acquire_fails()),
             (Some(&Frame::Using(k, release)), done) => self.used(k, release, done),
             (Some(&Frame::Releasing(k, result)), done) => Ok(self.released(k, result, done)),
             (None, done) => Ok(self.end_rule(done)),
+            (Some(_), _) => unreachable!(),
         }
     }
 

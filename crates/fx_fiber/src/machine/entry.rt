@@ -6,6 +6,7 @@ use fx_frames::Frame;
 use fx_term::{Node, NodeId};
 
 /// The context that is entered at this node, and the part that stands in it. A leaf has none.
+#[inline(always)]
 pub(crate) fn entry_of(id: NodeId, node: &Node) -> Option<(Frame, NodeId)>
     ensures { MatchOption result (IsLeafNode (Some node.now))
         (λ entry. IsEntryOf id node.now entry.0 entry.1) }
@@ -36,6 +37,7 @@ pub(crate) fn entry_of(id: NodeId, node: &Node) -> Option<(Frame, NodeId)>
 }
 
 /// Whether the node is `canceled`.
+#[inline(always)]
 pub(crate) fn is_canceled(node: &Node) -> bool
     ensures { result ≡ is_canceled_node node.now }
 {

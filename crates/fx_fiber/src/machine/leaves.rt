@@ -1,7 +1,7 @@
 //! The rules of leaves that have no part, one method each, named as in the table.
 ghost use Rattle.fx_term.specs.declared.node.Node.TheVariants as node;
 ghost use Rattle.fx_fiber.specs.Places.{StandsAt};
-ghost use Rattle.fx_fiber.specs.Makes.{MakesRule};
+ghost use Rattle.fx_fiber.specs.Makes.{MakesRule, MakesSilently};
 
 use crate::machine::Machine;
 use crate::machine::focus::Focus;
@@ -14,25 +14,25 @@ impl Machine {
     ghost use Rattle.fx_term.specs.declared.node.NodeId.{NodeId};
 
     /// `pure n` becomes its value.
-    pub fn pure(&mut self, value: Arg) -> Made
+    #[inline(always)]
+    pub fn pure(&mut self, value: Arg)
         ghost nodes: { List Node }
         requires at { (id : NodeId) × StandsAt nodes self.old id (node.Pure value) }
-        ensures { MakesRule nodes self.old result self.new }
+        ensures { MakesSilently nodes self.old self.new }
     {
         let n = self.registers.number_of(value);
         self.focus = Focus::Return(Done::Val(n));
-        Made::Silent
     }
 
     /// `raise e` becomes its error.
-    pub fn raise(&mut self, error: Arg) -> Made
+    #[inline(always)]
+    pub fn raise(&mut self, error: Arg)
         ghost nodes: { List Node }
         requires at { (id : NodeId) × StandsAt nodes self.old id (node.Raise error) }
-        ensures { MakesRule nodes self.old result self.new }
+        ensures { MakesSilently nodes self.old self.new }
     {
         let e = self.registers.number_of(error);
         self.focus = Focus::Return(Done::Err(e));
-        Made::Silent
     }
 
     /// `canceled` where the place is closed: the fiber is known to be canceled from now on.

@@ -3,35 +3,36 @@ ghost use Rattle.std.specs.Prelude.{◌≡◌, ◌^◌, ◌<◌, ◌∷◌, OnOk
 ghost use Rattle.fx_mask.specs.Masks.{entered};
 ghost use Rattle.fx_term.specs.declared.node.Node.TheVariants as node;
 ghost use Rattle.fx_fiber.specs.Places.{IsSame, StandsAt, ReturnsInto};
-ghost use Rattle.fx_fiber.specs.Makes.{MakesRule};
+ghost use Rattle.fx_fiber.specs.Makes.{MakesSilently};
 
 use crate::machine::Machine;
 use crate::machine::focus::Focus;
-use crate::machine::made::Made;
 use fx_frames::Frame;
 use fx_mask::Region;
 use fx_term::{Arg, Memory, NodeId};
 
 impl Machine {
-    ghost use Rattle.std.specs.Prelude.{Bool, List, IfOk};
+    ghost use Rattle.std.specs.Prelude.{Bool, List};
     ghost use Rattle.fx_term.specs.declared.node.Node.{Node};
     ghost use Rattle.fx_term.specs.declared.done.Done.{Done};
 
     /// A `mask` closes a new region, and its name has that region's number.
-    pub fn mask(&mut self, name: u32, part: NodeId) -> Result<Made, Memory>
+    #[inline(always)]
+    pub fn mask(&mut self, name: u32, part: NodeId) -> Result<(), Memory>
         ghost nodes: { List Node }
         requires at { (id : NodeId) × StandsAt nodes self.old id (node.Mask name part) }
         requires countable { self.old.masks.entries < 2 ^ 63 }
-        ensures ok { IfOk result (λ made. MakesRule nodes self.old made self.new) }
+        ensures ok { OnOk result (MakesSilently nodes self.old self.new) }
         ensures err { OnErr result (IsSame nodes self.old self.new) }
     {
         self.registers.bind(Some(name), self.masks.entries())?;
         self.close_region()?;
         self.focus = Focus::Eval(part);
-        Ok(Made::Silent)
+        Ok(())
     }
 
     /// Enters the context of a mask, whose region closes what stands in it.
+    #[inline(always)]
     fn close_region(&mut self) -> Result<(), Memory>
         requires { self.old.masks.entries < 2 ^ 63 }
         ensures ok { OnOk result
@@ -50,10 +51,11 @@ impl Machine {
     }
 
     /// A `poll` opens its mask's region where that is the innermost.
-    pub fn poll(&mut self, name: u32, part: NodeId) -> Result<Made, Memory>
+    #[inline(always)]
+    pub fn poll(&mut self, name: u32, part: NodeId) -> Result<(), Memory>
         ghost nodes: { List Node }
         requires at { (id : NodeId) × StandsAt nodes self.old id (node.Poll name part) }
-        ensures ok { IfOk result (λ made. MakesRule nodes self.old made self.new) }
+        ensures ok { OnOk result (MakesSilently nodes self.old self.new) }
         ensures err { OnErr result (IsSame nodes self.old self.new) }
     {
         let region = Region(self.registers.number_of(Arg::Slot(name)));
@@ -65,41 +67,41 @@ impl Machine {
             return Err(refused);
         }
         self.focus = Focus::Eval(part);
-        Ok(Made::Silent)
+        Ok(())
     }
 
     /// A result in a mask is its result, and the mask's region is left.
-    pub fn masked_ends(&mut self) -> Made
+    #[inline(always)]
+    pub fn masked_ends(&mut self)
         ghost nodes: { List Node }
         requires { (done : Done) × ReturnsInto nodes self.old Frame.Masked done }
-        ensures { MakesRule nodes self.old result self.new }
+        ensures { MakesSilently nodes self.old self.new }
     {
         let _ = self.frames.pop();
         self.masks.leave();
-        Made::Silent
     }
 
     /// A result in a poll is its result, and the region that the poll took off is closed again.
-    pub fn opened_ends(&mut self, region: Region, took_off: bool) -> Made
+    #[inline(always)]
+    pub fn opened_ends(&mut self, region: Region, took_off: bool)
         ghost nodes: { List Node }
         requires { (done : Done) × ReturnsInto nodes self.old (Frame.Opened region took_off) done }
-        ensures { MakesRule nodes self.old result self.new }
+        ensures { MakesSilently nodes self.old self.new }
     {
         let _ = self.frames.pop();
         if took_off {
             self.masks.reclose(region);
         }
-        Made::Silent
     }
 
     /// A result in an `oncancel` is its result, and the finalizer is not run.
-    pub fn oncancel_ends(&mut self) -> Made
+    #[inline(always)]
+    pub fn oncancel_ends(&mut self)
         ghost nodes: { List Node }
         requires { (finalizer : NodeId) × (done : Done)
             × ReturnsInto nodes self.old (Frame.OnCancel finalizer) done }
-        ensures { MakesRule nodes self.old result self.new }
+        ensures { MakesSilently nodes self.old self.new }
     {
         let _ = self.frames.pop();
-        Made::Silent
     }
 }

@@ -2,6 +2,7 @@ use Rattle.std.proofs.Common.{◌≡◌, refl, ap}
 use Rattle.std.proofs.lemmas.Result.{IfOk-weaker}
 use Rattle.fx_model.specs.Row.{Counts}
 use Rattle.fx_fiber.specs.Makes.{MakesRule}
+use Rattle.fx_fiber.specs.declared.machine.made.Made.TheVariants.{Silent}
 use Rattle.fx_fiber.specs.Interruption.{Interrupts}
 use Rattle.fx_fiber.specs.MakesCall.{MakesCall}
 use Rattle.fx_fiber.proofs.Calls.{local_call}
@@ -69,15 +70,14 @@ returns-in-None-interruption-clause-ok g c =
     (local_call g.P.Port.calls g.P.Port.agrees g.P.Port.facts g.P.Port.code s _ _ _ _ m _ refl refl h))
     c.result_rule.ensures.ok
 
-pub returns-in-None-interruption-2-clause-ok : goal.returns-in-None-interruption-2-clause-ok
-returns-in-None-interruption-2-clause-ok g c =
+pub returns-in_ok-turn_rule-in-None-interruption-2-clause-ok : goal.returns-in_ok-turn_rule-in-None-interruption-2-clause-ok
+returns-in_ok-turn_rule-in-None-interruption-2-clause-ok g c =
     let s = c.args.machine.now in
     let inside = inside_loop g.P.Port.code s c.in-Turn.id c.in-Turn.turn c.requires.sound c.in-Turn.is in
-    IfOk-weaker c.turn_rule.result (λ m. MakesRule g.P.Port.code s m c.turn_rule.new.self) _
-    (λ m h. rule_advances g.P.Port.calls g.P.Port.agrees g.P.Port.facts g.P.Port.code s s _ _ _ _ _
-    (same_here g.P.Port.code s c.requires.sound) inside m _ _ _ c.in-None-interruption-2.ensures.first
-    (local_call g.P.Port.calls g.P.Port.agrees g.P.Port.facts g.P.Port.code s _ _ _ _ m _ refl refl h))
-    c.turn_rule.ensures.ok
+    rule_advances g.P.Port.calls g.P.Port.agrees g.P.Port.facts g.P.Port.code s s _ _ _ _ _
+    (same_here g.P.Port.code s c.requires.sound) inside Silent _ _ _ c.in-None-interruption-2.ensures.first
+    (local_call g.P.Port.calls g.P.Port.agrees g.P.Port.facts g.P.Port.code s _ _ _ _ Silent _ refl refl
+    c.in_ok-turn_rule-in-None-interruption-2.ensures.ok)
 
 pub returns-in-Await-clause-ok : goal.returns-in-Await-clause-ok
 returns-in-Await-clause-ok g c =

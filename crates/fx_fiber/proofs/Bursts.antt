@@ -1,0 +1,207 @@
+-- Silent rules one after the other, and what each of them keeps.
+use Rattle.std.proofs.Common.{◌≡◌, ◌∙◌, ℕ, zero, suc, ◌+◌, ◌<◌, ◌≤◌, Bool, true, false, Option, List, [], ◌∷◌, ◌++◌, refl, sym, ap, subst, append-nil}
+use Rattle.std.proofs.Common.{inl, inr, arith}
+use Rattle.std.proofs.Math.Numerals.{add-one}
+use Rattle.fx_term.specs.declared.node.Node.{Node}
+use Rattle.fx_term.specs.declared.event.Event.{Event}
+use Rattle.fx_term.specs.declared.event.Event.TheVariants as event
+use Rattle.fx_term.specs.Term.{Term}
+use Rattle.fx_model.specs.Row.{Counts, Label, Silent, Shows, Row}
+use Rattle.fx_model.specs.Row as row
+use Rattle.fx_model.specs.Step.{Progress, Step, has_ended}
+use Rattle.fx_model.specs.Step as step
+use Rattle.fx_model.specs.declared.source.Source.{Source}
+use Rattle.fx_fiber.specs.Calls.{PortCalls}
+use Rattle.fx_fiber.specs.PortFacts.{Facts}
+use Rattle.fx_fiber.specs.Deed.{Deed, Saw}
+use Rattle.fx_fiber.specs.Fiber.{FiberView, fiber_at, IsUnchanged, IsKept}
+use Rattle.fx_fiber.specs.Bursts.{GoesBy, GoesSilently, Bursts, BurstsShort, HasLooked, ComesAhead, GlidesOnce, GlidesTo}
+use Rattle.fx_fiber.specs.Places.{IsSame, IsInside, is_open_machine, must_cancel_machine}
+use Rattle.fx_fiber.specs.Interruption.{Interrupts, IsInterrupted}
+use Rattle.fx_fiber.specs.Makes.{MakesIfSilent}
+use Rattle.fx_fiber.specs.Advances.{Advances}
+use Rattle.fx_fiber.specs.declared.machine.made.Made.{Made}
+use Rattle.fx_fiber.specs.declared.machine.made.Made.TheVariants as made
+use Rattle.fx_fiber.specs.declared.machine.interruption.Interruption.TheVariants.{Request}
+use Rattle.fx_fiber.specs.declared.fiber.ahead.Looked.{Looked}
+use Rattle.fx_fiber.specs.declared.fiber.ahead.Looked.TheVariants.{InVain, NotYet}
+use Rattle.fx_fiber.specs.declared.fiber.ahead.Ahead.TheVariants as ahead
+use Rattle.fx_fiber.specs.declared.fiber.glide.Glided.TheVariants as glided
+use Rattle.fx_fiber.specs.declared.machine.Machine.{Machine}
+use Rattle.fx_fiber.proofs.Advances.{is_free, is_interrupted, interrupted_advances, rule_advances}
+use Rattle.fx_fiber.proofs.Calls.{local_call}
+use Rattle.fx_fiber.proofs.Telling.{same_is_unchanged, told_keeps}
+
+-- a silent step leaves a fiber known to be canceled, or not, as it was
+abbrev pub KnowsAsBefore : Counts → Counts → Label → Type 0
+KnowsAsBefore c d Silent = d.known ≡ c.known
+KnowsAsBefore c d _ = Unit {0}
+
+row_knows : {k : Bool} {c d : Counts} {l : Label} {t t' : Term} → Row k c t l d t' → KnowsAsBefore c d l
+row_knows (row.inside f e g r) = row_knows r
+row_knows _ = search
+
+step_knows : {c d : Counts} {p q : Progress} {l : Label} → Step c p l d q → KnowsAsBefore c d l
+step_knows (step.row m r) = row_knows r
+step_knows (step.cleans r) = row_knows r
+step_knows _ = search
+
+-- what steps has not ended
+step_is_going : {c d : Counts} {p q : Progress} {l : Label} → Step c p l d q → has_ended p ≡ false
+step_is_going (step.cancelled e) = refl
+step_is_going (step.seen e f) = refl
+step_is_going (step.row m r) = refl
+step_is_going (step.succeeds e) = refl
+step_is_going (step.errs e) = refl
+step_is_going step.finalizer = refl
+step_is_going step.release = refl
+step_is_going (step.cleans r) = refl
+step_is_going step.finalizer_ends = refl
+step_is_going step.release_ends = refl
+step_is_going step.unwound = refl
+
+module _ {P S : Type 0} (calls : PortCalls P S) (facts : P → Facts) (nodes : List Node) where
+  unchanged_then : (a b c : FiberView P) → IsUnchanged nodes a b → IsUnchanged nodes b c → IsUnchanged nodes a c
+  unchanged_then a b c h k =
+      record { port = k.port ∙ h.port; trace = k.trace ∙ h.trace; counts = k.counts ∙ h.counts; progress_is = k.progress_is ∙ h.progress_is }
+
+  by_then : (l : Label) (a : FiberView P) (sh : S) (b : FiberView P) (sh' : S) (c : FiberView P) → GoesBy calls facts nodes l a sh b sh'
+      → IsUnchanged nodes b c → GoesBy calls facts nodes l a sh c sh'
+  by_then l a sh b sh' c h k = record {
+    does = record {
+      label = h.does.label;
+      step = rw (k.counts, k.progress_is) h.does.step;
+      trace = k.trace ∙ h.does.trace;
+      answers = h.does.answers;
+      calls_are = rw k.port h.does.calls_are;
+    };
+    by = h.by;
+  }
+
+  -- silent rules, and then contexts that are entered
+  silently_then : (n : ℕ) (a : FiberView P) (sh : S) (b c : FiberView P) → GoesSilently calls facts nodes n a sh b → IsUnchanged nodes b c
+      → GoesSilently calls facts nodes n a sh c
+  silently_then zero a sh b c h k = unchanged_then a b c h k
+  silently_then (suc n) a sh b c h k = (h.0, h.1, by_then Silent h.0 sh b sh c h.2 k)
+
+  module _ (total : ℕ) (agrees : P → List Deed → Type 0) (trace : List Event) (source : Option Source) where
+    abbrev To : ℕ → Machine → P → S → Machine → Type 0
+    To = GlidesTo calls facts nodes total agrees trace source
+
+    -- before any rule
+    pub none_yet : (s : Machine) (p : P) (sh : S) → IsKept nodes total (facts p) (agrees p) trace s → To zero s p sh s
+    none_yet s p sh kept = record { rules = record { port = refl; trace = refl; counts = refl; progress_is = refl }; kept = kept }
+
+    -- after one more silent rule
+    pub one_more_rule : (n : ℕ) (s : Machine) (p : P) (sh : S) (m m' : Machine) (p' : P) (sh' : S) → To n s p sh m
+        → Advances calls agrees facts nodes m p sh made.Silent m' p' sh' → To (suc n) s p sh m'
+    one_more_rule n s p sh m m' p' sh' to a = record {
+      rules = (
+        fiber_at p trace m source,
+        to.rules,
+        record {
+          does = record {
+            label = Silent;
+            step = a.rule.1;
+            trace = sym (append-nil trace);
+            answers = rw a.rule.0 refl;
+            calls_are = record { looked = a.asks.0; left_first = tt; told = (refl, refl) };
+          };
+          by = refl;
+        },
+      );
+      kept = told_keeps calls agrees facts nodes p p' p sh sh' sh trace trace m m' total to.kept (step_is_going a.rule.1) made.Silent tt a
+          (sym a.asks.1.0, sym a.asks.1.1) (sym (append-nil trace));
+    }
+
+    -- a look that serves after a silent rule
+    pub still_looked : (looked : Looked) (p : P) (sh : S) (m m' : Machine) (p' : P) (sh' : S)
+        → Advances calls agrees facts nodes m p sh made.Silent m' p' sh' → HasLooked calls looked m.known p sh → HasLooked calls looked m'.known p' sh'
+    still_looked InVain p sh m m' p' sh' a h = (step_knows a.rule.1 ∙ h.0, rw (a.asks.1.0, a.asks.1.1) h.1)
+    still_looked NotYet p sh m m' p' sh' a h = tt
+
+    -- the burst stops here
+    pub stops : (n most : ℕ) (s : Machine) (p : P) (sh : S) (m m' : Machine) (p' : P) (sh' : S) (trace' : List Event) (source' : Option Source)
+        → n ≤ most → To n s p sh m → IsSame nodes m m' → p' ≡ p → sh' ≡ sh → trace' ≡ trace
+        → Bursts calls facts nodes most n (fiber_at p trace s source) sh (fiber_at p' trace' m' source') sh'
+    stops n most s p sh m m' p' sh' trace' source' few to same port shared t = record {
+      few = few;
+      steps = inl (
+        silently_then n (fiber_at p trace s source) sh (fiber_at p trace m source) (fiber_at p' trace' m' source') to.rules
+            (same_is_unchanged nodes p p' trace trace' m m' source source' same port t),
+        shared,
+      );
+    }
+
+    -- memory is refused here
+    pub stops_short : (n most : ℕ) (s : Machine) (p : P) (sh : S) (m m' : Machine) (p' : P) (sh' : S) (trace' : List Event) (source' : Option Source)
+        → n < most → To n s p sh m → IsSame nodes m m' → p' ≡ p → sh' ≡ sh → trace' ≡ trace
+        → BurstsShort calls facts nodes most (fiber_at p trace s source) sh (fiber_at p' trace' m' source') sh'
+    stops_short n most s p sh m m' p' sh' trace' source' few to same port shared t = record {
+      n = n;
+      few = few;
+      goes = silently_then n (fiber_at p trace s source) sh (fiber_at p trace m source) (fiber_at p' trace' m' source') to.rules
+          (same_is_unchanged nodes p p' trace trace' m m' source source' same port t);
+      shared_is = shared;
+    }
+
+    -- a request is seen here
+    pub sees : (n most : ℕ) (s : Machine) (p : P) (sh : S) (m m' : Machine) (p' : P) (sh' : S) (trace' : List Event) (source' : Option Source)
+        → n < most → To n s p sh m → Advances calls agrees facts nodes m p sh (made.Shows event.Seen) m' p' sh' → trace' ≡ trace ++ event.Seen ∷ []
+        → Bursts calls facts nodes most (n + 1) (fiber_at p trace s source) sh (fiber_at p' trace' m' source') sh'
+    sees n most s p sh m m' p' sh' trace' source' few to a t = record {
+      few = omega arith;
+      steps = inr (record {
+        before = n;
+        then_sees = add-one n;
+        between = fiber_at p trace m source;
+        goes = to.rules;
+        sees = record {
+          does = record {
+            label = Shows event.Seen;
+            step = a.rule;
+            trace = t;
+            answers = refl;
+            calls_are = record { looked = tt; left_first = tt; told = a.asks };
+          };
+          by = refl;
+        };
+      });
+    }
+
+    pub seen_is_kept : (p : P) (sh : S) (m m' : Machine) (p' : P) (sh' : S) (trace' : List Event) → IsKept nodes total (facts p) (agrees p) trace m
+        → Advances calls agrees facts nodes m p sh (made.Shows event.Seen) m' p' sh' → trace' ≡ trace ++ event.Seen ∷ []
+        → IsKept nodes total (facts p') (agrees p') trace' m'
+    seen_is_kept p sh m m' p' sh' trace' kept a t =
+        told_keeps calls agrees facts nodes p p' p' sh sh' sh' trace trace' m m' total kept (step_is_going a.rule) (made.Shows event.Seen) tt a (refl, refl) t
+
+-- one turn of a burst, once its contexts are entered, at a place other than `canceled`
+module _ {P S : Type 0} (calls : PortCalls P S) (agrees : P → List Deed → Type 0) (facts : P → Facts) (nodes : List Node) (old s : Machine)
+    (p p' : P) (sh sh' : S) (same : IsSame nodes old s) (inside : IsInside nodes s false) where
+  -- cancellation is not the one rule there
+  pub ahead_is_free : (looked : Looked) → ComesAhead calls (is_open_machine s) s.known (ahead.Rule looked) p sh p' sh' → must_cancel_machine nodes s ≡ false
+  ahead_is_free looked first = is_free calls agrees facts nodes old s false p p' sh sh' same inside first.0
+
+  pub ahead_interrupts : ComesAhead calls (is_open_machine s) s.known ahead.Request p sh p' sh' → IsInterrupted nodes s Request
+  ahead_interrupts first = is_interrupted calls agrees facts nodes old s false p p' sh sh' same inside Request first
+
+  -- a row was made
+  pub glides : (looked : Looked) (s' : Machine) → ComesAhead calls (is_open_machine s) s.known (ahead.Rule looked) p sh p' sh'
+      → MakesIfSilent nodes s true s' → GlidesOnce calls agrees facts nodes old p sh (glided.Went looked) s' p' sh'
+  glides looked s' first is_made = (
+    rule_advances calls agrees facts nodes old s false p p' sh sh' same inside made.Silent s' p' sh' first.0
+        (local_call calls agrees facts nodes s p' p' sh' sh' made.Silent s' refl refl is_made),
+    rw (ap (λ (k : Counts). k.known) (sym same.counts)) first.1,
+  )
+
+  -- or none
+  pub glides_no_further : (looked : Looked) (s' : Machine) → ComesAhead calls (is_open_machine s) s.known (ahead.Rule looked) p sh p' sh'
+      → MakesIfSilent nodes s false s' → GlidesOnce calls agrees facts nodes old p sh glided.Stops s' p' sh'
+  glides_no_further looked s' first none_is_made = (rw none_is_made same, first.0.2, first.0.3)
+
+  pub sees_request : (m : Made) (s' : Machine) → ComesAhead calls (is_open_machine s) s.known ahead.Request p sh p' sh'
+      → ((deeds : List Deed) → agrees p deeds → agrees p' (deeds ++ Saw ∷ [])) → facts p' ≡ facts p → Interrupts nodes s Request m s'
+      → GlidesOnce calls agrees facts nodes old p sh glided.Saw s' p' sh'
+  sees_request m s' first saw framed h =
+      subst (λ (k : Made). Advances calls agrees facts nodes old p sh k s' p' sh') h.shows
+      (interrupted_advances calls agrees facts nodes old s false p p' sh sh' same inside Request m s' first (λ e. saw) framed h)
