@@ -1,13 +1,13 @@
 -- Marks, and the numbers that are marked.
 use Rattle.std.proofs.Common.{◌≡◌, ◌≢◌, ℕ, ◌+◌, ◌<◌, ◌≤◌, Bool, true, false, List, [], ◌∷◌, ◌++◌, ◌⊎◌}
 use Rattle.std.proofs.Common.{inl, inr, ⊎_elim, ◌||◌, length, get_or, set, take, replicate, zero, suc, refl, sym, ◌∙◌, ap, subst, arith, add-one}
-use Rattle.std.proofs.lemmas.List.{get_or-set_same, get_or-set_other}
+use Rattle.std.proofs.lemmas.List.{get_or-set_same, get_or-set_other, length-replicate, set_past, take_all, replicate-append-replicate}
 use mathlib.Core.Logic.{dite}
 use native.Mathlib.Decide.{ℕ_discrete}
 use Rattle.fx_term.specs.Lists.{Among}
 use Rattle.fx_term.proofs.ListLaws.{Among-append_left, Among-append_right, Among-append}
 use Rattle.fx_queue.specs.WaitRing.{Apart}
-use Rattle.fx_port.specs.Marks.{is_marked, joined_marks, AreListed, KeepsMarks}
+use Rattle.fx_port.specs.Marks.{is_marked, joined_marks, laid_marks, IsLaid, AreListed, KeepsMarks}
 
 no_mark : {P : Type 0} → false ≡ true → P
 no_mark e = let z : ⊥ = cc in absurd z
@@ -16,6 +16,34 @@ pub unmarked : (n f : ℕ) → is_marked (replicate n false) f ≡ false
 unmarked zero f = refl
 unmarked (suc n) zero = refl
 unmarked (suc n) (suc f) = unmarked n f
+
+-- a row stands for so many marks
+pub laid_whole : (n : ℕ) (row : List Bool) → length row ≡ n → laid_marks n row ≡ row
+laid_whole n [] e = ap (λ (k : ℕ). replicate k false) (sym e)
+laid_whole n (m ∷ row) e = refl
+
+pub laid_long : (n : ℕ) (row : List Bool) → IsLaid n row → length (laid_marks n row) ≡ n
+laid_long n [] h = length-replicate n false
+laid_long n (m ∷ row) (inl e) = let z : ⊥ = cc in absurd z
+laid_long n (m ∷ row) (inr e) = e
+
+pub laid_read : (n : ℕ) (row : List Bool) (f : ℕ) → is_marked (laid_marks n row) f ≡ is_marked row f
+laid_read n [] f = unmarked n f
+laid_read n (m ∷ row) f = refl
+
+-- to take a mark off changes nothing where none is
+unmark_none : (n f : ℕ) → set (replicate n false) f false ≡ replicate n false
+unmark_none zero f = refl
+unmark_none (suc n) zero = refl
+unmark_none (suc n) (suc f) = ap (λ l. false ∷ l) (unmark_none n f)
+
+pub unmark_past : (n : ℕ) (row : List Bool) (f : ℕ) → length row ≤ f → laid_marks n row ≡ set (laid_marks n row) f false
+unmark_past n [] f le = sym (unmark_none n f)
+unmark_past n (m ∷ row) f le = sym (set_past (m ∷ row) f false le)
+
+-- a row is laid mark by mark
+pub laid_more : (k : ℕ) → replicate k false ++ false ∷ [] ≡ replicate (k + 1) false
+laid_more k = replicate-append-replicate k 1 false
 
 pub marked_within : (marks : List Bool) (f : ℕ) → is_marked marks f ≡ true → f < length marks
 marked_within [] f e = no_mark e
@@ -180,6 +208,16 @@ pub joined_long : (marks other : List Bool) → length (joined_marks marks other
 joined_long [] other = refl
 joined_long (m ∷ marks) [] = refl
 joined_long (m ∷ marks) (n ∷ other) = ap suc (joined_long marks other)
+
+-- a row in which none is marked adds nothing
+joined_unmarked_all : (marks : List Bool) (n : ℕ) → joined_marks marks (replicate n false) ≡ marks
+joined_unmarked_all [] n = refl
+joined_unmarked_all (m ∷ marks) zero = refl
+joined_unmarked_all (m ∷ marks) (suc n) = λ i. or_false m i ∷ joined_unmarked_all marks n i
+
+pub joined_whole : (marks row : List Bool) (n : ℕ) → joined_marks marks (take (length row) (laid_marks n row)) ≡ joined_marks marks (laid_marks n row)
+joined_whole marks [] n = joined_none marks ∙ sym (joined_unmarked_all marks n)
+joined_whole marks (m ∷ row) n = ap (joined_marks marks) (take_all (length (m ∷ row)) (m ∷ row) (omega arith))
 
 -- what is marked in the joined row
 pub joined_from : (marks other : List Bool) (f : ℕ) → is_marked (joined_marks marks other) f ≡ true

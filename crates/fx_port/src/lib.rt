@@ -2,8 +2,9 @@
 //!
 //! A port is what its fiber has of the outside: a seat of the words, a pass of each queue, and a mark for
 //! each number that was requested from outside through it. Who holds it acts for that fiber, on whatever
-//! thread, and borrows what all fibers share. What a worker lends to the ports of its fibers are notes: the
-//! numbers of the fibers that are to be woken, each once.
+//! thread, and borrows what all fibers share. What it costs grows with the queues, and not with the fibers.
+//! What a worker lends to the ports of its fibers are notes: the numbers of the fibers that are to be woken,
+//! each once.
 //!
 //! | what is done | at the words | at a queue | whom it wakes |
 //! |---|---|---|---|
@@ -15,7 +16,7 @@
 //! | `start` | the seat is split | each pass is split | |
 //! | `finish` | the own words are set | | each fiber whose registered source names this one |
 //! | `outside` of a fiber that there is | its request bit is set | | that fiber |
-//! | `wait_on` | | the fiber is listed at that side, or in the row of those that wait for outcomes | |
+//! | `wait_on` | | the fiber is listed at that side, or in the ring of those that wait for that outcome | |
 //! | a call that lets a waiting fiber go on | | it is listed no more | the next one, where it was not and does without that element or room |
 //!
 //! 1. A port agrees with the deeds of its fiber exactly, both ways: its entry of the words says what the
@@ -40,6 +41,7 @@ mod gathering;
 mod marks;
 mod notes;
 mod open;
+mod outcome_rings;
 mod passes;
 mod run_brand;
 pub mod sends;

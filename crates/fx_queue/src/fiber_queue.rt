@@ -12,20 +12,20 @@ use crate::queue_pass::QueuePass;
 use crate::ring_rule::RingRule;
 use crate::side::Side;
 use crate::steps::{Bounded, Get, Put, Range, SetUp, SplitOff, TakeIn};
-use crate::waiters::Waiters;
+use crate::wait_side::WaitSide;
 use crossbeam_queue::{Pass, RuledArrayQueue};
 use fx_term::{Item, Memory};
 use std::alloc::Global;
 use std::marker::{Brand, Model};
-use std::sync::{Mutex, Wait};
+use std::sync::Wait;
 
 /// A bounded queue (Cats Effect's `Queue.bounded`, without its waiting). Contracts see which ring it
 /// is, its capacity, and for how many fibers it is.
 #[derive(Drop)]
 pub struct FiberQueue {
     ring: RuledArrayQueue<Item, PassView, RingRule>,
-    room: Mutex<Waiters>,
-    element: Mutex<Waiters>,
+    room: WaitSide,
+    element: WaitSide,
     alloc: Global,
     fibers: u32,
 }
@@ -49,15 +49,15 @@ impl FiberQueue {
         ensures { IfOk result (λ r. (r.0.cap ≡ cap) × (r.0.fibers ≡ fibers) × IsOf r.1 r.0
             × (r.1.view ≡ first_view cap fibers)) }
     {
-        let room = Waiters::new(alloc, fibers)?;
-        let element = Waiters::new(alloc, fibers)?;
+        let room = WaitSide::new(alloc, fibers)?;
+        let element = WaitSide::new(alloc, fibers)?;
         let Ok((ring, blank)) = RuledArrayQueue::ruled(alloc, cap as usize) else {
             return Err(Memory);
         };
         let queue = FiberQueue {
             ring,
-            room: Mutex::new(room),
-            element: Mutex::new(element),
+            room,
+            element,
             alloc,
             fibers,
         };
@@ -167,22 +167,22 @@ impl FiberQueue {
     pub fn wait<R: Wait>(&self, rt: &R, fiber: u32, side: Side)
         requires { fiber < self.now.fibers }
     {
-        self.side(side).lock(rt).add(fiber);
+        self.side(side).add(rt, fiber);
     }
 
     /// Takes the fiber off that side, and tells whether it was still listed there.
     pub fn unwait<R: Wait>(&self, rt: &R, fiber: u32, side: Side) -> bool
         requires { fiber < self.now.fibers }
     {
-        self.side(side).lock(rt).remove(fiber)
+        self.side(side).remove(rt, fiber)
     }
 
     /// Takes the fiber off that side that was listed there longest, if there is one.
     pub fn next_waiter<R: Wait>(&self, rt: &R, side: Side) -> Option<u32> {
-        self.side(side).lock(rt).take_first()
+        self.side(side).take_first(rt)
     }
 
-    fn side(&self, side: Side) -> &Mutex<Waiters> {
+    fn side(&self, side: Side) -> &WaitSide {
         match side {
             Side::Room => &self.room,
             Side::Element => &self.element,

@@ -32,7 +32,7 @@
 //!    when it was called, and which has no event of anybody else.
 //! 5. Those who wait at a side stand in a ring behind a small lock, each once. That the one listed
 //!    longest is next is proved of that ring, and of the queue it is tested, since a contract says
-//!    nothing of what is behind a lock.
+//!    nothing of what is behind a lock. Where nobody waits `next_waiter` takes no lock.
 //! 6. `new` and `close` alone take memory.
 #![tactic(auto)]
 
@@ -47,6 +47,7 @@ mod side;
 mod stage;
 mod steps;
 mod wait_ring;
+mod wait_side;
 mod waiters;
 
 pub use fiber_queue::FiberQueue;

@@ -35,6 +35,14 @@ impl WaitRing {
         })
     }
 
+    /// Whether nobody waits.
+    pub fn is_empty(&self) -> bool
+        ensures none { Lists self.now.links.items self.now.head [] → IsTrue result }
+        ensures some { (x : ℕ) (xs : List ℕ) → Lists self.now.links.items self.now.head (x ∷ xs) → IsFalse result }
+    {
+        link_of(&self.links, self.head).after == self.head
+    }
+
     /// Lists the fiber as the last, if it is not listed.
     pub fn add(&mut self, fiber: u32)
         ensures listed { (xs : List ℕ) → Lists self.old.links.items self.old.head xs

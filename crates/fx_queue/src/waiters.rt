@@ -29,6 +29,11 @@ impl Waiters {
         Ok(Waiters { ring })
     }
 
+    /// Whether nobody is listed.
+    pub fn is_empty(&self) -> bool {
+        self.ring.is_empty()
+    }
+
     /// Lists the fiber as the last, if it is not listed.
     pub fn add(&mut self, fiber: u32) {
         self.ring.add(fiber);

@@ -1,1 +1,2 @@
+pub mod At
 pub mod GatedTurns

@@ -5,17 +5,17 @@ use crossbeam_deque::{Injector, Steal, Stealer, Worker};
 use fx_fiber::Fiber;
 use fx_term::Memory;
 use std::alloc::Global;
+use std::sync::Wait;
 use std::sync::atomic::{AtomicU64, Ordering};
-use std::sync::{Mutex, Wait};
 use std::thread;
 use std::time::Duration;
 
 /// How often a worker that finds nothing looks again before it sleeps.
 const LOOKS: u32 = 64;
 
-/// The longest sleep in milliseconds: who is called while it falls asleep is missed, and looks again after
-/// that.
-const NAP: u64 = 1;
+/// The longest sleep in milliseconds. Nobody needs it to end: who falls asleep counts as a sleeper before
+/// it looks for the last time, and a call since then lets it not sleep.
+const NAP: u64 = 100;
 
 /// What the workers of a round share: the tasks that came from outside, the ends at which the deques of
 /// the workers are stolen from, how many workers may have a task in hand, how many sleep, and how often
@@ -24,7 +24,7 @@ const NAP: u64 = 1;
 pub struct Tasks<T> {
     injector: Injector<T>,
     stealers: Vec<Stealer<T>>,
-    busy: Mutex<usize>,
+    busy: AtomicU64,
     sleepers: AtomicU64,
     calls: AtomicU64,
 }
@@ -42,7 +42,8 @@ pub type Work<P> = Tasks<Fiber<P>>;
 pub type Hand<P> = Owner<Fiber<P>>;
 
 impl<T: Drop> Tasks<T> {
-    /// A deque for each worker, and what they share. Each worker counts as one that may have a task.
+    /// A deque for each worker, and what they share. A worker counts as one that may have a task once it
+    /// has begun: where memory is refused, one may begin after another has ended, or never.
     pub fn new(alloc: Global, workers: usize) -> Result<(Tasks<T>, Vec<Owner<T>>), Memory>
         ensures { IfOk result (λ made. vec_len made.1 ≡ workers) }
     {
@@ -58,7 +59,7 @@ impl<T: Drop> Tasks<T> {
             Tasks {
                 injector,
                 stealers,
-                busy: Mutex::new(workers),
+                busy: AtomicU64::new(0),
                 sleepers: AtomicU64::new(0),
                 calls: AtomicU64::new(0),
             },
@@ -74,24 +75,21 @@ impl<T: Drop> Tasks<T> {
     }
 
     /// Counts a worker less that may have a task. The last one calls all that sleep.
-    pub(crate) fn rests<R: Wait>(&self, rt: &R) {
-        let mut busy = self.busy.lock(rt);
-        *busy = busy.saturating_sub(1);
-        if *busy == 0 {
+    pub(crate) fn rests(&self) {
+        if self.busy.fetch_sub(1, Ordering::SeqCst) == 1 {
             self.calls.fetch_add(1, Ordering::SeqCst);
             self.calls.wake_all();
         }
     }
 
     /// Counts a worker more.
-    fn resumes<R: Wait>(&self, rt: &R) {
-        let mut busy = self.busy.lock(rt);
-        *busy = busy.saturating_add(1);
+    pub(crate) fn resumes(&self) {
+        self.busy.fetch_add(1, Ordering::SeqCst);
     }
 
     /// Whether no worker may have a task in hand.
-    fn is_over<R: Wait>(&self, rt: &R) -> bool {
-        *self.busy.lock(rt) == 0
+    fn is_over(&self) -> bool {
+        self.busy.load(Ordering::SeqCst) == 0
     }
 
     /// Whether there is a task to be taken, as far as can be seen.
@@ -114,7 +112,7 @@ impl<T: Drop> Tasks<T> {
     fn sleep<R: Wait>(&self, rt: &R) {
         let calls = self.calls.load(Ordering::SeqCst) & u64::from(u32::MAX);
         self.sleepers.fetch_add(1, Ordering::SeqCst);
-        if !self.is_over(rt) && !self.has_task() {
+        if !self.is_over() && !self.has_task() {
             self.calls
                 .park_timeout(rt, calls as u32, Duration::from_millis(NAP));
         }
@@ -125,7 +123,7 @@ impl<T: Drop> Tasks<T> {
     fn wait_task<R: Wait>(&self, rt: &R) -> bool {
         let mut looks = 0u32;
         for _ in rt.forever() {
-            if self.is_over(rt) {
+            if self.is_over() {
                 return false;
             }
             if self.has_task() {
@@ -180,11 +178,11 @@ impl<T: Drop> Owner<T> {
             if let Some(task) = self.next(rt, work) {
                 return Some(task);
             }
-            work.rests(rt);
+            work.rests();
             if !work.wait_task(rt) {
                 return None;
             }
-            work.resumes(rt);
+            work.resumes();
         }
         unreachable!()
     }

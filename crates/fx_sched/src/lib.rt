@@ -24,13 +24,15 @@
 //! | none, and no other has one | is done: no fiber is able to go on |
 //! | no memory | ends, and gives back the fibers that it has in hand |
 //!
-//! A worker that has more than the fiber that comes next calls one that sleeps. A call that comes while the
-//! other falls asleep may be missed, so no sleep is longer than a millisecond.
+//! A worker that has more than the fiber that comes next calls one that sleeps. No call is missed: a worker
+//! counts as one that sleeps before it looks for the last time, and each call changes a word that it read
+//! before that, and on which it sleeps.
 //!
 //! What is known of a fiber wherever it comes from is what its type says: its run, and that its port
 //! agrees with what it did. A fiber is never copied, since its type has no copies.
 #![tactic(auto)]
 
+mod at;
 mod deques;
 mod gate;
 mod lot;
@@ -38,6 +40,7 @@ mod rounds;
 mod turns;
 mod worker;
 
+pub use at::At;
 pub use deques::{Hand, Owner, Tasks, Work};
 pub use gate::{Free, Gate};
 pub use lot::Lot;

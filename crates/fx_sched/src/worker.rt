@@ -39,20 +39,20 @@ pub fn work<R: Wait + RandomSource + AllocGlobal, P: Port + Drop, G: Gate>(
     requires gate { (id : ℕ) → G.may gate.now id ≡ true → P.may id ≡ true }
 {
     let Ok(solo) = solo(rt) else {
-        all.rests(rt);
         return WorkerEnd::Memory(None, None);
     };
+    all.resumes();
     for _ in rt.forever() {
         let Some(mut fiber) = hand.wait_next(rt, all) else {
             return WorkerEnd::Done;
         };
         let answer = gated_turn(&solo, gate, worker, &mut fiber, code, shared);
         if let Err(end) = placed(rt, &mut hand, lot, fiber, answer) {
-            all.rests(rt);
+            all.rests();
             return end;
         }
         if let Err(fiber) = wakes(rt, &mut hand, lot, shared) {
-            all.rests(rt);
+            all.rests();
             return WorkerEnd::Memory(None, Some(fiber));
         }
         hand.share(all);
