@@ -55,8 +55,13 @@ fn end(report: &Report, id: u32) -> Option<Outcome> {
     outcome(report.fibers.iter().find(|fiber| fiber.id == id)?)
 }
 
+/// Whether the fiber was requested, by another one or from outside.
 fn is_requested(report: &Report, id: u32) -> bool {
-    report.fibers.iter().any(|fiber| fiber.trace.iter().any(|event| *event == Event::Request(id)))
+    report.outside.contains(&id)
+        || report.fibers.iter().any(|fiber| fiber
+            .trace
+            .iter()
+            .any(|event| *event == Event::Request(id)))
 }
 
 /// Whether what was put into the queue is what was taken out of it and what is left, in number and in sum.

@@ -7,8 +7,16 @@
 #[cfg(test)]
 mod accounts;
 #[cfg(test)]
+mod cancellations;
+#[cfg(test)]
 mod gates;
+#[cfg(test)]
+mod given_fibers;
 #[cfg(test)]
 mod races;
 #[cfg(test)]
 mod rows;
+#[cfg(test)]
+mod storm;
+#[cfg(test)]
+mod waiters;

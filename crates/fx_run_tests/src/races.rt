@@ -9,7 +9,7 @@ use std::test::Fail;
 const RUNS: u32 = 50;
 
 /// Races, cancellations that meet waits, masks and brackets, and queues that several fibers share.
-const SCRIPTS: [&str; 12] = [
+pub const SCRIPTS: [&str; 12] = [
     "(main (race (for i 20 (cede)) (for i 20 (cede))))",
     "(main (race (race (pure 1) (never)) (seq (cede) (pure 2))))",
     "(queue q 1) (main (start a (for i 20 (offer q i)) (start b (for i 20 (take q)) (seq (cede) (cancel a) (cancel b)))))",

@@ -9,10 +9,12 @@ use std::sync::Wait;
 use std::test::Fail;
 use std::thread::Threads;
 
-/// What a run of a script came to: the text of its report, and how many fibers only a sweep put back.
+/// What a run of a script came to: the text of its report, the fibers that were requested from outside, and
+/// how many fibers only a sweep put back.
 #[derive(Drop)]
 pub struct Written {
     pub text: Vec<u8>,
+    pub outside: Vec<u32>,
     pub late: u64,
 }
 
@@ -28,8 +30,11 @@ pub fn run_text<R: Wait + Threads + Sync + RandomSource + AllocGlobal, G: Gate +
     let report = run(rt, alloc, &script, workers, gate)?;
     let mut text = Vec::new(alloc);
     write_report(alloc, &script, &report, &mut text)?;
-    let late = report.late;
-    Ok(Written { text, late })
+    Ok(Written {
+        text,
+        outside: report.outside,
+        late: report.late,
+    })
 }
 
 /// A producer and a consumer of each of two kinds, for one queue of two.
@@ -37,7 +42,7 @@ pub const PAIRS: &str =
     "(queue q 2) (main (start a (for i 100 (offer q i)) (start b (for i 100 (offer q i)) \
     (start c (for i 100 (take q)) (start d (for i 100 (take q)) (pure 9))))))";
 
-const ROWS: [(&str, &str); 18] = [
+const ROWS: [(&str, &str); 19] = [
     ("(main (pure 5))", "fiber 0 succeeded 5\n"),
     ("(main (seq (canceled) (pure 5)))", "fiber 0 canceled\n"),
     (
@@ -101,6 +106,11 @@ const ROWS: [(&str, &str); 18] = [
     (
         "(queue q 1) (main (start h (take q) (start g (take q) (pure 1))))",
         "fiber 0 succeeded 1\nfiber 1 blocked\nfiber 2 blocked\nqueue q left\n",
+    ),
+    (
+        "(queue q 1) (main (start a (take q) (start b (take q) \
+        (seq (cancel a) (offer q 3) (join b (x (pure x)) (e (pure 0)) (pure 1))))))",
+        "fiber 0 succeeded 3\nfiber 1 canceled\nfiber 2 succeeded 3\nqueue q left\n",
     ),
 ];
 

@@ -1,0 +1,120 @@
+//! Fibers that are canceled from outside, before a turn that the gate counts to.
+use crate::accounts::adds_up;
+use crate::rows::{PAIRS, run_text};
+use fx_run::run;
+use fx_sched::{At, Free};
+use fx_term::{Event, Outcome};
+use fx_text::parse;
+use std::test::Fail;
+
+/// A script, the turn and the fiber of the gate, and what one worker comes to.
+struct Row {
+    script: &'static str,
+    turn: u64,
+    id: u32,
+    report: &'static str,
+    outside: &'static [u32],
+}
+
+/// The release tells by the queue that it ran.
+const HELD: &str = "(queue q 4) (main (bracket x (pure 7) (never) (offer q x)))";
+
+static ROWS: [Row; 4] = [
+    Row {
+        script: "(main (never))",
+        turn: 0,
+        id: 0,
+        report: "fiber 0 canceled\n",
+        outside: &[0],
+    },
+    // no fiber of the script has the number
+    Row {
+        script: "(main (never))",
+        turn: 0,
+        id: 5,
+        report: "fiber 0 blocked\n",
+        outside: &[],
+    },
+    Row {
+        script: HELD,
+        turn: 0,
+        id: 0,
+        report: "fiber 0 canceled\nqueue q left 7\n",
+        outside: &[0],
+    },
+    // the fiber has one turn alone
+    Row {
+        script: HELD,
+        turn: 1,
+        id: 0,
+        report: "fiber 0 blocked\nqueue q left\n",
+        outside: &[],
+    },
+];
+
+#[test]
+fn the_fiber_is_canceled_at_the_turn(rt: HostRuntime) -> Result<(), Fail> {
+    for row in &ROWS {
+        let written = run_text(&rt, row.script, 1, &At::new(row.turn, row.id))?;
+        assert_eq!(rt; written.text.as_slice(), row.report.as_bytes());
+        assert_eq!(rt;
+            (written.outside.as_slice(), written.late),
+            (row.outside, 0)
+        );
+    }
+    Ok(())
+}
+
+static HELD_TRACE: [Event; 7] = [
+    Event::Acquired(0),
+    Event::Seen,
+    Event::Cancelled,
+    Event::Begin(0),
+    Event::Put(0, 7),
+    Event::End(0),
+    Event::Ended(Outcome::Canceled),
+];
+
+#[test]
+fn the_cancellation_acts_after_the_acquire(rt: HostRuntime) -> Result<(), Fail> {
+    let script = parse(rt.alloc(), HELD.as_bytes())?;
+    let report = run(&rt, rt.alloc(), &script, 1, &At::new(0, 0))?;
+    let Some(main) = report.fibers.first() else {
+        panic!(rt; "there is a main fiber")
+    };
+    assert!(rt; main.trace.as_slice() == HELD_TRACE.as_slice());
+    Ok(())
+}
+
+/// The element comes before the cancellation, and wakes the fiber that is canceled: that one passes its
+/// wake on to the other.
+const PASSED_ON: &str = "(queue q 1) (main (start a (take q) (start b (take q) \
+    (seq (offer q 3) (cancel a) (join b (x (pure x)) (e (pure 0)) (pure 1))))))";
+
+#[test]
+fn a_fiber_that_is_canceled_passes_its_wake_on(rt: HostRuntime) -> Result<(), Fail> {
+    let written = run_text(&rt, PASSED_ON, 1, &Free)?;
+    let report = "fiber 0 succeeded 3\nfiber 1 canceled\nfiber 2 succeeded 3\nqueue q left\n";
+    assert_eq!(rt;
+        (written.text.as_slice(), written.late),
+        (report.as_bytes(), 0)
+    );
+    Ok(())
+}
+
+/// How many turns of the pairs the gate counts through.
+const TURNS: u64 = 200;
+
+#[test]
+fn each_fiber_may_be_canceled_at_each_turn(rt: HostRuntime) -> Result<(), Fail> {
+    let script = parse(rt.alloc(), PAIRS.as_bytes())?;
+    for turn in 0..=TURNS {
+        for id in 0..=4u32 {
+            let report = run(&rt, rt.alloc(), &script, 4, &At::new(turn, id))?;
+            let outside = report.outside.as_slice();
+            assert!(rt; adds_up(&report) && (outside.is_empty() || outside == [id].as_slice()));
+            assert_eq!(rt; report.late, 0);
+        }
+    }
+    Ok(())
+}
