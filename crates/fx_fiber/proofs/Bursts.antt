@@ -1,5 +1,5 @@
--- Silent rules one after the other, and what each of them keeps.
-use Rattle.std.proofs.Common.{◌≡◌, ◌∙◌, ℕ, zero, suc, ◌+◌, ◌<◌, ◌≤◌, Bool, true, false, Option, List, [], ◌∷◌, ◌++◌, refl, sym, ap, subst, append-nil}
+-- Steps of a burst one after the other, and what each of them keeps.
+use Rattle.std.proofs.Common.{◌≡◌, ◌∙◌, ℕ, zero, suc, ◌+◌, ◌<◌, ◌≤◌, Bool, true, false, Option, Some, None, List, [], ◌∷◌, ◌++◌, refl, sym, ap, subst, append-nil}
 use Rattle.std.proofs.Common.{inl, inr, arith}
 use Rattle.std.proofs.Math.Numerals.{add-one}
 use Rattle.fx_term.specs.declared.node.Node.{Node}
@@ -8,18 +8,23 @@ use Rattle.fx_term.specs.declared.event.Event.TheVariants as event
 use Rattle.fx_term.specs.Term.{Term}
 use Rattle.fx_model.specs.Row.{Counts, Label, Silent, Shows, Row}
 use Rattle.fx_model.specs.Row as row
-use Rattle.fx_model.specs.Step.{Progress, Step, has_ended}
+use Rattle.fx_model.specs.Step.{Progress, Step, has_ended, leaf_at, looks_first}
 use Rattle.fx_model.specs.Step as step
 use Rattle.fx_model.specs.declared.source.Source.{Source}
 use Rattle.fx_fiber.specs.Calls.{PortCalls}
 use Rattle.fx_fiber.specs.PortFacts.{Facts}
 use Rattle.fx_fiber.specs.Deed.{Deed, Saw}
 use Rattle.fx_fiber.specs.Fiber.{FiberView, fiber_at, IsUnchanged, IsKept}
-use Rattle.fx_fiber.specs.Bursts.{GoesBy, GoesSilently, Bursts, BurstsShort, HasLooked, ComesAhead, GlidesOnce, GlidesTo}
+use Rattle.fx_fiber.specs.Bursts.{IsAlone, GoesAlone, Bursts, BurstsShort, HasLooked, ComesAhead, GlidesOnce, GlidesTo}
+use Rattle.fx_fiber.specs.MakesStep.{MakesStep, Answers, Calls}
+use Rattle.fx_fiber.specs.Telling.{TellsMade}
+use Rattle.fx_fiber.specs.Machine.{progress_of}
+use Rattle.fx_fiber.specs.Made.{IsOfBracket}
+use Rattle.fx_fiber.specs.declared.stepped.Stepped.TheVariants.{Went}
 use Rattle.fx_fiber.specs.Places.{IsSame, IsInside, is_open_machine, must_cancel_machine}
 use Rattle.fx_fiber.specs.Interruption.{Interrupts, IsInterrupted}
-use Rattle.fx_fiber.specs.Makes.{MakesIfSilent}
-use Rattle.fx_fiber.specs.Advances.{Advances}
+use Rattle.fx_fiber.specs.Makes.{MakesIfSilent, MakesShown, MakesIfShown}
+use Rattle.fx_fiber.specs.Advances.{Advances, Asks}
 use Rattle.fx_fiber.specs.declared.machine.made.Made.{Made}
 use Rattle.fx_fiber.specs.declared.machine.made.Made.TheVariants as made
 use Rattle.fx_fiber.specs.declared.machine.interruption.Interruption.TheVariants.{Request}
@@ -32,19 +37,18 @@ use Rattle.fx_fiber.proofs.Advances.{is_free, is_interrupted, interrupted_advanc
 use Rattle.fx_fiber.proofs.Calls.{local_call}
 use Rattle.fx_fiber.proofs.Telling.{same_is_unchanged, told_keeps}
 
--- a silent step leaves a fiber known to be canceled, or not, as it was
+-- a step that a burst makes leaves a fiber known to be canceled, or not, as it was
 abbrev pub KnowsAsBefore : Counts → Counts → Label → Type 0
-KnowsAsBefore c d Silent = d.known ≡ c.known
-KnowsAsBefore c d _ = Unit {0}
+KnowsAsBefore c d l = IsAlone l → d.known ≡ c.known
 
 row_knows : {k : Bool} {c d : Counts} {l : Label} {t t' : Term} → Row k c t l d t' → KnowsAsBefore c d l
-row_knows (row.inside f e g r) = row_knows r
-row_knows _ = search
+row_knows (row.inside f e g r) alone = row_knows r alone
+row_knows _ alone = search
 
 step_knows : {c d : Counts} {p q : Progress} {l : Label} → Step c p l d q → KnowsAsBefore c d l
-step_knows (step.row m r) = row_knows r
-step_knows (step.cleans r) = row_knows r
-step_knows _ = search
+step_knows (step.row m r) alone = row_knows r alone
+step_knows (step.cleans r) alone = row_knows r alone
+step_knows _ alone = search
 
 -- what steps has not ended
 step_is_going : {c d : Counts} {p q : Progress} {l : Label} → Step c p l d q → has_ended p ≡ false
@@ -65,102 +69,159 @@ module _ {P S : Type 0} (calls : PortCalls P S) (facts : P → Facts) (nodes : L
   unchanged_then a b c h k =
       record { port = k.port ∙ h.port; trace = k.trace ∙ h.trace; counts = k.counts ∙ h.counts; progress_is = k.progress_is ∙ h.progress_is }
 
-  by_then : (l : Label) (a : FiberView P) (sh : S) (b : FiberView P) (sh' : S) (c : FiberView P) → GoesBy calls facts nodes l a sh b sh'
-      → IsUnchanged nodes b c → GoesBy calls facts nodes l a sh c sh'
-  by_then l a sh b sh' c h k = record {
-    does = record {
-      label = h.does.label;
-      step = rw (k.counts, k.progress_is) h.does.step;
-      trace = k.trace ∙ h.does.trace;
-      answers = h.does.answers;
-      calls_are = rw k.port h.does.calls_are;
-    };
-    by = h.by;
+  -- a step that went on, and then contexts that are entered
+  pub went_then : (a : FiberView P) (sh : S) (b : FiberView P) (sh' : S) (c : FiberView P) → MakesStep calls facts nodes a sh Went b sh'
+      → IsUnchanged nodes b c → MakesStep calls facts nodes a sh Went c sh'
+  went_then a sh b sh' c h k = record {
+    label = h.label;
+    step = rw (k.counts, k.progress_is) h.step;
+    trace = k.trace ∙ h.trace;
+    answers = h.answers;
+    calls_are = rw k.port h.calls_are;
   }
 
-  -- silent rules, and then contexts that are entered
-  silently_then : (n : ℕ) (a : FiberView P) (sh : S) (b c : FiberView P) → GoesSilently calls facts nodes n a sh b → IsUnchanged nodes b c
-      → GoesSilently calls facts nodes n a sh c
-  silently_then zero a sh b c h k = unchanged_then a b c h k
-  silently_then (suc n) a sh b c h k = (h.0, h.1, by_then Silent h.0 sh b sh c h.2 k)
+  -- the same of steps of a burst
+  alone_then : (n : ℕ) (a : FiberView P) (sh : S) (b c : FiberView P) → GoesAlone calls facts nodes n a sh b → IsUnchanged nodes b c
+      → GoesAlone calls facts nodes n a sh c
+  unfolding went_then
+  alone_then zero a sh b c h k = unchanged_then a b c h k
+  alone_then (suc n) a sh b c h k = (h.0, h.1, record { does = went_then h.0 sh b sh c h.2.does k; alone = h.2.alone })
 
   module _ (total : ℕ) (agrees : P → List Deed → Type 0) (trace : List Event) (source : Option Source) where
-    abbrev To : ℕ → Machine → P → S → Machine → Type 0
+    -- a rule of a bracket asks the port nothing
+    pub asks_nothing : (e : Event) (p : P) (sh : S) (m : Machine) (p' : P) (sh' : S) → IsOfBracket e
+        → Asks calls (looks_first m.known (progress_of nodes m)) (leaf_at (progress_of nodes m)) (made.Shows e) p sh p' sh' → (p' ≡ p) × (sh' ≡ sh)
+    asks_nothing (event.Acquired k) p sh m p' sh' of a = a.1
+    asks_nothing (event.Begin k) p sh m p' sh' of a = a.1
+    asks_nothing (event.End k) p sh m p' sh' of a = a.1
+    asks_nothing _ p sh m p' sh' of a = absurd of
+
+    tells_of_bracket : (e : Event) (p : P) (sh : S) (p' : P) (sh' : S) → IsOfBracket e → (p' ≡ p) × (sh' ≡ sh)
+        → TellsMade calls agrees facts (made.Shows e) p' sh' p sh
+    tells_of_bracket (event.Acquired k) p sh p' sh' of same = (sym same.0, sym same.1)
+    tells_of_bracket (event.Begin k) p sh p' sh' of same = (sym same.0, sym same.1)
+    tells_of_bracket (event.End k) p sh p' sh' of same = (sym same.0, sym same.1)
+    tells_of_bracket _ p sh p' sh' of same = absurd of
+
+    -- the answer and the calls of such a rule
+    answers_of_bracket : (e : Event) (m : Machine) → IsOfBracket e → Answers {P = P} {S = S} nodes (leaf_at (progress_of nodes m)) (Shows e) Went
+    answers_of_bracket (event.Acquired k) m of = refl
+    answers_of_bracket (event.Begin k) m of = refl
+    answers_of_bracket (event.End k) m of = refl
+    answers_of_bracket _ m of = absurd of
+
+    calls_of_bracket : (e : Event) (p : P) (sh : S) (m : Machine) (p' : P) (sh' : S) → IsOfBracket e
+        → Asks calls (looks_first m.known (progress_of nodes m)) (leaf_at (progress_of nodes m)) (made.Shows e) p sh p' sh'
+        → Calls calls facts nodes (looks_first m.known (progress_of nodes m)) (leaf_at (progress_of nodes m)) (Shows e) Went p sh p sh
+    calls_of_bracket (event.Acquired k) p sh m p' sh' of a = record { looked = a.0; left_first = tt; told = (refl, refl) }
+    calls_of_bracket (event.Begin k) p sh m p' sh' of a = record { looked = a.0; left_first = tt; told = (refl, refl) }
+    calls_of_bracket (event.End k) p sh m p' sh' of a = record { looked = a.0; left_first = tt; told = (refl, refl) }
+    calls_of_bracket _ p sh m p' sh' of a = absurd of
+
+    abbrev To : ℕ → Machine → P → S → Machine → List Event → Type 0
     To = GlidesTo calls facts nodes total agrees trace source
 
-    -- before any rule
-    pub none_yet : (s : Machine) (p : P) (sh : S) → IsKept nodes total (facts p) (agrees p) trace s → To zero s p sh s
+    -- before any step
+    pub none_yet : (s : Machine) (p : P) (sh : S) → IsKept nodes total (facts p) (agrees p) trace s → To zero s p sh s trace
     none_yet s p sh kept = record { rules = record { port = refl; trace = refl; counts = refl; progress_is = refl }; kept = kept }
 
     -- after one more silent rule
-    pub one_more_rule : (n : ℕ) (s : Machine) (p : P) (sh : S) (m m' : Machine) (p' : P) (sh' : S) → To n s p sh m
-        → Advances calls agrees facts nodes m p sh made.Silent m' p' sh' → To (suc n) s p sh m'
-    one_more_rule n s p sh m m' p' sh' to a = record {
+    pub one_more_rule : (n : ℕ) (s : Machine) (p : P) (sh : S) (m m' : Machine) (p' : P) (sh' : S) (t : List Event) → To n s p sh m t
+        → Advances calls agrees facts nodes m p sh made.Silent m' p' sh' → To (suc n) s p sh m' t
+    one_more_rule n s p sh m m' p' sh' t to a = record {
       rules = (
-        fiber_at p trace m source,
+        fiber_at p t m source,
         to.rules,
         record {
           does = record {
             label = Silent;
             step = a.rule.1;
-            trace = sym (append-nil trace);
+            trace = sym (append-nil t);
             answers = rw a.rule.0 refl;
             calls_are = record { looked = a.asks.0; left_first = tt; told = (refl, refl) };
           };
-          by = refl;
+          alone = tt;
         },
       );
-      kept = told_keeps calls agrees facts nodes p p' p sh sh' sh trace trace m m' total to.kept (step_is_going a.rule.1) made.Silent tt a
-          (sym a.asks.1.0, sym a.asks.1.1) (sym (append-nil trace));
+      kept = told_keeps calls agrees facts nodes p p' p sh sh' sh t t m m' total to.kept (step_is_going a.rule.1) made.Silent tt a
+          (sym a.asks.1.0, sym a.asks.1.1) (sym (append-nil t));
     }
 
-    -- a look that serves after a silent rule
+    -- after one more rule of a bracket, which shows this
+    pub one_more_shown : (n : ℕ) (s : Machine) (p : P) (sh : S) (m m' : Machine) (p' : P) (sh' : S) (t t' : List Event) (e : Event) → To n s p sh m t
+        → Advances calls agrees facts nodes m p sh (made.Shows e) m' p' sh' → IsOfBracket e → t' ≡ t ++ e ∷ [] → To (suc n) s p sh m' t'
+    one_more_shown n s p sh m m' p' sh' t t' e to a of told = record {
+      rules = (
+        fiber_at p t m source,
+        to.rules,
+        record {
+          does = record {
+            label = Shows e;
+            step = a.rule;
+            trace = told;
+            answers = answers_of_bracket e m of;
+            calls_are = calls_of_bracket e p sh m p' sh' of a.asks;
+          };
+          alone = of;
+        },
+      );
+      kept = told_keeps calls agrees facts nodes p p' p sh sh' sh t t' m m' total to.kept (step_is_going a.rule) (made.Shows e) tt a
+          (tells_of_bracket e p sh p' sh' of (asks_nothing e p sh m p' sh' of a.asks)) told;
+    }
+
+    -- a look that serves after such a step
     pub still_looked : (looked : Looked) (p : P) (sh : S) (m m' : Machine) (p' : P) (sh' : S)
         → Advances calls agrees facts nodes m p sh made.Silent m' p' sh' → HasLooked calls looked m.known p sh → HasLooked calls looked m'.known p' sh'
-    still_looked InVain p sh m m' p' sh' a h = (step_knows a.rule.1 ∙ h.0, rw (a.asks.1.0, a.asks.1.1) h.1)
+    still_looked InVain p sh m m' p' sh' a h = (step_knows a.rule.1 tt ∙ h.0, rw (a.asks.1.0, a.asks.1.1) h.1)
     still_looked NotYet p sh m m' p' sh' a h = tt
 
+    pub still_looked_at : (looked : Looked) (p : P) (sh : S) (m m' : Machine) (p' : P) (sh' : S) (e : Event) → IsOfBracket e
+        → Advances calls agrees facts nodes m p sh (made.Shows e) m' p' sh' → HasLooked calls looked m.known p sh → HasLooked calls looked m'.known p' sh'
+    still_looked_at InVain p sh m m' p' sh' e of a h =
+        let same = asks_nothing e p sh m p' sh' of a.asks in (step_knows a.rule of ∙ h.0, rw (same.0, same.1) h.1)
+    still_looked_at NotYet p sh m m' p' sh' e of a h = tt
+
     -- the burst stops here
-    pub stops : (n most : ℕ) (s : Machine) (p : P) (sh : S) (m m' : Machine) (p' : P) (sh' : S) (trace' : List Event) (source' : Option Source)
-        → n ≤ most → To n s p sh m → IsSame nodes m m' → p' ≡ p → sh' ≡ sh → trace' ≡ trace
-        → Bursts calls facts nodes most n (fiber_at p trace s source) sh (fiber_at p' trace' m' source') sh'
-    stops n most s p sh m m' p' sh' trace' source' few to same port shared t = record {
+    pub stops : (n most : ℕ) (s : Machine) (p : P) (sh : S) (m m' : Machine) (p' : P) (sh' : S) (t t' : List Event) (source' : Option Source)
+        → n ≤ most → To n s p sh m t → IsSame nodes m m' → p' ≡ p → sh' ≡ sh → t' ≡ t
+        → Bursts calls facts nodes most n (fiber_at p trace s source) sh (fiber_at p' t' m' source') sh'
+    stops n most s p sh m m' p' sh' t t' source' few to same port shared told = record {
       few = few;
       steps = inl (
-        silently_then n (fiber_at p trace s source) sh (fiber_at p trace m source) (fiber_at p' trace' m' source') to.rules
-            (same_is_unchanged nodes p p' trace trace' m m' source source' same port t),
+        alone_then n (fiber_at p trace s source) sh (fiber_at p t m source) (fiber_at p' t' m' source') to.rules
+            (same_is_unchanged nodes p p' t t' m m' source source' same port told),
         shared,
       );
     }
 
     -- memory is refused here
-    pub stops_short : (n most : ℕ) (s : Machine) (p : P) (sh : S) (m m' : Machine) (p' : P) (sh' : S) (trace' : List Event) (source' : Option Source)
-        → n < most → To n s p sh m → IsSame nodes m m' → p' ≡ p → sh' ≡ sh → trace' ≡ trace
-        → BurstsShort calls facts nodes most (fiber_at p trace s source) sh (fiber_at p' trace' m' source') sh'
-    stops_short n most s p sh m m' p' sh' trace' source' few to same port shared t = record {
+    pub stops_short : (n most : ℕ) (s : Machine) (p : P) (sh : S) (m m' : Machine) (p' : P) (sh' : S) (t t' : List Event) (source' : Option Source)
+        → n < most → To n s p sh m t → IsSame nodes m m' → p' ≡ p → sh' ≡ sh → t' ≡ t
+        → BurstsShort calls facts nodes most (fiber_at p trace s source) sh (fiber_at p' t' m' source') sh'
+    stops_short n most s p sh m m' p' sh' t t' source' few to same port shared told = record {
       n = n;
       few = few;
-      goes = silently_then n (fiber_at p trace s source) sh (fiber_at p trace m source) (fiber_at p' trace' m' source') to.rules
-          (same_is_unchanged nodes p p' trace trace' m m' source source' same port t);
+      goes = alone_then n (fiber_at p trace s source) sh (fiber_at p t m source) (fiber_at p' t' m' source') to.rules
+          (same_is_unchanged nodes p p' t t' m m' source source' same port told);
       shared_is = shared;
     }
 
     -- a request is seen here
-    pub sees : (n most : ℕ) (s : Machine) (p : P) (sh : S) (m m' : Machine) (p' : P) (sh' : S) (trace' : List Event) (source' : Option Source)
-        → n < most → To n s p sh m → Advances calls agrees facts nodes m p sh (made.Shows event.Seen) m' p' sh' → trace' ≡ trace ++ event.Seen ∷ []
-        → Bursts calls facts nodes most (n + 1) (fiber_at p trace s source) sh (fiber_at p' trace' m' source') sh'
-    sees n most s p sh m m' p' sh' trace' source' few to a t = record {
+    pub sees : (n most : ℕ) (s : Machine) (p : P) (sh : S) (m m' : Machine) (p' : P) (sh' : S) (t t' : List Event) (source' : Option Source)
+        → n < most → To n s p sh m t → Advances calls agrees facts nodes m p sh (made.Shows event.Seen) m' p' sh' → t' ≡ t ++ event.Seen ∷ []
+        → Bursts calls facts nodes most (n + 1) (fiber_at p trace s source) sh (fiber_at p' t' m' source') sh'
+    sees n most s p sh m m' p' sh' t t' source' few to a told = record {
       few = omega arith;
       steps = inr (record {
         before = n;
         then_sees = add-one n;
-        between = fiber_at p trace m source;
+        between = fiber_at p t m source;
         goes = to.rules;
         sees = record {
           does = record {
             label = Shows event.Seen;
             step = a.rule;
-            trace = t;
+            trace = told;
             answers = refl;
             calls_are = record { looked = tt; left_first = tt; told = a.asks };
           };
@@ -169,11 +230,11 @@ module _ {P S : Type 0} (calls : PortCalls P S) (facts : P → Facts) (nodes : L
       });
     }
 
-    pub seen_is_kept : (p : P) (sh : S) (m m' : Machine) (p' : P) (sh' : S) (trace' : List Event) → IsKept nodes total (facts p) (agrees p) trace m
-        → Advances calls agrees facts nodes m p sh (made.Shows event.Seen) m' p' sh' → trace' ≡ trace ++ event.Seen ∷ []
-        → IsKept nodes total (facts p') (agrees p') trace' m'
-    seen_is_kept p sh m m' p' sh' trace' kept a t =
-        told_keeps calls agrees facts nodes p p' p' sh sh' sh' trace trace' m m' total kept (step_is_going a.rule) (made.Shows event.Seen) tt a (refl, refl) t
+    pub seen_is_kept : (p : P) (sh : S) (m m' : Machine) (p' : P) (sh' : S) (t t' : List Event) → IsKept nodes total (facts p) (agrees p) t m
+        → Advances calls agrees facts nodes m p sh (made.Shows event.Seen) m' p' sh' → t' ≡ t ++ event.Seen ∷ []
+        → IsKept nodes total (facts p') (agrees p') t' m'
+    seen_is_kept p sh m m' p' sh' t t' kept a told =
+        told_keeps calls agrees facts nodes p p' p' sh sh' sh' t t' m m' total kept (step_is_going a.rule) (made.Shows event.Seen) tt a (refl, refl) told
 
 -- one turn of a burst, once its contexts are entered, at a place other than `canceled`
 module _ {P S : Type 0} (calls : PortCalls P S) (agrees : P → List Deed → Type 0) (facts : P → Facts) (nodes : List Node) (old s : Machine)
@@ -194,10 +255,23 @@ module _ {P S : Type 0} (calls : PortCalls P S) (agrees : P → List Deed → Ty
     rw (ap (λ (k : Counts). k.known) (sym same.counts)) first.1,
   )
 
+  -- or one of a bracket, where no silent one was
+  pub glides_shown : (looked : Looked) (between s' : Machine) (e : Event) → ComesAhead calls (is_open_machine s) s.known (ahead.Rule looked) p sh p' sh'
+      → MakesIfSilent nodes s false between → MakesIfShown nodes between (Some e) s'
+      → GlidesOnce calls agrees facts nodes old p sh (glided.Showed e looked) s' p' sh'
+  glides_shown looked between s' e first none_is_made shown =
+      let is_shown : MakesShown nodes s e s' = rw none_is_made at shown in (
+        rule_advances calls agrees facts nodes old s false p p' sh sh' same inside (made.Shows e) s' p' sh' first.0
+            (local_call calls agrees facts nodes s p' p' sh' sh' (made.Shows e) s' refl refl is_shown.0),
+        is_shown.1,
+        rw (ap (λ (k : Counts). k.known) (sym same.counts)) first.1,
+      )
+
   -- or none
-  pub glides_no_further : (looked : Looked) (s' : Machine) → ComesAhead calls (is_open_machine s) s.known (ahead.Rule looked) p sh p' sh'
-      → MakesIfSilent nodes s false s' → GlidesOnce calls agrees facts nodes old p sh glided.Stops s' p' sh'
-  glides_no_further looked s' first none_is_made = (rw none_is_made same, first.0.2, first.0.3)
+  pub glides_no_further : (looked : Looked) (between s' : Machine) → ComesAhead calls (is_open_machine s) s.known (ahead.Rule looked) p sh p' sh'
+      → MakesIfSilent nodes s false between → MakesIfShown nodes between None s'
+      → GlidesOnce calls agrees facts nodes old p sh glided.Stops s' p' sh'
+  glides_no_further looked between s' first none_is_made none_is_shown = (rw (none_is_shown, none_is_made) same, first.0.2, first.0.3)
 
   pub sees_request : (m : Made) (s' : Machine) → ComesAhead calls (is_open_machine s) s.known ahead.Request p sh p' sh'
       → ((deeds : List Deed) → agrees p deeds → agrees p' (deeds ++ Saw ∷ [])) → facts p' ≡ facts p → Interrupts nodes s Request m s'

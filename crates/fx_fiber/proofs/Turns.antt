@@ -1,5 +1,5 @@
 -- What the steps of a turn come to.
-use Rattle.std.proofs.Common.{◌≡◌, ◌∙◌, ◌<◌, ◌≤◌, ◌+◌, ℕ, Bool, true, false, List, Option, Some, refl, ap, sym, subst, arith}
+use Rattle.std.proofs.Common.{◌≡◌, ◌∙◌, ◌<◌, ◌≤◌, ◌+◌, ℕ, zero, suc, Bool, true, false, List, Option, Some, refl, ap, sym, subst, inl, inr, arith}
 use Rattle.std.specs.Prelude.{option_and_then}
 use Rattle.std.proofs.Math.Numerals.{add-one}
 use Rattle.fx_term.specs.declared.node.Node.{Node}
@@ -14,7 +14,9 @@ use Rattle.fx_fiber.specs.Calls.{PortCalls}
 use Rattle.fx_fiber.specs.PortFacts.{Facts}
 use Rattle.fx_fiber.specs.Fiber.{FiberView, progress}
 use Rattle.fx_fiber.specs.MakesStep.{MakesStep, OnlyWaits, Answers}
-use Rattle.fx_fiber.specs.Turns.{Goes, Registers, Waited}
+use Rattle.fx_fiber.specs.Turns.{Goes, Registers, Waited, Refused}
+use Rattle.fx_fiber.specs.Bursts.{GoesAlone, Bursts, BurstsShort}
+use Rattle.fx_fiber.proofs.Bursts.{went_then}
 use Rattle.fx_fiber.specs.declared.stepped.Stepped.TheVariants as stepped
 
 -- a label of a step that went on shows no end
@@ -41,15 +43,6 @@ module _ {P S : Type 0} (calls : PortCalls P S) (facts : P → Facts) (nodes : L
       pub number_is : (facts f.port).number ≡ (facts first.port).number
       pub beginning_is : (facts f.port).beginning ≡ (facts first.port).beginning
 
-    pub one_more : (n : ℕ) (b : Bool) (f g : FiberView P) (s t : S) → Reached n b f s → MakesStep calls facts nodes f s stepped.Went g t
-        → (facts g.port).number ≡ (facts f.port).number → (facts g.port).beginning ≡ (facts f.port).beginning → Reached (n + 1) false g t
-    one_more n b f g s t r made same begun = rw add-one (record {
-      goes = Goes.went r.goes made;
-      going = goes_on f s g t made;
-      number_is = same ∙ r.number_is;
-      beginning_is = begun ∙ r.beginning_is;
-    })
-
     pub one_wait : (n : ℕ) (f g h : FiberView P) (s t u : S) (wait : Source) → Reached n false f s → OnlyWaits calls nodes f s wait g t
         → Registers calls facts nodes g t wait h u → (facts h.port).number ≡ (facts f.port).number → (facts h.port).beginning ≡ (facts f.port).beginning
         → Reached (n + 1) true h u
@@ -59,6 +52,64 @@ module _ {P S : Type 0} (calls : PortCalls P S) (facts : P → Facts) (nodes : L
       number_is = same ∙ r.number_is;
       beginning_is = begun ∙ r.beginning_is;
     })
+
+    -- after a step that went on, so many of a burst
+    goes_alone : (n : ℕ) (b : Bool) (f g : FiberView P) (s t : S) → Goes calls facts nodes first shared n b f s → MakesStep calls facts nodes f s stepped.Went g t
+        → (k m : ℕ) → m ≡ suc (k + n) → (h : FiberView P) → GoesAlone calls facts nodes k g t h → Goes calls facts nodes first shared m false h t
+    goes_alone n b f g s t before made zero m e h same =
+        let last : m ≡ suc n = omega arith in rw last (Goes.went before (went_then calls facts nodes f s g t h made same))
+    goes_alone n b f g s t before made (suc k) m e h a =
+        let last : m ≡ suc (suc (k + n)) = omega arith in rw last (Goes.went (goes_alone n b f g s t before made k _ refl a.0 a.1) a.2.does)
+
+    -- none of these has ended the fiber
+    alone_is_going : (k : ℕ) (g h : FiberView P) (t : S) → GoesAlone calls facts nodes k g t h → has_ended (progress nodes g) ≡ false
+        → has_ended (progress nodes h) ≡ false
+    alone_is_going zero g h t same on = rw same.progress_is on
+    alone_is_going (suc k) g h t a on = goes_on a.0 t h t a.2.does
+
+    -- and the whole burst
+    burst_goes : (n : ℕ) (b : Bool) (f g : FiberView P) (s t : S) → Goes calls facts nodes first shared n b f s → MakesStep calls facts nodes f s stepped.Went g t
+        → (most k m : ℕ) → m ≡ suc (k + n) → (h : FiberView P) (u : S) → Bursts calls facts nodes most k g t h u → Goes calls facts nodes first shared m false h u
+    burst_goes n b f g s t before made most k m e h u burst = elim burst.steps [
+      | inl alone ↦ rw alone.1 (goes_alone n b f g s t before made k m e h alone.0)
+      | inr last ↦
+          let sees : k ≡ suc last.before = last.then_sees in
+          let all : m ≡ suc (suc (last.before + n)) = omega arith in
+          rw all (Goes.went (goes_alone n b f g s t before made last.before _ refl last.between last.goes) last.sees.does)
+    ]
+
+    burst_is_going : (most k : ℕ) (g h : FiberView P) (t u : S) → Bursts calls facts nodes most k g t h u → has_ended (progress nodes g) ≡ false
+        → has_ended (progress nodes h) ≡ false
+    burst_is_going most k g h t u burst on = elim burst.steps [
+      | inl alone ↦ alone_is_going k g h t alone.0 on
+      | inr last ↦ goes_on last.between t h u last.sees.does
+    ]
+
+    -- the turn goes on here after a step that went on and the burst after it
+    pub one_more : (n : ℕ) (b : Bool) (f g : FiberView P) (s t : S) → Reached n b f s → MakesStep calls facts nodes f s stepped.Went g t
+        → (most k : ℕ) (h : FiberView P) (u : S) → Bursts calls facts nodes most k g t h u
+        → (facts h.port).number ≡ (facts f.port).number → (facts h.port).beginning ≡ (facts f.port).beginning → Reached (n + (k + 1)) false h u
+    one_more n b f g s t r made most k h u burst same begun =
+        record {
+          goes = burst_goes n b f g s t r.goes made most k _ (omega arith) h u burst;
+          going = burst_is_going most k g h t u burst (goes_on f s g t made);
+          number_is = same ∙ r.number_is;
+          beginning_is = begun ∙ r.beginning_is;
+        }
+
+    -- memory is refused in the burst after such a step
+    pub refused_in_burst : (n : ℕ) (b : Bool) (f g : FiberView P) (s t : S) → n < 64 → Reached n b f s → MakesStep calls facts nodes f s stepped.Went g t
+        → (most : ℕ) (h : FiberView P) (u : S) → n + most < 64 → BurstsShort calls facts nodes most g t h u → Refused calls facts nodes first shared h u
+    refused_in_burst n b f g s t few r made most h u within short =
+        let less = short.few in
+        record {
+          steps = suc (short.n + n);
+          few = omega arith;
+          was = false;
+          before = h;
+          goes = rw short.shared_is (goes_alone n b f g s t r.goes made short.n _ refl h short.goes);
+          unchanged = record { port = refl; trace = refl; counts = refl; progress_is = refl };
+        }
 
     -- a fiber that waits again after it was registered is registered for what it waits for
     registered_for : {n : ℕ} {b : Bool} {f : FiberView P} {s : S} → Goes calls facts nodes first shared n b f s → b ≡ true

@@ -3,6 +3,8 @@ use Rattle.std.specs.Prelude.{◌≡◌, ℕ, Bool, true, false, Option, Some, N
 use Rattle.fx_term.specs.declared.node.NodeId.{NodeId}
 use Rattle.fx_term.specs.declared.node.Node.{Node}
 use Rattle.fx_term.specs.declared.node.Node.TheVariants as node
+use Rattle.fx_term.specs.declared.done.Done.{Done}
+use Rattle.fx_term.specs.declared.done.Done.TheVariants.{Val}
 use Rattle.fx_frames.specs.declared.frame.Frame.{Frame}
 use Rattle.fx_frames.specs.declared.frame.Frame.TheVariants as frame
 
@@ -61,6 +63,13 @@ is_silent_inside (frame.Acquire id ∷ outer) = false
 is_silent_inside (frame.Using k r ∷ outer) = false
 is_silent_inside (frame.Releasing k v ∷ outer) = false
 is_silent_inside (f ∷ outer) = true
+
+-- a result shows something of a bracket in the innermost of these contexts
+abbrev pub is_of_bracket : List Frame → Done → Bool
+is_of_bracket (frame.Acquire id ∷ outer) (Val n) = true
+is_of_bracket (frame.Using k r ∷ outer) v = true
+is_of_bracket (frame.Releasing k w ∷ outer) v = true
+is_of_bracket frames v = false
 
 -- a `join`
 abbrev pub IsJoin : Node → Type 0

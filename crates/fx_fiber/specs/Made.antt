@@ -1,5 +1,6 @@
 -- What is made in a step: its label, its deeds, and by which part of a machine it can be made.
 use Rattle.std.specs.Prelude.{List, [], ◌∷◌}
+use Rattle.fx_term.specs.declared.event.Event.{Event}
 use Rattle.fx_term.specs.declared.event.Event.TheVariants as event
 use Rattle.fx_model.specs.Row.{Label, Silent, Shows, Learns}
 use Rattle.fx_fiber.specs.Deed.{Deed, FoundEnded, deeds_of_event}
@@ -18,6 +19,13 @@ deeds_made (made.Shows (event.Ended o)) = []
 deeds_made (made.Shows e) = deeds_of_event e
 deeds_made (made.Learns f o e) = FoundEnded f o ∷ []
 deeds_made _ = []
+
+-- what a bracket shows: its resource is acquired, and its release begins and ends
+abbrev pub IsOfBracket : Event → Type 0
+IsOfBracket (event.Acquired k) = Unit {0}
+IsOfBracket (event.Begin k) = Unit {0}
+IsOfBracket (event.End k) = Unit {0}
+IsOfBracket e = ⊥
 
 -- what is made with no question to the port: an end is told after it
 abbrev pub IsLocal : Made → Type 0

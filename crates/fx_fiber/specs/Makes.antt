@@ -1,6 +1,7 @@
 -- What a machine made: one rule of its place, or none where the fiber waits or is to start another.
-use Rattle.std.specs.Prelude.{◌≡◌, Bool, true, false, Some, option_and_then, List}
+use Rattle.std.specs.Prelude.{◌≡◌, Bool, true, false, Option, Some, None, option_and_then, List}
 use Rattle.fx_term.specs.declared.node.Node.{Node}
+use Rattle.fx_term.specs.declared.event.Event.{Event}
 use Rattle.fx_term.specs.Term.{Cede}
 use Rattle.fx_model.specs.Row.{Label, Silent, Shows, Learns}
 use Rattle.fx_model.specs.Step.{leaf_at, must_cancel_at, Step}
@@ -12,7 +13,7 @@ use Rattle.fx_fiber.specs.declared.machine.made.Made.TheVariants as made
 use Rattle.fx_fiber.specs.declared.machine.Machine.{Machine}
 use Rattle.fx_fiber.specs.Machine.{counts_of, progress_of}
 use Rattle.fx_fiber.specs.Sound.{IsSoundMachine}
-use Rattle.fx_fiber.specs.Made.{IsLocal}
+use Rattle.fx_fiber.specs.Made.{IsLocal, IsOfBracket}
 use Rattle.fx_fiber.specs.Places.{IsSame, StandsAtStart}
 
 -- one step of the rules, with this label
@@ -48,3 +49,12 @@ MakesSilently nodes s s' = MakesRule nodes s made.Silent s'
 abbrev pub MakesIfSilent : List Node → Machine → Bool → Machine → Type 0
 MakesIfSilent nodes s true s' = MakesSilently nodes s s'
 MakesIfSilent nodes s false s' = s' ≡ s
+
+-- a rule was made that shows this of a bracket
+abbrev pub MakesShown : List Node → Machine → Event → Machine → Type 0
+MakesShown nodes s e s' = MakesRule nodes s (made.Shows e) s' × IsOfBracket e
+
+-- that, or nothing was made and nothing has changed
+abbrev pub MakesIfShown : List Node → Machine → Option Event → Machine → Type 0
+MakesIfShown nodes s (Some e) s' = MakesShown nodes s e s'
+MakesIfShown nodes s None s' = s' ≡ s

@@ -230,13 +230,13 @@ impl<P: Port> Fiber<P> {
         step(&mut self.port, &mut self.body, code, shared)
     }
 
-    /// Makes silent rules in one go, at most so many, and stops at the latest before the first one that
-    /// shows something, asks the port for something or yields. At an open place it looks, once, since
-    /// nothing is asked after that; where it sees a request, that is its last step. It answers how many
-    /// steps it made. Want of memory leaves the rules that were made before it.
+    /// Makes rules in one go, at most so many: those that show nothing, and those of a bracket. It stops at
+    /// the latest before the first one that shows something else, asks the port for something or yields.
+    /// At an open place it looks, once, since nothing is asked after that; where it sees a request, that is
+    /// its last step. It answers how many steps it made. Want of memory leaves the rules that were made
+    /// before it.
     pub fn burst(&mut self, code: &Code, shared: &mut P::Shared, most: u32) -> Result<u32, Memory>
         requires code { code.now.nodes ≡ P.code }
-        requires some { 0 < most }
         ensures ok { IfOk result (λ n. Bursts P.calls P.facts P.code most n
             self.old shared.old self.new shared.new) }
         ensures err { OnErr result (BurstsShort P.calls P.facts P.code most

@@ -13,7 +13,8 @@ use futures::Future;
 use futures::task::{Context, Poll};
 use fx_term::{Code, Memory};
 
-/// A turn of a fiber, as a future: one poll makes at most 64 steps. A pending poll has asked for the next
+/// A turn of a fiber, as a future: one poll makes at most 64 steps, after each one as many in a burst as
+/// there can be. A pending poll has asked for the next
 /// one, also where the fiber waits: who has it wakes it, by its port. Whether it waits is told by
 /// [`Fiber::source`]: what it registered for, or none where it yields.
 #[derive(Drop)]
@@ -78,7 +79,8 @@ fn stepped<P: Port>(fiber: &mut Fiber<P>, code: &Code, shared: &mut P::Shared) -
         return Some(Turned::Ended);
     }
     let mut is_registered = false;
-    for _ in 0..64u32 {
+    let mut steps = 0u32;
+    while steps < 64 {
         match fiber.step(code, shared) {
             Err(Memory) => return Some(Turned::Memory),
             Ok(Stepped::Child(child)) => return Some(Turned::Child(child)),
@@ -87,17 +89,20 @@ fn stepped<P: Port>(fiber: &mut Fiber<P>, code: &Code, shared: &mut P::Shared) -
                 fiber.yields();
                 return None;
             }
-            Ok(Stepped::Went) => {
-                is_registered = false;
-                continue;
-            }
+            Ok(Stepped::Went) => match fiber.burst(code, shared, 63 - steps) {
+                Err(Memory) => return Some(Turned::Memory),
+                Ok(made) => {
+                    is_registered = false;
+                    steps += made + 1;
+                }
+            },
             Ok(Stepped::Waits(source)) => {
                 if is_registered {
                     return None;
                 }
                 fiber.wait_on(shared, source);
                 is_registered = true;
-                continue;
+                steps += 1;
             }
         }
     }

@@ -11,8 +11,8 @@ use Rattle.fx_text.specs.declared.pick.Pick.{Pick}
 use Rattle.fx_model.specs.Row.{Label, Silent, Shows}
 use Rattle.fx_model.specs.Step.{leaf_at}
 use Rattle.fx_fiber.specs.Fiber.{FiberView, progress}
-use Rattle.fx_fiber.specs.MakesStep.{Tells}
-use Rattle.fx_fiber.specs.Bursts.{GoesBy, GoesSilently, Bursts}
+use Rattle.fx_fiber.specs.Bursts.{IsAlone, StepsAlone, GoesAlone, Bursts}
+use Rattle.fx_fiber.specs.MakesStep.{MakesStep, Tells}
 use Rattle.fx_fiber.specs.declared.stepped.Stepped.TheVariants.{Went}
 use Rattle.fx_plain.specs.declared.plain_machine.Started.{Started}
 use Rattle.fx_plain.specs.declared.plain_machine.PlainMachine.{PlainMachine}
@@ -89,35 +89,38 @@ module _ {J : Type 0} (nodes : List Node) (s : ScriptView) (f : ℕ) where
       pub world : p'.world ≡ p.world
 
     -- one step more that answers that it went, and leaves the port and the world as they were
-    one_more : (v w : FiberView PortView) (l : Label) (world' : WorldView) (p' : PlainMachine J) → Comes v (with_fiber v)
-        → GoesBy plain_calls facts_of nodes l v p.world w world' → w.port ≡ v.port → world' ≡ p.world → Holds w p' → Comes w p'
-    one_more v w l world' p' come by port same held =
+    one_more : (v w : FiberView PortView) (world' : WorldView) (p' : PlainMachine J) → Comes v (with_fiber v)
+        → MakesStep plain_calls facts_of nodes v p.world Went w world' → w.port ≡ v.port → world' ≡ p.world → Holds w p' → Comes w p'
+    one_more v w world' p' come does port same held =
         let q = with_fiber v in
         let there : at_number nodes q f ≡ Some (record { parent = x.parent; fiber = v }) = get_or-set_same p.fibers.items f _ None long in
         let on = step_leads_on nodes s q come.machine (goes_to come.on) f _ there p' held.after _ refl world' w held.parent held.fiber
-        (ap (λ (r : PortView). r.number) port) (ap (λ (r : PortView). r.beginning) port) Went (inl refl) by.does
+        (ap (λ (r : PortView). r.number) port) (ap (λ (r : PortView). r.beginning) port) Went (inl refl) does
         (held.fibers ∙ sym (set-set p.fibers.items f _ (Some held.after))) (held.world ∙ sym same) able in
         record { machine = on.1; on = goes come.on on.2 on.3 held.world; port_is = port ∙ come.port_is }
 
-    -- silent rules tell the port nothing
-    tells_nothing : (v w : FiberView PortView) → (by : GoesBy plain_calls facts_of nodes Silent v p.world w p.world) → w.port ≡ v.port
-    tells_nothing v w by =
-        (subst (λ (l : Label). Tells plain_calls facts_of nodes (leaf_at (progress nodes v)) l Went v.port p.world w.port p.world) by.by
-        by.does.calls_are.told).0
+    -- a step of a burst tells the port nothing
+    tells_nothing : (v w : FiberView PortView) (l : Label) → IsAlone l
+        → Tells plain_calls facts_of nodes (leaf_at (progress nodes v)) l Went v.port p.world w.port p.world → w.port ≡ v.port
+    tells_nothing v w Silent alone told = told.0
+    tells_nothing v w (Shows (event.Acquired k)) alone told = told.0
+    tells_nothing v w (Shows (event.Begin k)) alone told = told.0
+    tells_nothing v w (Shows (event.End k)) alone told = told.0
+    tells_nothing v w _ alone told = absurd alone
 
-    pub comes_silently : (n : ℕ) (v : FiberView PortView) → GoesSilently plain_calls facts_of nodes n x.fiber p.world v → (p' : PlainMachine J)
+    pub comes_alone : (n : ℕ) (v : FiberView PortView) → GoesAlone plain_calls facts_of nodes n x.fiber p.world v → (p' : PlainMachine J)
         → Holds v p' → Comes v p'
-    comes_silently zero v h p' held = record {
+    comes_alone zero v h p' held = record {
       machine = m;
       on = stays (still_stands nodes s p m so f x here p' held.after _ refl p.world v held.parent held.fiber (ap (λ (r : PortView). r.number) h.port)
           (ap (λ (r : PortView). r.beginning) h.port) h held.fibers held.world) held.world;
       port_is = h.port;
     }
-    comes_silently (suc n) v h p' held =
-        one_more h.0 v Silent p.world p'
-        (comes_silently n h.0 h.1 (with_fiber h.0)
+    comes_alone (suc n) v h p' held =
+        one_more h.0 v p.world p'
+        (comes_alone n h.0 h.1 (with_fiber h.0)
         (record { after = record { parent = x.parent; fiber = h.0 }; fibers = refl; parent = refl; fiber = refl; world = refl }))
-        h.2 (tells_nothing h.0 v h.2) refl held
+        h.2.does (tells_nothing h.0 v h.2.does.label h.2.alone h.2.does.calls_are.told) refl held
 
     -- what a burst comes to
     pub bursts_go : (most n : ℕ) (v : FiberView PortView) (world' : WorldView) → Bursts plain_calls facts_of nodes most n x.fiber p.world v world'
@@ -125,18 +128,18 @@ module _ {J : Type 0} (nodes : List Node) (s : ScriptView) (f : ℕ) where
         → after.fiber ≡ v → p'.world ≡ world'
         → (m' : WholeMachine) × GoesOn nodes s f m p m' p'
     bursts_go most n v world' b p' after fibers parent fiber world = elim b.steps [
-      | inl silent ↦
-          let come = comes_silently n v silent.0 p'
-          (record { after = after; fibers = fibers; parent = parent; fiber = fiber; world = world ∙ silent.1 }) in
+      | inl alone ↦
+          let come = comes_alone n v alone.0 p'
+          (record { after = after; fibers = fibers; parent = parent; fiber = fiber; world = world ∙ alone.1 }) in
           (come.machine, come.on)
       | inr last ↦
           let told = subst
           (λ (l : Label). Tells plain_calls facts_of nodes (leaf_at (progress nodes last.between)) l Went last.between.port p.world v.port world')
           last.sees.by last.sees.does.calls_are.told in
-          let come = one_more last.between v (Shows event.Seen) world' p'
-          (comes_silently last.before last.between last.goes (with_fiber last.between)
+          let come = one_more last.between v world' p'
+          (comes_alone last.before last.between last.goes (with_fiber last.between)
           (record { after = record { parent = x.parent; fiber = last.between }; fibers = refl; parent = refl; fiber = refl; world = refl }))
-          last.sees told.1 told.2 (record { after = after; fibers = fibers; parent = parent; fiber = fiber; world = world ∙ told.2 }) in
+          last.sees.does told.1 told.2 (record { after = after; fibers = fibers; parent = parent; fiber = fiber; world = world ∙ told.2 }) in
           (come.machine, come.on)
     ]
 

@@ -60,7 +60,8 @@ impl<J: CodeBrand> Started<J> {
         self.fiber.step(code, world)
     }
 
-    /// Lets it make silent steps in one go, as many as it can, and answers how many it made.
+    /// Lets it make steps in one go that need no other fiber, as many as it can, and answers how many it
+    /// made.
     fn burst(&mut self, code: &Code, world: &mut PlainWorld) -> Result<u32, Memory>
         requires code { code.now.nodes ≡ J.nodes }
         ensures ok { IfOk result (λ n. Bursts plain_calls facts_of J.nodes (2 ^ 32 - 1) n
@@ -165,7 +166,7 @@ fn step_at<J: CodeBrand>(
     started.step(code, world)
 }
 
-/// Lets the fiber of this place make silent steps in one go where it stands.
+/// Lets the fiber of this place make steps in one go, where it stands, that need no other fiber.
 fn burst_at<J: CodeBrand>(
     place: &mut Option<Started<J>>,
     code: &Code,
@@ -234,7 +235,8 @@ impl<J: CodeBrand> PlainMachine<J> {
         Ok(())
     }
 
-    /// Lets a fiber that is able make silent steps in one go. One that waits stands at none.
+    /// Lets a fiber that is able make steps in one go that need no other fiber. One that waits stands at
+    /// none.
     fn burst(&mut self, code: &Code, id: u32) -> Result<(), Memory>
         requires code { code.now.nodes ≡ J.nodes }
         requires stands { StandsForSome J.nodes self.old }

@@ -1,5 +1,5 @@
-//! Silent rules in one go.
-ghost use Rattle.std.specs.Prelude.{◌≡◌, ◌<◌, IfOk, OnErr};
+//! Rules in one go.
+ghost use Rattle.std.specs.Prelude.{◌≡◌, IfOk, OnErr};
 ghost use Rattle.fx_fiber.specs.Fiber.{IsKept, fiber_at};
 ghost use Rattle.fx_fiber.specs.Bursts.{Bursts, BurstsShort};
 
@@ -9,8 +9,8 @@ use crate::fiber::glide::{Glided, glide};
 use crate::port::Port;
 use fx_term::{Code, Event, Memory};
 
-/// Makes silent rules, at most so many steps, and answers how many it made; where it saw a request, that is
-/// the last of them. The room for its event is had first.
+/// Makes silent rules and those of brackets, at most so many steps, and answers how many it made; where it
+/// saw a request, that is the last of them. The room for the event of each step is had before it.
 pub(crate) fn burst<P: Port>(
     port: &mut P,
     body: &mut Body,
@@ -21,7 +21,6 @@ pub(crate) fn burst<P: Port>(
     requires code { code.now.nodes ≡ P.code }
     requires kept { IsKept P.code P.total (P.facts port.old) (P.agrees port.old)
         body.old.trace.items body.old.machine }
-    requires some { 0 < most }
     ensures ok { IfOk result (λ n. Bursts P.calls P.facts P.code most n
         (fiber_at port.old body.old.trace.items body.old.machine body.old.source) shared.old
         (fiber_at port.new body.new.trace.items body.new.machine body.new.source) shared.new) }
@@ -35,11 +34,15 @@ pub(crate) fn burst<P: Port>(
     ensures number { (P.facts port.new).number ≡ (P.facts port.old).number }
     ensures beginning { (P.facts port.new).beginning ≡ (P.facts port.old).beginning }
 {
-    body.trace.reserve(1)?;
     let mut looked = Looked::NotYet;
     for made in 0..most {
+        body.trace.reserve(1)?;
         match glide(port, &mut body.machine, code, shared, looked)? {
             Glided::Went(serves) => looked = serves,
+            Glided::Showed(event, serves) => {
+                body.trace.push_reserved(event);
+                looked = serves;
+            }
             Glided::Stops => return Ok(made),
             Glided::Saw => {
                 body.trace.push_reserved(Event::Seen);

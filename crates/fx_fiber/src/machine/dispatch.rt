@@ -2,7 +2,7 @@
 ghost use Rattle.std.specs.Prelude.{◌≡◌, ◌^◌, ◌<◌, Some, [], IfOk, OnErr};
 ghost use Rattle.fx_term.specs.declared.node.Node.TheVariants as node;
 ghost use Rattle.fx_fiber.specs.Leaves.{IsLeafNode, IsLocalLeaf};
-ghost use Rattle.fx_fiber.specs.Places.{IsSame, StandsAt, IsBeforeTurn, ReturnsInto, ReturnsOut};
+ghost use Rattle.fx_fiber.specs.Places.{IsSame, StandsAt, IsBeforeTurn, ReturnsOut};
 ghost use Rattle.fx_fiber.specs.Places.{IsReturning};
 ghost use Rattle.fx_fiber.specs.Makes.{MakesRule};
 ghost use Rattle.fx_fiber.specs.Interruption.{Interrupts, IsInterrupted};
@@ -20,7 +20,7 @@ use fx_model::Source;
 use fx_term::{Arg, Code, Done, Memory, Node, NodeId};
 
 impl Machine {
-    ghost use Rattle.std.specs.Prelude.{List, slice_get};
+    ghost use Rattle.std.specs.Prelude.{List};
     ghost use Rattle.fx_term.specs.declared.node.Node.{Node};
 
     /// The row of a leaf, or none where the fiber waits.
@@ -86,29 +86,17 @@ impl Machine {
         if self.silent_result(done)? {
             return Ok(Made::Silent);
         }
+        if let Some(event) = self.bracket_result(code, done)? {
+            return Ok(Made::Shows(event));
+        }
         match (self.frames.last(), done) {
-            (Some(&Frame::Acquire(id)), Done::Val(n)) => self.acquire_rule(id, code.node(id), n),
-            (Some(&Frame::Acquire(_)), Done::Err(_)) => Ok(self.acquire_fails()),
-            (Some(&Frame::Using(k, release)), done) => self.used(k, release, done),
-            (Some(&Frame::Releasing(k, result)), done) => Ok(self.released(k, result, done)),
+            (Some(&Frame::Acquire(_)), Done::Err(_)) => {
+                self.acquire_fails();
+                Ok(Made::Silent)
+            }
             (None, done) => Ok(self.end_rule(done)),
             (Some(_), _) => unreachable!(),
         }
-    }
-
-    /// The row of a value in the acquire part of a bracket.
-    fn acquire_rule(&mut self, id: NodeId, node: &Node, n: u64) -> Result<Made, Memory>
-        ghost nodes: { List Node }
-        requires inside { ReturnsInto nodes self.old (Frame.Acquire id) (Done.Val n) }
-        requires node { slice_get nodes id.0 ≡ Some node.now }
-        requires countable { self.old.acquired < 2 ^ 63 }
-        ensures ok { IfOk result (λ made. MakesRule nodes self.old made self.new) }
-        ensures err { OnErr result (IsSame nodes self.old self.new) }
-    {
-        let Node::Bracket(name, _, use_part, release) = *node else {
-            unreachable!();
-        };
-        self.acquired(name, use_part, release, n)
     }
 
     /// The rule of a result in no context: the end of the fiber, or of a clean-up.

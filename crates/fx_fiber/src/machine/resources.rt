@@ -2,11 +2,10 @@
 ghost use Rattle.std.specs.Prelude.{◌≡◌, ◌^◌, ◌<◌};
 ghost use Rattle.fx_model.specs.Row.{after_release};
 ghost use Rattle.fx_fiber.specs.Places.{IsSame, ReturnsInto, IsBracketAt};
-ghost use Rattle.fx_fiber.specs.Makes.{MakesRule};
+ghost use Rattle.fx_fiber.specs.Makes.{MakesSilently, MakesShown};
 
 use crate::machine::Machine;
 use crate::machine::focus::Focus;
-use crate::machine::made::Made;
 use fx_frames::Frame;
 use fx_term::{Done, Event, Memory, NodeId};
 
@@ -33,12 +32,12 @@ impl Machine {
         use_part: NodeId,
         release: NodeId,
         n: u64,
-    ) -> Result<Made, Memory>
+    ) -> Result<Event, Memory>
         ghost nodes: { List Node }
         requires inside { (bracket : NodeId) × IsBracketAt nodes bracket name use_part release
             × ReturnsInto nodes self.old (Frame.Acquire bracket) (Done.Val n) }
         requires countable { self.old.acquired < 2 ^ 63 }
-        ensures ok { IfOk result (λ made. MakesRule nodes self.old made self.new) }
+        ensures ok { IfOk result (λ event. MakesShown nodes self.old event self.new) }
         ensures err { OnErr result (IsSame nodes self.old self.new) }
     {
         self.registers.bind(name, n)?;
@@ -47,43 +46,42 @@ impl Machine {
         self.masks.leave();
         self.acquired = number + 1;
         self.focus = Focus::Eval(use_part);
-        Ok(Made::Shows(Event::Acquired(number)))
+        Ok(Event::Acquired(number))
     }
 
     /// An error of the acquire part is that of the bracket, and nothing is released.
-    pub fn acquire_fails(&mut self) -> Made
+    pub fn acquire_fails(&mut self)
         ghost nodes: { List Node }
         requires { (bracket : NodeId) × (e : ℕ)
             × ReturnsInto nodes self.old (Frame.Acquire bracket) (Done.Err e) }
-        ensures { MakesRule nodes self.old result self.new }
+        ensures { MakesSilently nodes self.old self.new }
     {
         let _ = self.frames.pop();
         self.masks.leave();
-        Made::Silent
     }
 
     /// A use that has a result is followed by the release, which is sealed.
-    pub fn used(&mut self, resource: u64, release: NodeId, done: Done) -> Result<Made, Memory>
+    pub fn used(&mut self, resource: u64, release: NodeId, done: Done) -> Result<Event, Memory>
         ghost nodes: { List Node }
         requires inside { ReturnsInto nodes self.old (Frame.Using resource release) done }
-        ensures ok { IfOk result (λ made. MakesRule nodes self.old made self.new) }
+        ensures ok { IfOk result (λ event. MakesShown nodes self.old event self.new) }
         ensures err { OnErr result (IsSame nodes self.old self.new) }
     {
         self.masks.seal()?;
         self.frames.replace(Frame::Releasing(resource, done));
         self.focus = Focus::Eval(release);
-        Ok(Made::Shows(Event::Begin(resource)))
+        Ok(Event::Begin(resource))
     }
 
     /// A release that has a result ends the bracket.
-    pub fn released(&mut self, resource: u64, use_result: Done, done: Done) -> Made
+    pub fn released(&mut self, resource: u64, use_result: Done, done: Done) -> Event
         ghost nodes: { List Node }
         requires inside { ReturnsInto nodes self.old (Frame.Releasing resource use_result) done }
-        ensures { MakesRule nodes self.old result self.new }
+        ensures { MakesShown nodes self.old result self.new }
     {
         let _ = self.frames.pop();
         self.masks.leave();
         self.focus = Focus::Return(after_release(done, use_result));
-        Made::Shows(Event::End(resource))
+        Event::End(resource)
     }
 }

@@ -1,6 +1,12 @@
+use Rattle.std.proofs.Common.{◌≤◌, ◌-◌}
 use Rattle.fx_fiber.proofs.Turns.{Reached}
 use Rattle.fx_fiber.proofs.turn.stepped.Given as goal
 
-abbrev pub invariant-loop : goal.invariant-loop
-invariant-loop g l =
-    Reached g.P.Port.calls g.P.Port.facts g.P.Port.code l.fn.fiber l.fn.shared l.counter l.is_registered l.fiber l.shared
+abbrev pub invariant-loop-steps : goal.invariant-loop-steps
+invariant-loop-steps g l = record {
+  reached : Reached g.P.Port.calls g.P.Port.facts g.P.Port.code l.fn.fiber l.fn.shared l.steps l.is_registered l.fiber l.shared;
+  most : l.steps ≤ 64;
+}
+
+abbrev pub decreases-loop-steps : goal.decreases-loop-steps
+decreases-loop-steps g l = 64 - l.steps

@@ -6,12 +6,14 @@ use Rattle.fx_fiber.proofs.machine.Machine.used.Goals as goal
 
 pub returns-clause-ok : goal.returns-clause-ok
 returns-clause-ok g c =
-    let inside = c.requires in
-    record {
-      sound = search rules;
-      rule = rw c.in_ok-seal.ensures.ok
-          (given_step g.nodes c.args.self.now (frame.Using c.args.resource c.args.release) (c.args.done) inside _ _ _ _
-          (rw (c.replace.ensures _ _ inside.frames) refl)
-          (λ k. used));
-      is_local = tt;
-    }
+    let inside = c.requires in (
+      record {
+        sound = search rules;
+        rule = rw c.in_ok-seal.ensures.ok
+            (given_step g.nodes c.args.self.now (frame.Using c.args.resource c.args.release) (c.args.done) inside _ _ _ _
+            (rw (c.replace.ensures _ _ inside.frames) refl)
+            (λ k. used));
+        is_local = tt;
+      },
+      tt,
+    )
