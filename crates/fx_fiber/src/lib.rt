@@ -48,9 +48,11 @@
 //! one. A fiber that waits at an open place looks in each step, so a request is seen there; where
 //! something closes the place only what it waits for lets it go on.
 //!
-//! [`Fiber::burst`] makes silent rules in one go, before a step makes the next one.
+//! [`Fiber::burst`] makes rules in one go that need no other fiber: those that show nothing, and those of a
+//! bracket. A step makes the next one.
 //!
-//! A [`Turn`] is a future, of which one poll steps the fiber until one of these comes first:
+//! A [`Turn`] is a future, of which one poll steps the fiber, with a burst after each step that went on,
+//! until one of these comes first:
 //!
 //! | a step answers | the poll is |
 //! |---|---|
@@ -70,8 +72,9 @@
 //! alone, and what is reported of fibers ([`Report`]); who uses fibers finds these here too.
 //!
 //! What never happens: a row of the table at an open place before a look in that step, or, in a burst,
-//! after one since which something was asked; an event that is made and not in the trace; a change where memory runs out or the fiber waits; a call to the
-//! depth of a term; a yield without a step; a step after `cede` in the same poll.
+//! after one since which something was asked; an event that is made and not in the trace; a change where
+//! memory runs out or the fiber waits; a call to the depth of a term; a yield without a step; a step after
+//! `cede` in the same poll.
 #![tactic(auto)]
 
 mod bare;

@@ -1,15 +1,9 @@
 -- What the fibers of a run are at names no queue but those that the script's term names, and so does what they wait for.
 use Rattle.std.proofs.Common.{◌≡◌, ℕ, Option, Some, None, List, [], ◌∷◌, refl, sym, ◌∙◌, ap}
-use Rattle.std.specs.Prelude.{option_and_then}
-use Rattle.std.proofs.lemmas.Option.{none-some, same_Some}
-use Rattle.fx_term.specs.declared.node.Arg.TheVariants.{Number}
+use Rattle.std.proofs.lemmas.Option.{none-some}
 use Rattle.fx_term.specs.QueuesNamed.{NamesQueuesBelow}
 use Rattle.fx_term.specs.Script.{ScriptView}
-use Rattle.fx_term.specs.Term.{Term, Let, Handle, OnCancel, Bracket, Masked, Opened, InUse, InRelease, Never, Offer, Take, Join, Await, First}
-use Rattle.fx_model.specs.Path.{leaf}
 use Rattle.fx_model.specs.Row.{Label}
-use Rattle.fx_model.specs.Step.{Progress, Runs, Unwinds, CleansUp, HasEnded, leaf_at}
-use Rattle.fx_model.specs.Waiting.{wait_at}
 use Rattle.fx_model.specs.declared.source.Source.{Source}
 use Rattle.fx_model.proofs.QueueNames.{ProgressNamesBelow, LabelNamesBelow, step_names}
 use Rattle.fx_report.specs.Waits.{IsAtQueueBelow}

@@ -11,7 +11,7 @@ use Rattle.fx_text.specs.declared.pick.Pick.{Pick}
 use Rattle.fx_model.specs.Row.{Label, Silent, Shows}
 use Rattle.fx_model.specs.Step.{leaf_at}
 use Rattle.fx_fiber.specs.Fiber.{FiberView, progress}
-use Rattle.fx_fiber.specs.Bursts.{IsAlone, StepsAlone, GoesAlone, Bursts}
+use Rattle.fx_fiber.specs.Bursts.{IsAlone, GoesAlone, Bursts}
 use Rattle.fx_fiber.specs.MakesStep.{MakesStep, Tells}
 use Rattle.fx_fiber.specs.declared.stepped.Stepped.TheVariants.{Went}
 use Rattle.fx_plain.specs.declared.plain_machine.Started.{Started}

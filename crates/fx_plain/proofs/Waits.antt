@@ -1,18 +1,16 @@
 -- What a machine that rests says of its fibers' waits is so: those that it lists are the blocked ones, each with what its leaf waits for.
-use Rattle.std.proofs.Common.{◌≡◌, ℕ, suc, ◌+◌, ◌<◌, Bool, true, false, Option, Some, None, option_map, List, [], ◌∷◌, ◌++◌, length, map, take, All, refl, sym}
+use Rattle.std.proofs.Common.{◌≡◌, ℕ, suc, ◌+◌, ◌<◌, Bool, false, Option, Some, None, option_map, List, [], ◌∷◌, ◌++◌, length, take, All, refl, sym}
 use Rattle.std.proofs.Common.{◌∙◌, ap, subst, append-nil}
-use Rattle.std.specs.Prelude.{not, option_and_then, slice_index_or}
-use Rattle.std.specs.List.{filter, filter_map, cons_option}
+use Rattle.std.specs.Prelude.{option_and_then, slice_index_or}
+use Rattle.std.specs.List.{cons_option}
 use Rattle.std.proofs.lemmas.List.{take_more, length-map}
 use Rattle.std.proofs.lemmas.List.Elements.{All-nil, All-cons, All-weaker, filter_map-append}
 use Rattle.fx_term.specs.declared.node.Node.{Node}
 use Rattle.fx_term.specs.QueuesNamed.{NamesQueuesBelow}
 use Rattle.fx_term.specs.Script.{ScriptView}
-use Rattle.fx_model.specs.Row.{Counts}
-use Rattle.fx_model.specs.Step.{Progress, Runs, Unwinds, CleansUp, HasEnded, has_ended, leaf_at}
-use Rattle.fx_model.specs.Waiting.{wait_at}
+use Rattle.fx_model.specs.Step.{Progress, has_ended}
 use Rattle.fx_model.specs.declared.source.Source.{Source}
-use Rattle.fx_model.specs.Report.{FiberReportView, ReportView}
+use Rattle.fx_model.specs.Report.{ReportView}
 use Rattle.fx_model.proofs.BlockedFibers.{source_at, HasEndedOrWaits, ended_waits_not, waits_for}
 use Rattle.fx_fiber.specs.Fiber.{progress}
 use Rattle.fx_text.specs.declared.pick.Pick.{Pick}
@@ -27,14 +25,13 @@ use Rattle.fx_plain.specs.declared.plain_machine.PlainMachine.{PlainMachine}
 use Rattle.fx_plain.specs.declared.class.Class.{Class}
 use Rattle.fx_plain.specs.declared.class.Class.TheVariants.{Unstarted, Able, Waits, Over}
 use Rattle.fx_plain.specs.WholeMachine.{StartedFiber, WholeMachine, IsSettled}
-use Rattle.fx_plain.specs.SettledRun.{IsReportOf}
 use Rattle.fx_plain.specs.Chosen.{IsReplay}
 use Rattle.fx_plain.specs.Chosen as chosen
 use Rattle.fx_plain.specs.Classes.{IsOfClass, is_ready}
 use Rattle.fx_plain.specs.ClassSets.{class_at}
 use Rattle.fx_plain.specs.PlainQueue.{have_room, have_element}
-use Rattle.fx_plain.specs.World.{HeldFiber, held_of}
-use Rattle.fx_plain.specs.PlainMachine.{held, reported, all_reported, wait_of, all_waits, all_held, StandsForRun, IsUnderWay, Rests}
+use Rattle.fx_plain.specs.World.{HeldFiber}
+use Rattle.fx_plain.specs.PlainMachine.{reported, all_reported, wait_of, all_waits, all_held, StandsForRun, IsUnderWay, Rests}
 use Rattle.fx_plain.specs.Waits.{source_of_fiber, AreWaitsOf, IsReplayWithWaits}
 use Rattle.fx_plain.proofs.LawfulRuns.{opening_is_kept}
 use Rattle.fx_plain.proofs.OneRun.{one_run}

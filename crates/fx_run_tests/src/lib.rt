@@ -13,6 +13,8 @@ mod gates;
 #[cfg(test)]
 mod given_fibers;
 #[cfg(test)]
+mod idle;
+#[cfg(test)]
 mod races;
 #[cfg(test)]
 mod rows;

@@ -1,6 +1,5 @@
 use Rattle.fx_text.specs.View.{meaning}
 use Rattle.fx_report.specs.Script.{script_of}
-use Rattle.fx_plain.specs.Chosen.{IsReplay}
 use Rattle.fx_plain.proofs.ChosenRuns.{replay_is_lawful, replay_is_in_order}
 use Rattle.fx_plain.proofs.Waits.{without_waits}
 use Rattle.fx_plain.proofs.chosen_run.replay.Goals as goal

@@ -1,10 +1,9 @@
-use Rattle.std.proofs.Common.{◌+◌, [], drop, arith, length, subst, sym, ap}
-use Rattle.std.proofs.lemmas.List.{drop_more, drop_all, length-map}
+use Rattle.std.proofs.Common.{◌+◌, [], drop, arith}
+use Rattle.std.proofs.lemmas.List.{drop_more, drop_all}
 use Rattle.fx_term.proofs.CoreTerms.{code_is_core}
 use Rattle.fx_text.specs.View.{meaning}
 use Rattle.fx_text.specs.declared.pick.Pick.TheVariants as pick
 use Rattle.fx_report.specs.Script.{script_of}
-use Rattle.fx_report.specs.Waits.{WaitsAtQueueBelow}
 use Rattle.fx_plain.specs.PlainMachine.{IsUnderWay}
 use Rattle.fx_plain.proofs.ChosenRuns.{replay_is_lawful, replay_keeps_promises}
 use Rattle.fx_plain.proofs.Waits.{replay_with_waits, without_waits, waits_at_names}
