@@ -2,6 +2,7 @@
 import os
 import shutil
 import tempfile
+from collections import Counter
 
 from refusal import edit as edits
 from refusal.evidence import PROVED, against, is_answer, verdict_on
@@ -134,7 +135,18 @@ class Trial:
         # (what calls a function that an earlier round spoilt may be kept as not proved)
         free = [it for it in free if not reached(self.calls[it.path], self.calls) & self.tried] or free
         first = self.rounds % len(free) if free else 0
-        return (free[first:] + free[:first])[:MOST_CONTROLS]
+        return one_of_each_file_first(free[first:] + free[:first])[:MOST_CONTROLS]
+
+
+def one_of_each_file_first(found):
+    """These functions, and the second ones of their files after the first. Those of one file may stand on the same types, so
+    that where one has no proof for what these do, its neighbours have none."""
+    before = Counter()
+    nth = []
+    for it in found:
+        nth.append(before[it.file])
+        before[it.file] += 1
+    return [it for _, it in sorted(zip(nth, found), key=lambda pair: pair[0])]
 
 
 def with_harmless(texts, control):

@@ -4,7 +4,6 @@
 
 ghost use Rattle.std.specs.Prelude.{◌<◌, IfSome};
 
-use fx_report::Report;
 use fx_run::{RunFault, run};
 use fx_sched::Free;
 use fx_text::{Script, parse};
@@ -13,7 +12,7 @@ use std::process::ExitCode;
 use std::random::RandomSource;
 use std::sync::Wait;
 use std::thread::Threads;
-use std::{env, io};
+use std::env;
 
 /// What the words after the program's name ask for.
 #[derive(Drop)]
@@ -50,8 +49,7 @@ fn late_of<R: Wait + Threads + Sync + RandomSource + AllocGlobal>(
 ) -> Result<u64, RunFault> {
     let mut late = 0u64;
     for _ in 0..runs {
-        let report: Report = run(rt, alloc, script, workers, &Free)?;
-        late = late.saturating_add(report.late);
+        late = late.saturating_add(run(rt, alloc, script, workers, &Free)?.late);
     }
     Ok(late)
 }
