@@ -1,5 +1,6 @@
 -- Steps of a burst one after the other, and what each of them keeps.
-use Rattle.std.proofs.Common.{◌≡◌, ◌∙◌, ℕ, zero, suc, ◌+◌, ◌<◌, ◌≤◌, Bool, true, false, Option, Some, None, List, [], ◌∷◌, ◌++◌, refl, sym, ap, subst, append-nil}
+use Rattle.std.proofs.Common.{◌≡◌, ◌∙◌, ℕ, zero, suc, ◌+◌, ◌<◌, ◌≤◌, Bool, true, false}
+use Rattle.std.proofs.Common.{Option, Some, None, List, [], ◌∷◌, ◌++◌, refl, sym, ap, subst, append-nil}
 use Rattle.std.proofs.Common.{inl, inr, arith}
 use Rattle.std.proofs.Math.Numerals.{add-one}
 use Rattle.fx_term.specs.declared.node.Node.{Node}
@@ -33,9 +34,9 @@ use Rattle.fx_fiber.specs.declared.fiber.ahead.Looked.TheVariants.{InVain, NotYe
 use Rattle.fx_fiber.specs.declared.fiber.ahead.Ahead.TheVariants as ahead
 use Rattle.fx_fiber.specs.declared.fiber.glide.Glided.TheVariants as glided
 use Rattle.fx_fiber.specs.declared.machine.Machine.{Machine}
-use Rattle.fx_fiber.proofs.Advances.{is_free, is_interrupted, interrupted_advances, rule_advances}
+use Rattle.fx_fiber.proofs.Advances.{same_here, is_free, is_interrupted, interrupted_advances, rule_advances}
 use Rattle.fx_fiber.proofs.Calls.{local_call}
-use Rattle.fx_fiber.proofs.Telling.{same_is_unchanged, told_keeps}
+use Rattle.fx_fiber.proofs.Telling.{same_is_unchanged, same_is_kept, told_keeps}
 
 -- a step that a burst makes leaves a fiber known to be canceled, or not, as it was
 abbrev pub KnowsAsBefore : Counts → Counts → Label → Type 0
@@ -205,6 +206,22 @@ module _ {P S : Type 0} (calls : PortCalls P S) (facts : P → Facts) (nodes : L
           (same_is_unchanged nodes p p' t t' m m' source source' same port told);
       shared_is = shared;
     }
+
+    -- a rule of a bracket was made, and memory is refused before the next one
+    pub shows_short : (n most : ℕ) (s : Machine) (p : P) (sh : S) (m m' : Machine) (p' : P) (sh' : S) (t t' t'' : List Event) (source' : Option Source)
+        (e : Event) → n + 1 < most → To n s p sh m t → Advances calls agrees facts nodes m p sh (made.Shows e) m' p' sh' → IsOfBracket e → t' ≡ t ++ e ∷ []
+        → t'' ≡ t' → BurstsShort calls facts nodes most (fiber_at p trace s source) sh (fiber_at p' t'' m' source') sh'
+    shows_short n most s p sh m m' p' sh' t t' t'' source' e few to a of told same =
+        let asked = asks_nothing e p sh m p' sh' of a.asks in
+        stops_short (suc n) most s p sh m' m' p' sh' t' t'' source' (omega arith) (one_more_shown n s p sh m m' p' sh' t t' e to a of told)
+        (same_here nodes m' a.sound) asked.0 asked.1 same
+
+    pub shown_is_kept : (n : ℕ) (s : Machine) (p : P) (sh : S) (m m' : Machine) (p' : P) (sh' : S) (t t' t'' : List Event) (e : Event) → To n s p sh m t
+        → Advances calls agrees facts nodes m p sh (made.Shows e) m' p' sh' → IsOfBracket e → t' ≡ t ++ e ∷ [] → t'' ≡ t'
+        → IsKept nodes total (facts p') (agrees p') t'' m'
+    shown_is_kept n s p sh m m' p' sh' t t' t'' e to a of told same =
+        same_is_kept nodes total facts agrees p p' t' t'' m' m' (one_more_shown n s p sh m m' p' sh' t t' e to a of told).kept
+        (same_here nodes m' a.sound) (asks_nothing e p sh m p' sh' of a.asks).0 same
 
     -- a request is seen here
     pub sees : (n most : ℕ) (s : Machine) (p : P) (sh : S) (m m' : Machine) (p' : P) (sh' : S) (t t' : List Event) (source' : Option Source)

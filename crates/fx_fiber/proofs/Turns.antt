@@ -54,7 +54,8 @@ module _ {P S : Type 0} (calls : PortCalls P S) (facts : P → Facts) (nodes : L
     })
 
     -- after a step that went on, so many of a burst
-    goes_alone : (n : ℕ) (b : Bool) (f g : FiberView P) (s t : S) → Goes calls facts nodes first shared n b f s → MakesStep calls facts nodes f s stepped.Went g t
+    goes_alone : (n : ℕ) (b : Bool) (f g : FiberView P) (s t : S) → Goes calls facts nodes first shared n b f s
+        → MakesStep calls facts nodes f s stepped.Went g t
         → (k m : ℕ) → m ≡ suc (k + n) → (h : FiberView P) → GoesAlone calls facts nodes k g t h → Goes calls facts nodes first shared m false h t
     goes_alone n b f g s t before made zero m e h same =
         let last : m ≡ suc n = omega arith in rw last (Goes.went before (went_then calls facts nodes f s g t h made same))
@@ -68,8 +69,10 @@ module _ {P S : Type 0} (calls : PortCalls P S) (facts : P → Facts) (nodes : L
     alone_is_going (suc k) g h t a on = goes_on a.0 t h t a.2.does
 
     -- and the whole burst
-    burst_goes : (n : ℕ) (b : Bool) (f g : FiberView P) (s t : S) → Goes calls facts nodes first shared n b f s → MakesStep calls facts nodes f s stepped.Went g t
-        → (most k m : ℕ) → m ≡ suc (k + n) → (h : FiberView P) (u : S) → Bursts calls facts nodes most k g t h u → Goes calls facts nodes first shared m false h u
+    burst_goes : (n : ℕ) (b : Bool) (f g : FiberView P) (s t : S) → Goes calls facts nodes first shared n b f s
+        → MakesStep calls facts nodes f s stepped.Went g t
+        → (most k m : ℕ) → m ≡ suc (k + n) → (h : FiberView P) (u : S)
+        → Bursts calls facts nodes most k g t h u → Goes calls facts nodes first shared m false h u
     burst_goes n b f g s t before made most k m e h u burst = elim burst.steps [
       | inl alone ↦ rw alone.1 (goes_alone n b f g s t before made k m e h alone.0)
       | inr last ↦

@@ -10,7 +10,8 @@ use crate::port::Port;
 use fx_term::{Code, Event, Memory};
 
 /// Makes silent rules and those of brackets, at most so many steps, and answers how many it made; where it
-/// saw a request, that is the last of them. The room for the event of each step is had before it.
+/// saw a request, that is the last of them. The room for the event of a step is had before it.
+#[inline(never)]
 pub(crate) fn burst<P: Port>(
     port: &mut P,
     body: &mut Body,
@@ -34,13 +35,19 @@ pub(crate) fn burst<P: Port>(
     ensures number { (P.facts port.new).number ≡ (P.facts port.old).number }
     ensures beginning { (P.facts port.new).beginning ≡ (P.facts port.old).beginning }
 {
+    if most == 0 {
+        return Ok(0);
+    }
+    body.trace.reserve(1)?;
     let mut looked = Looked::NotYet;
     for made in 0..most {
-        body.trace.reserve(1)?;
         match glide(port, &mut body.machine, code, shared, looked)? {
             Glided::Went(serves) => looked = serves,
             Glided::Showed(event, serves) => {
                 body.trace.push_reserved(event);
+                if made + 1 < most {
+                    body.trace.reserve(1)?;
+                }
                 looked = serves;
             }
             Glided::Stops => return Ok(made),

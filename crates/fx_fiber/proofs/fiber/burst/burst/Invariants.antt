@@ -1,4 +1,5 @@
-use Rattle.std.proofs.Common.{◌≡◌}
+use Rattle.std.proofs.Common.{◌≡◌, ◌<◌}
+use Rattle.std.specs.Vec.{vec_len, vec_capacity}
 use Rattle.fx_fiber.specs.Bursts.{HasLooked, GlidesTo}
 use Rattle.fx_fiber.proofs.fiber.burst.burst.Given as goal
 
@@ -10,6 +11,7 @@ invariant-loop-made g l = record {
   looked : HasLooked g.P.Port.calls l.looked l.body.machine.known l.port l.shared;
   port : l.port ≡ l.fn.port;
   shared : l.shared ≡ l.fn.shared;
+  room : l.made < l.fn.most → vec_len l.body.trace < vec_capacity l.body.trace;
   id : l.body.id ≡ l.fn.body.id;
   source : l.body.source ≡ l.fn.body.source;
 }
