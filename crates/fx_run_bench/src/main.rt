@@ -8,11 +8,11 @@ use fx_run::{RunFault, run};
 use fx_sched::Free;
 use fx_text::{Script, parse};
 use std::alloc::{AllocGlobal, Global};
+use std::env;
 use std::process::ExitCode;
 use std::random::RandomSource;
 use std::sync::Wait;
 use std::thread::Threads;
-use std::env;
 
 /// What the words after the program's name ask for.
 #[derive(Drop)]

@@ -29,7 +29,10 @@ fn a_run_that_waits_for_a_gate_takes_no_processor_time(rt: HostRuntime) -> Resul
     let (began, used) = (rt.monotonic()?, rt.process_cpu_time()?);
     let written = run_text(&rt, "(main (pure 1))", 16, &gate)?;
     let (ended, used_then) = (rt.monotonic()?, rt.process_cpu_time()?);
-    assert_eq!(rt; written.text.as_slice(), b"fiber 0 succeeded 1\n".as_slice());
+    assert_eq!(rt;
+        written.text.as_slice(),
+        b"fiber 0 succeeded 1\n".as_slice()
+    );
     let took = ended.saturating_sub(began).as_millis();
     let processor = used_then.saturating_sub(used).as_millis();
     assert!(rt; took >= 400);

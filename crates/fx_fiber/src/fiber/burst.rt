@@ -11,7 +11,6 @@ use fx_term::{Code, Event, Memory};
 
 /// Makes silent rules and those of brackets, at most so many steps, and answers how many it made; where it
 /// saw a request, that is the last of them. The room for the event of a step is had before it.
-#[inline(never)]
 pub(crate) fn burst<P: Port>(
     port: &mut P,
     body: &mut Body,

@@ -159,6 +159,7 @@ impl Machine {
     }
 
     /// Makes the rule of the place, where it shows what becomes of a resource, and answers that event.
+    #[inline(always)]
     pub fn bracket_rule(&mut self, code: &Code) -> Result<Option<Event>, Memory>
         ghost nodes: { List Node }
         requires code { code.now.nodes ≡ nodes }
