@@ -8,6 +8,7 @@ use std::thread;
 use std::time::{Clock, CpuClock, Duration};
 
 /// Sleeps before the first turn, while all other workers have nothing to do.
+#[derive(Drop)]
 struct Asleep<'a, R: Clock + Sync> {
     clock: &'a R,
 }
