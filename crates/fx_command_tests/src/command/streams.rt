@@ -1,11 +1,20 @@
-//! A standard output that fails.
+//! A standard output that is interrupted, and that fails or takes nothing once it is full.
 use super::*;
 
-/// Takes so many bytes, one at a time, and then answers an error.
+/// What a full output does with the next byte.
+#[derive(Clone, Copy)]
+enum WhenFull {
+    Fails,
+    TakesNothing,
+}
+
+/// Takes so many bytes, one at a time and each after an interruption, and is full then.
 #[derive(Drop)]
 struct Full {
     taken: Vec<u8>,
     room: usize,
+    when_full: WhenFull,
+    was_interrupted: bool,
 }
 
 impl Write for Full {
@@ -14,7 +23,14 @@ impl Write for Full {
             return Ok(0);
         };
         if self.taken.len() >= self.room {
-            return Err(io::Error::from(io::ErrorKind::Other));
+            return match self.when_full {
+                WhenFull::Fails => Err(io::Error::from(io::ErrorKind::Other)),
+                WhenFull::TakesNothing => Ok(0),
+            };
+        }
+        self.was_interrupted = !self.was_interrupted;
+        if self.was_interrupted {
+            return Err(io::Error::from(io::ErrorKind::Interrupted));
         }
         self.taken.push(*first)?;
         Ok(1)
@@ -40,7 +56,12 @@ static PRINTED: [Row; 3] = [
 ];
 
 /// Sees that an output with so much room has a prefix of the text, and that this is told.
-fn assert_prefix(rt: &impl Machine, row: &Row, room: usize) -> Result<(), Fail> {
+fn assert_prefix(
+    rt: &impl Machine,
+    row: &Row,
+    room: usize,
+    when_full: WhenFull,
+) -> Result<(), Fail> {
     let alloc = rt.alloc();
     let (line, script, printed, ended) = *row;
     let words = words_of(alloc, line)?;
@@ -48,6 +69,8 @@ fn assert_prefix(rt: &impl Machine, row: &Row, room: usize) -> Result<(), Fail> 
     let mut out = Full {
         taken: Vec::new(alloc),
         room,
+        when_full,
+        was_interrupted: false,
     };
     let mut err = Vec::new(alloc);
     let status = command(
@@ -72,10 +95,11 @@ fn assert_prefix(rt: &impl Machine, row: &Row, room: usize) -> Result<(), Fail> 
 }
 
 #[test]
-fn output_that_fails_has_a_prefix_of_the_text(rt: HostRuntime) -> Result<(), Fail> {
+fn output_that_is_full_has_a_prefix_of_the_text(rt: HostRuntime) -> Result<(), Fail> {
     for row in &PRINTED {
         for room in 0..=row.2.len() {
-            assert_prefix(&rt, row, room)?;
+            assert_prefix(&rt, row, room, WhenFull::Fails)?;
+            assert_prefix(&rt, row, room, WhenFull::TakesNothing)?;
         }
     }
     Ok(())
