@@ -1,4 +1,4 @@
-//! A standard output that is interrupted, and that fails or takes nothing once it is full.
+//! A standard output that fails or takes nothing once it is full.
 use super::*;
 
 /// What a full output does with the next byte.
@@ -8,13 +8,12 @@ enum WhenFull {
     TakesNothing,
 }
 
-/// Takes so many bytes, one at a time and each after an interruption, and is full then.
+/// Takes so many bytes, one at a time, and is full then.
 #[derive(Drop)]
 struct Full {
     taken: Vec<u8>,
     room: usize,
     when_full: WhenFull,
-    was_interrupted: bool,
 }
 
 impl Write for Full {
@@ -27,10 +26,6 @@ impl Write for Full {
                 WhenFull::Fails => Err(io::Error::from(io::ErrorKind::Other)),
                 WhenFull::TakesNothing => Ok(0),
             };
-        }
-        self.was_interrupted = !self.was_interrupted;
-        if self.was_interrupted {
-            return Err(io::Error::from(io::ErrorKind::Interrupted));
         }
         self.taken.push(*first)?;
         Ok(1)
@@ -70,7 +65,6 @@ fn assert_prefix(
         taken: Vec::new(alloc),
         room,
         when_full,
-        was_interrupted: false,
     };
     let mut err = Vec::new(alloc);
     let status = command(
