@@ -1,13 +1,15 @@
-//! The rules of `bracket`, one method each, named as in the table.
-ghost use Rattle.std.specs.Prelude.{◌≡◌, ◌^◌, ◌<◌};
+//! The rules of `bracket`, one method each, named as in the table; and the table of those that show what
+//! becomes of the resource, which a burst makes too.
+ghost use Rattle.std.specs.Prelude.{◌≡◌, ◌^◌, ◌<◌, false, Some, slice_get, is_some};
 ghost use Rattle.fx_model.specs.Row.{after_release};
-ghost use Rattle.fx_fiber.specs.Places.{IsSame, ReturnsInto, IsBracketAt};
-ghost use Rattle.fx_fiber.specs.Makes.{MakesSilently, MakesShown};
+ghost use Rattle.fx_fiber.specs.Leaves.{is_of_bracket};
+ghost use Rattle.fx_fiber.specs.Places.{IsSame, IsInside, IsReturning, ReturnsInto, IsBracketAt, must_cancel_machine};
+ghost use Rattle.fx_fiber.specs.Makes.{MakesSilently, MakesShown, MakesIfShown};
 
 use crate::machine::Machine;
 use crate::machine::focus::Focus;
 use fx_frames::Frame;
-use fx_term::{Done, Event, Memory, NodeId};
+use fx_term::{Code, Done, Event, Memory, Node, NodeId};
 
 /// The result of a bracket whose release ended so: an error of the release is raised where the use
 /// succeeded, and is dropped where the use erred.
@@ -83,5 +85,56 @@ impl Machine {
         self.masks.leave();
         self.focus = Focus::Return(after_release(done, use_result));
         Event::End(resource)
+    }
+
+    /// Makes the rule of the place, where it shows what becomes of a resource, and answers that event.
+    #[inline(always)]
+    pub fn bracket_rule(&mut self, code: &Code) -> Result<Option<Event>, Memory>
+        ghost nodes: { List Node }
+        requires code { code.now.nodes ≡ nodes }
+        requires inside { IsInside nodes self.old false }
+        requires free { must_cancel_machine nodes self.old ≡ false }
+        requires countable { self.old.acquired < 2 ^ 63 }
+        ensures ok { IfOk result (λ shown. MakesIfShown nodes self.old shown self.new) }
+        ensures err { OnErr result (IsSame nodes self.old self.new) }
+    {
+        match self.focus {
+            Focus::Return(done) => self.bracket_result(code, done),
+            _ => Ok(None),
+        }
+    }
+
+    /// The row of a result in a bracket, where it shows something, and what it shows.
+    pub fn bracket_result(&mut self, code: &Code, done: Done) -> Result<Option<Event>, Memory>
+        ghost nodes: { List Node }
+        requires code { code.now.nodes ≡ nodes }
+        requires given { IsReturning nodes self.old done }
+        requires countable { self.old.acquired < 2 ^ 63 }
+        ensures shown { IfOk result (λ shown. is_some shown ≡ is_of_bracket self.old.frames done) }
+        ensures ok { IfOk result (λ shown. MakesIfShown nodes self.old shown self.new) }
+        ensures err { OnErr result (IsSame nodes self.old self.new) }
+    {
+        let event = match (self.frames.last(), done) {
+            (Some(&Frame::Acquire(id)), Done::Val(n)) => self.acquire_rule(id, code.node(id), n)?,
+            (Some(&Frame::Using(k, release)), done) => self.used(k, release, done)?,
+            (Some(&Frame::Releasing(k, result)), done) => self.released(k, result, done),
+            _ => return Ok(None),
+        };
+        Ok(Some(event))
+    }
+
+    /// The row of a value in the acquire part of a bracket.
+    fn acquire_rule(&mut self, id: NodeId, node: &Node, n: u64) -> Result<Event, Memory>
+        ghost nodes: { List Node }
+        requires inside { ReturnsInto nodes self.old (Frame.Acquire id) (Done.Val n) }
+        requires node { slice_get nodes id.0 ≡ Some node.now }
+        requires countable { self.old.acquired < 2 ^ 63 }
+        ensures ok { IfOk result (λ event. MakesShown nodes self.old event self.new) }
+        ensures err { OnErr result (IsSame nodes self.old self.new) }
+    {
+        let Node::Bracket(name, _, use_part, release) = *node else {
+            unreachable!();
+        };
+        self.acquired(name, use_part, release, n)
     }
 }

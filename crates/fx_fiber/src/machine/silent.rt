@@ -1,21 +1,19 @@
-//! The table of the rules that a burst makes: they ask the port nothing and do not yield. Most show nothing;
-//! those of a bracket show where its resource is acquired and its release begins and ends. The silent ones and
-//! what they call are laid into its loop by hints on inlining: a step makes them too, so LLVM alone would call
-//! each of them.
-ghost use Rattle.std.specs.Prelude.{◌≡◌, ◌^◌, ◌<◌, false, Some, slice_get, is_some, IfOk, OnOk, OnErr};
+//! The table of the rules that show nothing, ask the port nothing and do not yield. Beside those of a bracket
+//! a burst makes these alone. They and what they call are laid into its loop by hints on inlining: a step
+//! makes them too, so LLVM alone would call each of them.
+ghost use Rattle.std.specs.Prelude.{◌≡◌, ◌^◌, ◌<◌, false, IfOk, OnOk, OnErr};
 ghost use Rattle.std.specs.Bool.{OnTrue};
 ghost use Rattle.fx_term.specs.declared.node.Node.TheVariants as node;
-ghost use Rattle.fx_fiber.specs.Leaves.{is_silent_node, is_silent_inside, is_of_bracket};
+ghost use Rattle.fx_fiber.specs.Leaves.{is_silent_node, is_silent_inside};
 ghost use Rattle.fx_fiber.specs.Sound.{IsSoundMachine};
-ghost use Rattle.fx_fiber.specs.Places.{IsSame, IsInside, StandsAt, IsBeforeTurn, IsReturning, ReturnsInto};
-ghost use Rattle.fx_fiber.specs.Places.{must_cancel_machine};
-ghost use Rattle.fx_fiber.specs.Makes.{MakesSilently, MakesIfSilent, MakesIfShown, MakesShown};
+ghost use Rattle.fx_fiber.specs.Places.{IsSame, IsInside, StandsAt, IsBeforeTurn, IsReturning, must_cancel_machine};
+ghost use Rattle.fx_fiber.specs.Makes.{MakesSilently, MakesIfSilent};
 
 use crate::machine::Machine;
 use crate::machine::entry::is_canceled;
 use crate::machine::focus::Focus;
 use fx_frames::Frame;
-use fx_term::{Arg, Code, Done, Event, Memory, Node, NodeId};
+use fx_term::{Arg, Code, Done, Memory, Node, NodeId};
 
 impl Machine {
     ghost use Rattle.std.specs.Prelude.{List};
@@ -156,56 +154,5 @@ impl Machine {
             }
         }
         Ok(true)
-    }
-
-    /// Makes the rule of the place, where it shows what becomes of a resource, and answers that event.
-    #[inline(always)]
-    pub fn bracket_rule(&mut self, code: &Code) -> Result<Option<Event>, Memory>
-        ghost nodes: { List Node }
-        requires code { code.now.nodes ≡ nodes }
-        requires inside { IsInside nodes self.old false }
-        requires free { must_cancel_machine nodes self.old ≡ false }
-        requires countable { self.old.acquired < 2 ^ 63 }
-        ensures ok { IfOk result (λ shown. MakesIfShown nodes self.old shown self.new) }
-        ensures err { OnErr result (IsSame nodes self.old self.new) }
-    {
-        match self.focus {
-            Focus::Return(done) => self.bracket_result(code, done),
-            _ => Ok(None),
-        }
-    }
-
-    /// The row of a result in a bracket, where it shows something, and what it shows.
-    pub fn bracket_result(&mut self, code: &Code, done: Done) -> Result<Option<Event>, Memory>
-        ghost nodes: { List Node }
-        requires code { code.now.nodes ≡ nodes }
-        requires given { IsReturning nodes self.old done }
-        requires countable { self.old.acquired < 2 ^ 63 }
-        ensures shown { IfOk result (λ shown. is_some shown ≡ is_of_bracket self.old.frames done) }
-        ensures ok { IfOk result (λ shown. MakesIfShown nodes self.old shown self.new) }
-        ensures err { OnErr result (IsSame nodes self.old self.new) }
-    {
-        let event = match (self.frames.last(), done) {
-            (Some(&Frame::Acquire(id)), Done::Val(n)) => self.acquire_rule(id, code.node(id), n)?,
-            (Some(&Frame::Using(k, release)), done) => self.used(k, release, done)?,
-            (Some(&Frame::Releasing(k, result)), done) => self.released(k, result, done),
-            _ => return Ok(None),
-        };
-        Ok(Some(event))
-    }
-
-    /// The row of a value in the acquire part of a bracket.
-    fn acquire_rule(&mut self, id: NodeId, node: &Node, n: u64) -> Result<Event, Memory>
-        ghost nodes: { List Node }
-        requires inside { ReturnsInto nodes self.old (Frame.Acquire id) (Done.Val n) }
-        requires node { slice_get nodes id.0 ≡ Some node.now }
-        requires countable { self.old.acquired < 2 ^ 63 }
-        ensures ok { IfOk result (λ event. MakesShown nodes self.old event self.new) }
-        ensures err { OnErr result (IsSame nodes self.old self.new) }
-    {
-        let Node::Bracket(name, _, use_part, release) = *node else {
-            unreachable!();
-        };
-        self.acquired(name, use_part, release, n)
     }
 }
