@@ -1,5 +1,5 @@
 -- Steps of a burst one after the other, and what each of them keeps.
-use Rattle.std.proofs.Common.{◌≡◌, ◌∙◌, ℕ, zero, suc, ◌+◌, ◌<◌, ◌≤◌, Bool, true, false}
+use Rattle.std.proofs.Common.{◌≡◌, ◌∙◌, ℕ, zero, suc, ◌+◌, ◌<◌, ◌≤◌, Bool, true, false, ◌&&◌, ◌||◌}
 use Rattle.std.proofs.Common.{Option, Some, None, List, [], ◌∷◌, ◌++◌, refl, sym, ap, subst, append-nil}
 use Rattle.std.proofs.Common.{inl, inr, arith}
 use Rattle.std.proofs.Math.Numerals.{add-one}
@@ -16,14 +16,14 @@ use Rattle.fx_fiber.specs.Calls.{PortCalls}
 use Rattle.fx_fiber.specs.PortFacts.{Facts}
 use Rattle.fx_fiber.specs.Deed.{Deed, Saw}
 use Rattle.fx_fiber.specs.Fiber.{FiberView, fiber_at, IsUnchanged, IsKept}
-use Rattle.fx_fiber.specs.Bursts.{IsAlone, GoesAlone, Bursts, BurstsShort, HasLooked, ComesAhead, GlidesOnce, GlidesTo}
+use Rattle.fx_fiber.specs.Bursts.{IsAlone, GoesAlone, Bursts, BurstsShort, HasLooked, ComesAhead, LooksNext, GlidesOnce, GlidesTo}
 use Rattle.fx_fiber.specs.MakesStep.{MakesStep, Answers, Calls}
 use Rattle.fx_fiber.specs.Telling.{TellsMade}
-use Rattle.fx_fiber.specs.Machine.{progress_of}
+use Rattle.fx_fiber.specs.Machine.{progress_of, counts_of}
 use Rattle.fx_fiber.specs.Made.{IsOfBracket}
 use Rattle.fx_fiber.specs.declared.stepped.Stepped.TheVariants.{Went}
 use Rattle.fx_fiber.specs.Places.{IsSame, IsInside, is_open_machine, must_cancel_machine}
-use Rattle.fx_fiber.specs.Interruption.{Interrupts, IsInterrupted}
+use Rattle.fx_fiber.specs.Interruption.{Interrupts, IsInterrupted, ComesFirst}
 use Rattle.fx_fiber.specs.Makes.{MakesIfSilent, MakesShown, MakesIfShown}
 use Rattle.fx_fiber.specs.Advances.{Advances, Asks}
 use Rattle.fx_fiber.specs.declared.machine.made.Made.{Made}
@@ -87,6 +87,13 @@ module _ {P S : Type 0} (calls : PortCalls P S) (facts : P → Facts) (nodes : L
   unfolding went_then
   alone_then zero a sh b c h k = unchanged_then a b c h k
   alone_then (suc n) a sh b c h k = (h.0, h.1, record { does = went_then h.0 sh b sh c h.2.does k; alone = h.2.alone })
+
+  -- a look that serves after such a step
+  pub still_looked : (looked : Looked) (p : P) (sh : S) (m m' : Machine) (l : Label)
+      → Step (counts_of m) (progress_of nodes m) l (counts_of m') (progress_of nodes m') → IsAlone l
+      → HasLooked calls looked m.known p sh → HasLooked calls looked m'.known p sh
+  still_looked InVain p sh m m' l made alone h = (step_knows made alone ∙ h.0, h.1)
+  still_looked NotYet p sh m m' l made alone h = tt
 
   module _ (total : ℕ) (agrees : P → List Deed → Type 0) (trace : List Event) (source : Option Source) where
     -- a rule of a bracket asks the port nothing
@@ -170,58 +177,28 @@ module _ {P S : Type 0} (calls : PortCalls P S) (facts : P → Facts) (nodes : L
           (tells_of_bracket e p sh p' sh' of (asks_nothing e p sh m p' sh' of a.asks)) told;
     }
 
-    -- a look that serves after such a step
-    pub still_looked : (looked : Looked) (p : P) (sh : S) (m m' : Machine) (p' : P) (sh' : S)
-        → Advances calls agrees facts nodes m p sh made.Silent m' p' sh' → HasLooked calls looked m.known p sh → HasLooked calls looked m'.known p' sh'
-    still_looked InVain p sh m m' p' sh' a h = (step_knows a.rule.1 tt ∙ h.0, rw (a.asks.1.0, a.asks.1.1) h.1)
-    still_looked NotYet p sh m m' p' sh' a h = tt
-
-    pub still_looked_at : (looked : Looked) (p : P) (sh : S) (m m' : Machine) (p' : P) (sh' : S) (e : Event) → IsOfBracket e
-        → Advances calls agrees facts nodes m p sh (made.Shows e) m' p' sh' → HasLooked calls looked m.known p sh → HasLooked calls looked m'.known p' sh'
-    still_looked_at InVain p sh m m' p' sh' e of a h =
-        let same = asks_nothing e p sh m p' sh' of a.asks in (step_knows a.rule of ∙ h.0, rw (same.0, same.1) h.1)
-    still_looked_at NotYet p sh m m' p' sh' e of a h = tt
+    -- the fiber stands as it stood
+    pub no_further : (n : ℕ) (s : Machine) (p : P) (sh : S) (m m' : Machine) (t t' : List Event) → To n s p sh m t → IsSame nodes m m' → t' ≡ t
+        → To n s p sh m' t'
+    no_further n s p sh m m' t t' to same told = record {
+      rules = alone_then n (fiber_at p trace s source) sh (fiber_at p t m source) (fiber_at p t' m' source) to.rules
+          (same_is_unchanged nodes p p t t' m m' source source same refl told);
+      kept = same_is_kept nodes total facts agrees p p t t' m m' to.kept same refl told;
+    }
 
     -- the burst stops here
-    pub stops : (n most : ℕ) (s : Machine) (p : P) (sh : S) (m m' : Machine) (p' : P) (sh' : S) (t t' : List Event) (source' : Option Source)
-        → n ≤ most → To n s p sh m t → IsSame nodes m m' → p' ≡ p → sh' ≡ sh → t' ≡ t
-        → Bursts calls facts nodes most n (fiber_at p trace s source) sh (fiber_at p' t' m' source') sh'
-    stops n most s p sh m m' p' sh' t t' source' few to same port shared told = record {
-      few = few;
-      steps = inl (
-        alone_then n (fiber_at p trace s source) sh (fiber_at p t m source) (fiber_at p' t' m' source') to.rules
-            (same_is_unchanged nodes p p' t t' m m' source source' same port told),
-        shared,
-      );
-    }
+    pub stops : (n most : ℕ) (s : Machine) (p : P) (sh : S) (m : Machine) (p' : P) (sh' : S) (t : List Event) (source' : Option Source)
+        → n ≤ most → To n s p sh m t → p' ≡ p → sh' ≡ sh → source' ≡ source
+        → Bursts calls facts nodes most n (fiber_at p trace s source) sh (fiber_at p' t m source') sh'
+    stops n most s p sh m p' sh' t source' few to port shared registered =
+        rw (port, registered) (record { few = few; steps = inl (to.rules, shared) })
 
     -- memory is refused here
-    pub stops_short : (n most : ℕ) (s : Machine) (p : P) (sh : S) (m m' : Machine) (p' : P) (sh' : S) (t t' : List Event) (source' : Option Source)
-        → n < most → To n s p sh m t → IsSame nodes m m' → p' ≡ p → sh' ≡ sh → t' ≡ t
-        → BurstsShort calls facts nodes most (fiber_at p trace s source) sh (fiber_at p' t' m' source') sh'
-    stops_short n most s p sh m m' p' sh' t t' source' few to same port shared told = record {
-      n = n;
-      few = few;
-      goes = alone_then n (fiber_at p trace s source) sh (fiber_at p t m source) (fiber_at p' t' m' source') to.rules
-          (same_is_unchanged nodes p p' t t' m m' source source' same port told);
-      shared_is = shared;
-    }
-
-    -- a rule of a bracket was made, and memory is refused before the next one
-    pub shows_short : (n most : ℕ) (s : Machine) (p : P) (sh : S) (m m' : Machine) (p' : P) (sh' : S) (t t' t'' : List Event) (source' : Option Source)
-        (e : Event) → n + 1 < most → To n s p sh m t → Advances calls agrees facts nodes m p sh (made.Shows e) m' p' sh' → IsOfBracket e → t' ≡ t ++ e ∷ []
-        → t'' ≡ t' → BurstsShort calls facts nodes most (fiber_at p trace s source) sh (fiber_at p' t'' m' source') sh'
-    shows_short n most s p sh m m' p' sh' t t' t'' source' e few to a of told same =
-        let asked = asks_nothing e p sh m p' sh' of a.asks in
-        stops_short (suc n) most s p sh m' m' p' sh' t' t'' source' (omega arith) (one_more_shown n s p sh m m' p' sh' t t' e to a of told)
-        (same_here nodes m' a.sound) asked.0 asked.1 same
-
-    pub shown_is_kept : (n : ℕ) (s : Machine) (p : P) (sh : S) (m m' : Machine) (p' : P) (sh' : S) (t t' t'' : List Event) (e : Event) → To n s p sh m t
-        → Advances calls agrees facts nodes m p sh (made.Shows e) m' p' sh' → IsOfBracket e → t' ≡ t ++ e ∷ [] → t'' ≡ t'
-        → IsKept nodes total (facts p') (agrees p') t'' m'
-    shown_is_kept n s p sh m m' p' sh' t t' t'' e to a of told same =
-        same_is_kept nodes total facts agrees p p' t' t'' m' m' (one_more_shown n s p sh m m' p' sh' t t' e to a of told).kept
-        (same_here nodes m' a.sound) (asks_nothing e p sh m p' sh' of a.asks).0 same
+    pub stops_short : (n most : ℕ) (s : Machine) (p : P) (sh : S) (m : Machine) (p' : P) (sh' : S) (t : List Event) (source' : Option Source)
+        → n < most → To n s p sh m t → p' ≡ p → sh' ≡ sh → source' ≡ source
+        → BurstsShort calls facts nodes most (fiber_at p trace s source) sh (fiber_at p' t m source') sh'
+    stops_short n most s p sh m p' sh' t source' few to port shared registered =
+        rw (port, registered) (record { n = n; few = few; goes = to.rules; shared_is = shared })
 
     -- a request is seen here
     pub sees : (n most : ℕ) (s : Machine) (p : P) (sh : S) (m m' : Machine) (p' : P) (sh' : S) (t t' : List Event) (source' : Option Source)
@@ -255,44 +232,48 @@ module _ {P S : Type 0} (calls : PortCalls P S) (facts : P → Facts) (nodes : L
 
 -- one turn of a burst, once its contexts are entered, at a place other than `canceled`
 module _ {P S : Type 0} (calls : PortCalls P S) (agrees : P → List Deed → Type 0) (facts : P → Facts) (nodes : List Node) (old s : Machine)
-    (p p' : P) (sh sh' : S) (same : IsSame nodes old s) (inside : IsInside nodes s false) where
+    (p : P) (sh : S) (same : IsSame nodes old s) (inside : IsInside nodes s false) where
   -- cancellation is not the one rule there
-  pub ahead_is_free : (looked : Looked) → ComesAhead calls (is_open_machine s) s.known (ahead.Rule looked) p sh p' sh' → must_cancel_machine nodes s ≡ false
-  ahead_is_free looked first = is_free calls agrees facts nodes old s false p p' sh sh' same inside first.0
-
-  pub ahead_interrupts : ComesAhead calls (is_open_machine s) s.known ahead.Request p sh p' sh' → IsInterrupted nodes s Request
-  ahead_interrupts first = is_interrupted calls agrees facts nodes old s false p p' sh sh' same inside Request first
+  pub ahead_is_free : ComesAhead calls (is_open_machine s) s.known ahead.Rule p sh → must_cancel_machine nodes s ≡ false
+  ahead_is_free first = is_free calls agrees facts nodes old s false p p sh sh same inside first
 
   -- a row was made
-  pub glides : (looked : Looked) (s' : Machine) → ComesAhead calls (is_open_machine s) s.known (ahead.Rule looked) p sh p' sh'
-      → MakesIfSilent nodes s true s' → GlidesOnce calls agrees facts nodes old p sh (glided.Went looked) s' p' sh'
-  glides looked s' first is_made = (
-    rule_advances calls agrees facts nodes old s false p p' sh sh' same inside made.Silent s' p' sh' first.0
-        (local_call calls agrees facts nodes s p' p' sh' sh' made.Silent s' refl refl is_made),
-    rw (ap (λ (k : Counts). k.known) (sym same.counts)) first.1,
-  )
+  pub glides : (s' : Machine) → ComesAhead calls (is_open_machine s) s.known ahead.Rule p sh
+      → MakesIfSilent nodes s true s' → GlidesOnce calls agrees facts nodes old p sh glided.Went s'
+  glides s' first is_made =
+      rule_advances calls agrees facts nodes old s false p p sh sh same inside made.Silent s' p sh first
+          (local_call calls agrees facts nodes s p p sh sh made.Silent s' refl refl is_made)
 
   -- or one of a bracket, where no silent one was
-  pub glides_shown : (looked : Looked) (between s' : Machine) (e : Event) → ComesAhead calls (is_open_machine s) s.known (ahead.Rule looked) p sh p' sh'
+  pub glides_shown : (between s' : Machine) (e : Event) → ComesAhead calls (is_open_machine s) s.known ahead.Rule p sh
       → MakesIfSilent nodes s false between → MakesIfShown nodes between (Some e) s'
-      → GlidesOnce calls agrees facts nodes old p sh (glided.Showed e looked) s' p' sh'
-  glides_shown looked between s' e first none_is_made shown =
+      → GlidesOnce calls agrees facts nodes old p sh (glided.Showed e) s'
+  glides_shown between s' e first none_is_made shown =
       let is_shown : MakesShown nodes s e s' = rw none_is_made at shown in (
-        rule_advances calls agrees facts nodes old s false p p' sh sh' same inside (made.Shows e) s' p' sh' first.0
-            (local_call calls agrees facts nodes s p' p' sh' sh' (made.Shows e) s' refl refl is_shown.0),
+        rule_advances calls agrees facts nodes old s false p p sh sh same inside (made.Shows e) s' p sh first
+            (local_call calls agrees facts nodes s p p sh sh (made.Shows e) s' refl refl is_shown.0),
         is_shown.1,
-        rw (ap (λ (k : Counts). k.known) (sym same.counts)) first.1,
       )
 
   -- or none
-  pub glides_no_further : (looked : Looked) (between s' : Machine) → ComesAhead calls (is_open_machine s) s.known (ahead.Rule looked) p sh p' sh'
-      → MakesIfSilent nodes s false between → MakesIfShown nodes between None s'
-      → GlidesOnce calls agrees facts nodes old p sh glided.Stops s' p' sh'
-  glides_no_further looked between s' first none_is_made none_is_shown = (rw (none_is_shown, none_is_made) same, first.0.2, first.0.3)
+  pub glides_no_further : (between s' : Machine) → ComesAhead calls (is_open_machine s) s.known ahead.Rule p sh
+      → MakesIfSilent nodes s false between → MakesIfShown nodes between None s' → GlidesOnce calls agrees facts nodes old p sh glided.Stops s'
+  glides_no_further between s' first none_is_made none_is_shown = rw (none_is_shown, none_is_made) same
 
-  pub sees_request : (m : Made) (s' : Machine) → ComesAhead calls (is_open_machine s) s.known ahead.Request p sh p' sh'
-      → ((deeds : List Deed) → agrees p deeds → agrees p' (deeds ++ Saw ∷ [])) → facts p' ≡ facts p → Interrupts nodes s Request m s'
-      → GlidesOnce calls agrees facts nodes old p sh glided.Saw s' p' sh'
-  sees_request m s' first saw framed h =
-      subst (λ (k : Made). Advances calls agrees facts nodes old p sh k s' p' sh') h.shows
-      (interrupted_advances calls agrees facts nodes old s false p p' sh sh' same inside Request m s' first (λ e. saw) framed h)
+-- the look that comes next found a request, which was seen
+module _ {P S : Type 0} (calls : PortCalls P S) (agrees : P → List Deed → Type 0) (facts : P → Facts) (nodes : List Node) (s : Machine)
+    (p p' : P) (sh sh' : S) (next : LooksNext nodes s)
+    (first : ComesFirst calls (is_open_machine s) (is_open_machine s && (s.known || false)) (Some Request) p sh p' sh') where
+  pub look_interrupts : IsInterrupted nodes s Request
+  look_interrupts = is_interrupted calls agrees facts nodes s s false p p' sh sh' (same_here nodes s next.inside.sound) next.inside Request first
+
+  pub look_advances : (m : Made) (s' : Machine) → ((deeds : List Deed) → agrees p deeds → agrees p' (deeds ++ Saw ∷ [])) → facts p' ≡ facts p
+      → Interrupts nodes s Request m s' → Advances calls agrees facts nodes s p sh (made.Shows event.Seen) s' p' sh'
+  look_advances m s' saw framed h =
+      subst (λ (k : Made). Advances calls agrees facts nodes s p sh k s' p' sh') h.shows
+      (interrupted_advances calls agrees facts nodes s s false p p' sh sh' (same_here nodes s next.inside.sound) next.inside Request m s' first (λ e. saw) framed h)
+
+-- it found none, and serves
+module _ {P S : Type 0} (calls : PortCalls P S) (nodes : List Node) (s : Machine) (p p' : P) (sh sh' : S) (next : LooksNext nodes s) where
+  pub has_looked : ComesFirst calls (is_open_machine s) (is_open_machine s && (s.known || false)) None p sh p' sh' → HasLooked calls InVain s.known p sh
+  has_looked first = (next.unknown, rw next.opened at first.1)

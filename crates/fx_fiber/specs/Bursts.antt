@@ -1,5 +1,6 @@
 -- Rules in one go: silent ones and those of brackets, and a request that is seen last.
-use Rattle.std.specs.Prelude.{◌≡◌, ℕ, zero, suc, ◌≤◌, ◌<◌, ◌⊎◌, Bool, false, ◌&&◌, ◌||◌, Option, Some, None, List}
+use Rattle.std.specs.Prelude.{◌≡◌, ℕ, zero, suc, ◌≤◌, ◌<◌, ◌⊎◌, Bool, true, false, ◌&&◌, ◌||◌, Option, None, List}
+use Rattle.std.specs.Vec.{vec_len, vec_capacity}
 use Rattle.fx_term.specs.declared.node.Node.{Node}
 use Rattle.fx_term.specs.declared.event.Event.{Event}
 use Rattle.fx_term.specs.declared.event.Event.TheVariants as event
@@ -10,12 +11,11 @@ use Rattle.fx_fiber.specs.PortFacts.{Facts}
 use Rattle.fx_fiber.specs.Deed.{Deed}
 use Rattle.fx_fiber.specs.Fiber.{FiberView, fiber_at, IsUnchanged, IsKept}
 use Rattle.fx_fiber.specs.MakesStep.{MakesStep}
-use Rattle.fx_fiber.specs.Places.{IsSame}
+use Rattle.fx_fiber.specs.Places.{IsSame, IsInside, is_open_machine}
 use Rattle.fx_fiber.specs.Interruption.{ComesFirst}
 use Rattle.fx_fiber.specs.Advances.{Advances}
 use Rattle.fx_fiber.specs.Made.{IsOfBracket}
 use Rattle.fx_fiber.specs.declared.stepped.Stepped.TheVariants.{Went}
-use Rattle.fx_fiber.specs.declared.machine.interruption.Interruption.TheVariants.{Request}
 use Rattle.fx_fiber.specs.declared.machine.made.Made.TheVariants as made
 use Rattle.fx_fiber.specs.declared.machine.Machine.{Machine}
 use Rattle.fx_fiber.specs.declared.fiber.ahead.Looked.{Looked}
@@ -24,6 +24,9 @@ use Rattle.fx_fiber.specs.declared.fiber.ahead.Ahead.{Ahead}
 use Rattle.fx_fiber.specs.declared.fiber.ahead.Ahead.TheVariants as ahead
 use Rattle.fx_fiber.specs.declared.fiber.glide.Glided.{Glided}
 use Rattle.fx_fiber.specs.declared.fiber.glide.Glided.TheVariants as glided
+use Rattle.fx_fiber.specs.declared.fiber.rules.Reached.{Reached}
+use Rattle.fx_fiber.specs.declared.fiber.rules.Reached.TheVariants as reached
+use Rattle.fx_fiber.specs.declared.fiber.body.Body.{Body}
 
 -- the label of a step that a burst makes: it shows nothing, or what becomes of the resource of a bracket
 abbrev pub IsAlone : Label → Type 0
@@ -73,24 +76,56 @@ module _ {P S : Type 0} (calls : PortCalls P S) where
   HasLooked InVain known p s = (known ≡ false) × calls.looks p s false p s
   HasLooked NotYet known p s = Unit {0}
 
-  -- what comes before the rule of a place other than `canceled`, which is open or not, of a fiber that is known to be canceled or not
-  abbrev pub ComesAhead : Bool → Bool → Ahead → P → S → P → S → Type 0
-  ComesAhead opened known (ahead.Rule looked) p s p' s' =
-      ComesFirst calls opened (opened && (known || false)) None p s p' s' × HasLooked looked known p s
-  ComesAhead opened known ahead.Cancellation p s p' s' = (p' ≡ p) × (s' ≡ s)
-  ComesAhead opened known ahead.Request p s p' s' = ComesFirst calls opened (opened && (known || false)) (Some Request) p s p' s'
+  -- what comes before the rule of a place other than `canceled`, which is open or not, of a fiber that is known to be canceled or not: nothing, after a
+  -- look in vain where the place is open, or a look, or cancellation
+  abbrev pub ComesAhead : Bool → Bool → Ahead → P → S → Type 0
+  ComesAhead opened known ahead.Rule p s = ComesFirst calls opened (opened && (known || false)) None p s p s
+  ComesAhead opened known ahead.Look p s = (opened ≡ true) × (known ≡ false)
+  ComesAhead opened known ahead.Cancellation p s = Unit {0}
 
-  -- what one turn of a burst does: a silent rule is made, or one that shows this of a bracket, or none, or a request is seen
-  abbrev pub GlidesOnce : (agrees : P → List Deed → Type 0) (facts : P → Facts) (nodes : List Node) → Machine → P → S → Glided → Machine → P → S → Type 0
-  GlidesOnce agrees facts nodes s p sh (glided.Went looked) s' p' sh' =
-      Advances calls agrees facts nodes s p sh made.Silent s' p' sh' × HasLooked looked s.known p sh
-  GlidesOnce agrees facts nodes s p sh (glided.Showed e looked) s' p' sh' =
-      Advances calls agrees facts nodes s p sh (made.Shows e) s' p' sh' × IsOfBracket e × HasLooked looked s.known p sh
-  GlidesOnce agrees facts nodes s p sh glided.Stops s' p' sh' = IsSame nodes s s' × (p' ≡ p) × (sh' ≡ sh)
-  GlidesOnce agrees facts nodes s p sh glided.Saw s' p' sh' = Advances calls agrees facts nodes s p sh (made.Shows event.Seen) s' p' sh'
+-- a look comes first there, of a fiber that stands inside all contexts at a place other than `canceled`
+pub record LooksNext (nodes : List Node) (s : Machine) : Type 0 where
+  pub inside : IsInside nodes s false
+  pub opened : is_open_machine s ≡ true
+  pub unknown : s.known ≡ false
+
+module _ {P S : Type 0} (calls : PortCalls P S) (agrees : P → List Deed → Type 0) (facts : P → Facts) (nodes : List Node) where
+  -- what one turn of a burst does: a silent rule is made, or one that shows this of a bracket, or none, since a look comes first or the burst ends
+  abbrev pub GlidesOnce : Machine → P → S → Glided → Machine → Type 0
+  GlidesOnce s p sh glided.Went s' = Advances calls agrees facts nodes s p sh made.Silent s' p sh
+  GlidesOnce s p sh (glided.Showed e) s' = Advances calls agrees facts nodes s p sh (made.Shows e) s' p sh × IsOfBracket e
+  GlidesOnce s p sh glided.Looks s' = IsSame nodes s s' × LooksNext nodes s'
+  GlidesOnce s p sh glided.Stops s' = IsSame nodes s s'
+
+-- where a fiber stood as its burst began, with its port and what is shared, which stay so until a request is seen
+pub record Outset (P S : Type 0) : Type 0 where
+  pub port : P
+  pub shared : S
+  pub machine : Machine
+  pub trace : List Event
+  pub source : Option Source
+
+abbrev pub outset_at : {P S : Type 0} → P → S → Body → Outset P S
+outset_at p s body = record { port = p; shared = s; machine = body.machine; trace = body.trace.items; source = body.source }
 
 -- so many steps lead to a machine that the fiber's type allows, and to this trace
 pub record GlidesTo {P S : Type 0} (calls : PortCalls P S) (facts : P → Facts) (nodes : List Node) (total : ℕ) (agrees : P → List Deed → Type 0)
     (trace : List Event) (source : Option Source) (n : ℕ) (s : Machine) (p : P) (sh : S) (s' : Machine) (trace' : List Event) : Type 0 where
   pub rules : GoesAlone calls facts nodes n (fiber_at p trace s source) sh (fiber_at p trace' s' source)
   pub kept : IsKept nodes total (facts p) (agrees p) trace' s'
+
+module _ {P S : Type 0} (calls : PortCalls P S) (facts : P → Facts) (nodes : List Node) (total : ℕ) (agrees : P → List Deed → Type 0)
+    (outset : Outset P S) where
+  -- so many steps lead from there to here
+  abbrev pub LeadsTo : ℕ → Machine → List Event → Type 0
+  LeadsTo n s trace = GlidesTo calls facts nodes total agrees outset.trace outset.source n outset.machine outset.port outset.shared s trace
+
+  -- so many steps were made, of at most so many, with room for an event where a look comes next
+  abbrev pub Reaches : ℕ → Reached → Body → Type 0
+  Reaches most (reached.Looks n) body =
+      (n < most) × LeadsTo n body.machine body.trace.items × LooksNext nodes body.machine × (vec_len body.trace < vec_capacity body.trace)
+  Reaches most (reached.Stops n) body = (n ≤ most) × LeadsTo n body.machine body.trace.items
+
+  -- memory was refused after fewer than so many
+  abbrev pub ReachesShort : ℕ → Body → Type 0
+  ReachesShort most body = (n : ℕ) × (n < most) × LeadsTo n body.machine body.trace.items

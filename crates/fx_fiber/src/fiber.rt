@@ -17,6 +17,7 @@ pub(crate) mod body;
 mod burst;
 mod child;
 pub(crate) mod glide;
+pub(crate) mod rules;
 mod start;
 mod step;
 mod tell;

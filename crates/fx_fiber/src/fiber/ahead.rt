@@ -1,12 +1,8 @@
 //! What comes before a rule of a burst.
-ghost use Rattle.std.specs.Prelude.{◌≡◌, ◌++◌, ◌∷◌, [], List};
 ghost use Rattle.fx_fiber.specs.Places.{is_open_machine};
-ghost use Rattle.fx_fiber.specs.Deed.{Deed, Saw};
-ghost use Rattle.fx_fiber.specs.Bursts.{HasLooked, ComesAhead};
+ghost use Rattle.fx_fiber.specs.Bursts.{Outset, HasLooked, ComesAhead};
 
-use crate::fiber::advance::interruption;
 use crate::machine::Machine;
-use crate::machine::interruption::Interruption;
 use crate::port::Port;
 
 /// Whether a look serves for the rules to come.
@@ -21,35 +17,27 @@ pub(crate) enum Looked {
 /// What comes before the rule of a place.
 #[derive(Clone, Copy)]
 pub(crate) enum Ahead {
-    /// Nothing does, and whether a look serves for the rules after this one.
-    Rule(Looked),
+    /// Nothing does.
+    Rule,
+    /// A look does.
+    Look,
     /// Cancellation does.
     Cancellation,
-    /// A request that a look found does.
-    Request,
 }
 
 /// What comes before the rule of a place other than `canceled`. A look in vain is not made again.
 #[inline(always)]
-pub(crate) fn look_ahead<P: Port>(
-    port: &mut P,
-    machine: &Machine,
-    shared: &mut P::Shared,
-    looked: Looked,
-) -> Ahead
-    requires looked { HasLooked P.calls looked machine.now.known port.old shared.old }
-    ensures ahead { ComesAhead P.calls (is_open_machine machine.now) machine.now.known result
-        port.old shared.old port.new shared.new }
-    ensures saw { result ≡ Ahead.Request
-        → (deeds : List Deed) → P.agrees port.old deeds → P.agrees port.new (deeds ++ Saw ∷ []) }
-    ensures facts { P.facts port.new ≡ P.facts port.old }
+pub(crate) fn look_ahead<P: Port>(machine: &Machine, looked: Looked) -> Ahead
+    ghost outset: { Outset P P.Shared }
+    requires looked { HasLooked P.calls looked machine.now.known outset.port outset.shared }
+    ensures { ComesAhead P.calls (is_open_machine machine.now) machine.now.known result
+        outset.port outset.shared }
 {
     if matches!(looked, Looked::InVain) || !machine.is_open() {
-        return Ahead::Rule(looked);
+        return Ahead::Rule;
     }
-    match interruption(port, machine, shared, false) {
-        None => Ahead::Rule(Looked::InVain),
-        Some(Interruption::Cancellation) => Ahead::Cancellation,
-        Some(Interruption::Request) => Ahead::Request,
+    if machine.known {
+        return Ahead::Cancellation;
     }
+    Ahead::Look
 }

@@ -1,11 +1,13 @@
 //! Rules in one go.
 ghost use Rattle.std.specs.Prelude.{◌≡◌, IfOk, OnErr};
 ghost use Rattle.fx_fiber.specs.Fiber.{IsKept, fiber_at};
-ghost use Rattle.fx_fiber.specs.Bursts.{Bursts, BurstsShort};
+ghost use Rattle.fx_fiber.specs.Bursts.{Outset, outset_at, Bursts, BurstsShort};
 
+use crate::fiber::advance::interruption;
 use crate::fiber::ahead::Looked;
 use crate::fiber::body::Body;
-use crate::fiber::glide::{Glided, glide};
+use crate::fiber::rules::{Reached, rules};
+use crate::machine::interruption::Interruption;
 use crate::port::Port;
 use fx_term::{Code, Event, Memory};
 
@@ -18,6 +20,8 @@ pub(crate) fn burst<P: Port>(
     shared: &mut P::Shared,
     most: u32,
 ) -> Result<u32, Memory>
+    ghost outset: { Outset P P.Shared }
+    requires begins { outset ≡ outset_at port.old shared.old body.old }
     requires code { code.now.nodes ≡ P.code }
     requires kept { IsKept P.code P.total (P.facts port.old) (P.agrees port.old)
         body.old.trace.items body.old.machine }
@@ -38,23 +42,19 @@ pub(crate) fn burst<P: Port>(
         return Ok(0);
     }
     body.trace.reserve(1)?;
-    let mut looked = Looked::NotYet;
-    for made in 0..most {
-        match glide(port, &mut body.machine, code, shared, looked)? {
-            Glided::Went(serves) => looked = serves,
-            Glided::Showed(event, serves) => {
-                body.trace.push_reserved(event);
-                if made + 1 < most {
-                    body.trace.reserve(1)?;
-                }
-                looked = serves;
-            }
-            Glided::Stops => return Ok(made),
-            Glided::Saw => {
-                body.trace.push_reserved(Event::Seen);
-                return Ok(made + 1);
-            }
+    let made = match rules::<P>(body, code, 0, most, Looked::NotYet)? {
+        Reached::Stops(made) => return Ok(made),
+        Reached::Looks(made) => made,
+    };
+    match interruption(port, &body.machine, shared, false) {
+        None => match rules::<P>(body, code, made, most, Looked::InVain)? {
+            Reached::Looks(made) | Reached::Stops(made) => Ok(made),
+        },
+        Some(Interruption::Cancellation) => Ok(made),
+        Some(Interruption::Request) => {
+            let _ = body.machine.seen();
+            body.trace.push_reserved(Event::Seen);
+            Ok(made + 1)
         }
     }
-    Ok(most)
 }

@@ -1,0 +1,17 @@
+use Rattle.std.proofs.Common.{◌≡◌, ◌<◌}
+use Rattle.std.specs.Vec.{vec_len, vec_capacity}
+use Rattle.fx_fiber.specs.Bursts.{HasLooked, LeadsTo}
+use Rattle.fx_fiber.proofs.fiber.rules.rules.Given as goal
+
+-- so many steps were made, and nothing else has changed
+abbrev pub invariant-loop-made : goal.invariant-loop-made
+invariant-loop-made g l = record {
+  to : LeadsTo g.P.Port.calls g.P.Port.facts g.P.Port.code g.P.Port.total g.P.Port.agrees g.outset l.made l.body.machine l.body.trace.items;
+  looked : HasLooked g.P.Port.calls l.fn.looked l.body.machine.known g.outset.port g.outset.shared;
+  room : l.made < l.fn.most → vec_len l.body.trace < vec_capacity l.body.trace;
+  id : l.body.id ≡ l.fn.body.id;
+  source : l.body.source ≡ l.fn.body.source;
+}
+
+abbrev pub ghost-glide : goal.ghost-glide
+ghost-glide g a = g.outset
