@@ -242,7 +242,7 @@ module _ {P S : Type 0} (calls : PortCalls P S) (agrees : P → List Deed → Ty
       → MakesIfSilent nodes s true s' → GlidesOnce calls agrees facts nodes old p sh glided.Went s'
   glides s' first is_made =
       rule_advances calls agrees facts nodes old s false p p sh sh same inside made.Silent s' p sh first
-          (local_call calls agrees facts nodes s p p sh sh made.Silent s' refl refl is_made)
+      (local_call calls agrees facts nodes s p p sh sh made.Silent s' refl refl is_made)
 
   -- or one of a bracket, where no silent one was
   pub glides_shown : (between s' : Machine) (e : Event) → ComesAhead calls (is_open_machine s) s.known ahead.Rule p sh

@@ -36,11 +36,13 @@ impl Frames {
     }
 
     /// Enters a context, which is the innermost from then on.
+    #[inline(always)]
     pub fn push(&mut self, frame: Frame) -> Result<(), Memory>
         ensures ok { OnOk result (self.new ≡ frame ∷ self.old) }
         ensures err { OnErr result (self.new ≡ self.old) }
     {
-        self.items.push(frame)?;
+        self.items.reserve(1)?;
+        self.items.push_reserved(frame);
         Ok(())
     }
 

@@ -73,6 +73,7 @@ impl Masks {
     }
 
     /// Closes a new region, and gives its number.
+    #[inline(always)]
     pub fn enter(&mut self) -> Result<Region, Memory>
         requires { self.old.entries < 2 ^ 63 }
         ensures region { IfOk result (λ region. region.0 ≡ self.old.entries) }
@@ -94,6 +95,7 @@ impl Masks {
     }
 
     /// Adds the innermost, with room left for the opened regions.
+    #[inline(always)]
     fn close(&mut self, member: Member) -> Result<(), Memory>
         ensures ok { OnOk result (self.new ≡ closed_by (closing_of member) self.old) }
         ensures err { OnErr result (self.new ≡ self.old) }

@@ -45,6 +45,7 @@ impl Registers {
     }
 
     /// Gives the binder's name the number. The numbers of names above it are gone.
+    #[inline(always)]
     pub fn bind(&mut self, name: Option<u32>, number: u64) -> Result<(), Memory>
         requires { ReachUpTo name (length self.old) }
         ensures ok { OnOk result (self.new ≡ with_number name number self.old) }

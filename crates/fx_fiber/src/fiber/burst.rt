@@ -6,7 +6,7 @@ ghost use Rattle.fx_fiber.specs.Bursts.{Outset, outset_at, Bursts, BurstsShort};
 use crate::fiber::advance::interruption;
 use crate::fiber::ahead::Looked;
 use crate::fiber::body::Body;
-use crate::fiber::rules::{Reached, rules};
+use crate::fiber::rules::{Reached, rules, rules_before_look};
 use crate::machine::interruption::Interruption;
 use crate::port::Port;
 use fx_term::{Code, Event, Memory};
@@ -42,7 +42,7 @@ pub(crate) fn burst<P: Port>(
         return Ok(0);
     }
     body.trace.reserve(1)?;
-    let made = match rules::<P>(body, code, 0, most, Looked::NotYet)? {
+    let made = match rules_before_look::<P>(body, code, most)? {
         Reached::Stops(made) => return Ok(made),
         Reached::Looks(made) => made,
     };

@@ -3,7 +3,7 @@ ghost use Rattle.std.specs.Prelude.{◌≡◌, ◌≤◌, ◌<◌, IfOk, OnErr};
 ghost use Rattle.std.specs.Vec.{vec_len, vec_capacity};
 ghost use Rattle.fx_fiber.specs.Bursts.{Outset, HasLooked, LeadsTo, Reaches, ReachesShort};
 
-use crate::fiber::ahead::Looked;
+use crate::fiber::ahead::{Ahead, Looked, look_ahead};
 use crate::fiber::body::Body;
 use crate::fiber::glide::{Glided, glide};
 use crate::port::Port;
@@ -55,4 +55,33 @@ pub(crate) fn rules<P: Port>(
         }
     }
     Ok(Reached::Stops(most))
+}
+
+/// Makes the rules of a burst before its first look. Most begin where that look comes first, and are spared
+/// a call.
+pub(crate) fn rules_before_look<P: Port>(
+    body: &mut Body,
+    code: &Code,
+    most: u32,
+) -> Result<Reached, Memory>
+    ghost outset: { Outset P P.Shared }
+    requires code { code.now.nodes ≡ P.code }
+    requires some { 0 < most }
+    requires to { LeadsTo P.calls P.facts P.code P.total P.agrees outset 0
+        body.old.machine body.old.trace.items }
+    requires room { vec_len body.old.trace < vec_capacity body.old.trace }
+    ensures ok { IfOk result (λ reached. Reaches P.calls P.facts P.code P.total P.agrees outset most
+        reached body.new) }
+    ensures err { OnErr result (ReachesShort P.calls P.facts P.code P.total P.agrees outset most body.new) }
+    ensures id { body.new.id ≡ body.old.id }
+    ensures source { body.new.source ≡ body.old.source }
+{
+    if !body.machine.comes_inside(code)? {
+        return Ok(Reached::Stops(0));
+    }
+    match look_ahead::<P>(&body.machine, Looked::NotYet) {
+        Ahead::Rule => rules::<P>(body, code, 0, most, Looked::NotYet),
+        Ahead::Look => Ok(Reached::Looks(0)),
+        Ahead::Cancellation => Ok(Reached::Stops(0)),
+    }
 }

@@ -8,22 +8,28 @@ use Rattle.fx_fiber.proofs.fiber.rules.rules.Goals.{in-Went, in-Showed+then-made
 
 pub returns-in_err-glide-clause-err : goal.returns-in_err-glide-clause-err
 returns-in_err-glide-clause-err g c =
-    on_any_error c.from_residual.result
-    (c.loop-made.made, c.loop-made-test.true, no_further g.P.Port.calls g.P.Port.facts g.P.Port.code g.P.Port.total g.P.Port.agrees _ _ c.loop-made.made _ _ _
-    c.loop-made.body.machine c.glide.new.machine _ _ c.loop-made.invariant.to c.in_err-glide.ensures.same refl)
+    on_any_error c.from_residual.result (
+      c.loop-made.made,
+      c.loop-made-test.true,
+      no_further g.P.Port.calls g.P.Port.facts g.P.Port.code g.P.Port.total g.P.Port.agrees _ _ c.loop-made.made _ _ _
+          c.loop-made.body.machine c.glide.new.machine _ _ c.loop-made.invariant.to c.in_err-glide.ensures.same refl,
+    )
 
 pub returns-in_err-reserve-in-Showed-clause-err : goal.returns-in_err-reserve-in-Showed-clause-err
 returns-in_err-reserve-in-Showed-clause-err g c =
     let h = rw c.in-Showed.is at c.in_ok-glide.ensures.ok in
     on_any_error c.from_residual-in_err-reserve-in-Showed.result
-    (rw c.in_err-reserve-in-Showed.ensures.items (c.loop-made.made + 1, c.if-made-most.true, rw add-one (one_more_shown g.P.Port.calls g.P.Port.facts
-    g.P.Port.code g.P.Port.total g.P.Port.agrees _ _ c.loop-made.made _ _ _ c.loop-made.body.machine c.glide.new.machine _ _ _ _ c.in-Showed.event
-    c.loop-made.invariant.to h.0 h.1 c.push_reserved.ensures.items)))
+    (rw c.in_err-reserve-in-Showed.ensures.items (
+      c.loop-made.made + 1,
+      c.if-made-most.true,
+      rw add-one (one_more_shown g.P.Port.calls g.P.Port.facts
+          g.P.Port.code g.P.Port.total g.P.Port.agrees _ _ c.loop-made.made _ _ _ c.loop-made.body.machine c.glide.new.machine _ _ _ _ c.in-Showed.event
+          c.loop-made.invariant.to h.0 h.1 c.push_reserved.ensures.items),
+    ))
 
 pub returns-in-Looks-clause-ok : goal.returns-in-Looks-clause-ok
 returns-in-Looks-clause-ok g c =
-    let h = rw c.in-Looks.is at c.in_ok-glide.ensures.ok in
-    (
+    let h = rw c.in-Looks.is at c.in_ok-glide.ensures.ok in (
       c.loop-made-test.true,
       no_further g.P.Port.calls g.P.Port.facts g.P.Port.code g.P.Port.total g.P.Port.agrees _ _ c.loop-made.made _ _ _
           c.loop-made.body.machine c.glide.new.machine _ _ c.loop-made.invariant.to h.0 refl,
@@ -33,8 +39,7 @@ returns-in-Looks-clause-ok g c =
 
 pub returns-in-Stops-clause-ok : goal.returns-in-Stops-clause-ok
 returns-in-Stops-clause-ok g c =
-    let h = rw c.in-Stops.is at c.in_ok-glide.ensures.ok in
-    (
+    let h = rw c.in-Stops.is at c.in_ok-glide.ensures.ok in (
       let lt = c.loop-made-test.true in omega arith,
       no_further g.P.Port.calls g.P.Port.facts g.P.Port.code g.P.Port.total g.P.Port.agrees _ _ c.loop-made.made _ _ _
           c.loop-made.body.machine c.glide.new.machine _ _ c.loop-made.invariant.to h refl,
