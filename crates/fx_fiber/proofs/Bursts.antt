@@ -271,7 +271,8 @@ module _ {P S : Type 0} (calls : PortCalls P S) (agrees : P → List Deed → Ty
       → Interrupts nodes s Request m s' → Advances calls agrees facts nodes s p sh (made.Shows event.Seen) s' p' sh'
   look_advances m s' saw framed h =
       subst (λ (k : Made). Advances calls agrees facts nodes s p sh k s' p' sh') h.shows
-      (interrupted_advances calls agrees facts nodes s s false p p' sh sh' (same_here nodes s next.inside.sound) next.inside Request m s' first (λ e. saw) framed h)
+      (interrupted_advances calls agrees facts nodes s s false p p' sh sh' (same_here nodes s next.inside.sound) next.inside Request m s' first
+          (λ e. saw) framed h)
 
 -- it found none, and serves
 module _ {P S : Type 0} (calls : PortCalls P S) (nodes : List Node) (s : Machine) (p p' : P) (sh sh' : S) (next : LooksNext nodes s) where

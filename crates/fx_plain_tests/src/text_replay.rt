@@ -8,12 +8,13 @@ use std::test::Fail;
 #[derive(Drop)]
 struct Broken<'a> {
     text: &'a [u8],
+    error: io::ErrorKind,
 }
 
 impl Read for Broken<'_> {
     fn read(&mut self, buf: &mut [u8]) -> io::Result<usize> {
         let Some((first, rest)) = self.text.split_first() else {
-            return Err(io::Error::from(io::ErrorKind::Other));
+            return Err(io::Error::from(self.error));
         };
         if buf.is_empty() {
             return Ok(0);
@@ -25,16 +26,19 @@ impl Read for Broken<'_> {
 }
 
 #[test]
-fn reader_that_fails_leaves_nothing_written(rt: HostRuntime) -> Result<(), Fail> {
+fn reader_that_fails_or_is_interrupted_leaves_nothing_written(rt: HostRuntime) -> Result<(), Fail> {
     let script = b"(main (pure 5))";
-    for given in 0..=15 {
-        let mut reader = Broken {
-            text: &script[..given],
-        };
-        let mut printed = Vec::new(rt.alloc());
-        let fault = replay_text(rt.alloc(), &mut reader, &[], &mut printed);
-        assert_eq!(rt; fault, Err(PlainFault::Read), "after {given} bytes");
-        assert!(rt; printed.is_empty(), "after {given} bytes");
+    for error in [io::ErrorKind::Other, io::ErrorKind::Interrupted] {
+        for given in 0..=15 {
+            let mut reader = Broken {
+                text: &script[..given],
+                error,
+            };
+            let mut printed = Vec::new(rt.alloc());
+            let fault = replay_text(rt.alloc(), &mut reader, &[], &mut printed);
+            assert_eq!(rt; fault, Err(PlainFault::Read), "after {given} bytes");
+            assert!(rt; printed.is_empty(), "after {given} bytes");
+        }
     }
     Ok(())
 }

@@ -1,10 +1,11 @@
-//! A standard output that fails or takes nothing once it is full.
+//! A standard output that fails, is interrupted or takes nothing once it is full.
 use super::*;
 
 /// What a full output does with the next byte.
 #[derive(Clone, Copy)]
 enum WhenFull {
     Fails,
+    IsInterrupted,
     TakesNothing,
 }
 
@@ -24,6 +25,7 @@ impl Write for Full {
         if self.taken.len() >= self.room {
             return match self.when_full {
                 WhenFull::Fails => Err(io::Error::from(io::ErrorKind::Other)),
+                WhenFull::IsInterrupted => Err(io::Error::from(io::ErrorKind::Interrupted)),
                 WhenFull::TakesNothing => Ok(0),
             };
         }
@@ -93,6 +95,7 @@ fn output_that_is_full_has_a_prefix_of_the_text(rt: HostRuntime) -> Result<(), F
     for row in &PRINTED {
         for room in 0..=row.2.len() {
             assert_prefix(&rt, row, room, WhenFull::Fails)?;
+            assert_prefix(&rt, row, room, WhenFull::IsInterrupted)?;
             assert_prefix(&rt, row, room, WhenFull::TakesNothing)?;
         }
     }
