@@ -1,0 +1,160 @@
+//! The masks and the contexts of a fiber.
+
+use crate::harness::{Answer, Call, Row, Trial, Wrong};
+use crate::refuser::Refuser;
+use fx_frames::{Frame, Frames};
+use fx_mask::{Masks, Region};
+use fx_term::{Memory, NodeId};
+use std::alloc::Global;
+
+/// Many enough that what they stand in grows more than once.
+const MANY: u32 = 12;
+
+#[derive(Clone, Copy)]
+pub struct Enter {
+    pub alloc: Global,
+}
+
+#[derive(Drop)]
+struct Entering {
+    masks: Masks,
+    entered: u64,
+}
+
+impl Row for Enter {
+    fn go(&self, trial: &Trial) -> Result<bool, Wrong> {
+        trial.of(&mut Entering {
+            masks: Masks::new(self.alloc),
+            entered: 0,
+        })
+    }
+}
+
+impl Call for Entering {
+    fn make(&mut self, refuser: &Refuser) -> Answer {
+        self.entered = self.masks.entries();
+        if self.entered > u64::from(MANY) {
+            return Answer::Other;
+        }
+        refuser.go_on();
+        let region = self.masks.enter();
+        refuser.hold();
+        match region {
+            Err(Memory) => Answer::Memory,
+            Ok(Region(number)) if number != self.entered => Answer::Other,
+            Ok(_) if self.entered == u64::from(MANY) => Answer::Whole,
+            Ok(_) => Answer::Goes,
+        }
+    }
+
+    fn is_kept(&self) -> bool {
+        self.masks.entries() == self.entered && self.masks.is_open() == (self.entered == 0)
+    }
+}
+
+#[derive(Clone, Copy)]
+pub struct Seal {
+    pub alloc: Global,
+}
+
+#[derive(Drop)]
+struct Sealing {
+    masks: Masks,
+    seals: u32,
+}
+
+impl Row for Seal {
+    fn go(&self, trial: &Trial) -> Result<bool, Wrong> {
+        trial.of(&mut Sealing {
+            masks: Masks::new(self.alloc),
+            seals: 0,
+        })
+    }
+}
+
+impl Call for Sealing {
+    fn make(&mut self, refuser: &Refuser) -> Answer {
+        refuser.go_on();
+        let sealed = self.masks.seal();
+        refuser.hold();
+        if sealed.is_err() {
+            return Answer::Memory;
+        }
+        self.seals = self.seals.saturating_add(1);
+        if self.masks.is_open() {
+            return Answer::Other;
+        }
+        if self.seals == MANY {
+            return Answer::Whole;
+        }
+        Answer::Goes
+    }
+
+    fn is_kept(&self) -> bool {
+        self.masks.entries() == 0 && self.masks.is_open() == (self.seals == 0)
+    }
+}
+
+#[derive(Clone, Copy)]
+pub struct Push {
+    pub alloc: Global,
+}
+
+#[derive(Drop)]
+struct Pushing {
+    frames: Frames,
+    pushed: u32,
+}
+
+/// The context of that number.
+fn frame(number: u32) -> Frame {
+    Frame::Loop(NodeId(number), number)
+}
+
+impl Row for Push {
+    fn go(&self, trial: &Trial) -> Result<bool, Wrong> {
+        trial.of(&mut Pushing {
+            frames: Frames::new(self.alloc),
+            pushed: 0,
+        })
+    }
+}
+
+impl Pushing {
+    /// Whether the contexts come out as they went in.
+    fn comes_out(&mut self) -> bool {
+        for number in (0..MANY).rev() {
+            if self.frames.pop() != Some(frame(number)) {
+                return false;
+            }
+        }
+        self.frames.pop().is_none()
+    }
+}
+
+impl Call for Pushing {
+    fn make(&mut self, refuser: &Refuser) -> Answer {
+        refuser.go_on();
+        let pushed = self.frames.push(frame(self.pushed));
+        refuser.hold();
+        if pushed.is_err() {
+            return Answer::Memory;
+        }
+        self.pushed = self.pushed.saturating_add(1);
+        if self.pushed < MANY {
+            return Answer::Goes;
+        }
+        if self.comes_out() {
+            Answer::Whole
+        } else {
+            Answer::Other
+        }
+    }
+
+    fn is_kept(&self) -> bool {
+        match self.frames.last() {
+            Some(last) => self.pushed > 0 && *last == frame(self.pushed.saturating_sub(1)),
+            None => self.pushed == 0,
+        }
+    }
+}

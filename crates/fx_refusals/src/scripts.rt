@@ -1,0 +1,48 @@
+//! Scripts that come to one report, however their fibers interleave.
+
+/// A script, and its report.
+#[derive(Clone, Copy)]
+pub struct Worked {
+    pub name: &'static str,
+    pub text: &'static str,
+    pub report: &'static str,
+}
+
+pub static WORKED: [Worked; 7] = [
+    Worked {
+        name: "queue",
+        text: "(queue q 2) (main (start a (for i 9 (offer q i)) (start b (for i 9 (take q)) (pure 9))))",
+        report: "fiber 0 succeeded 9\nfiber 1 succeeded 0\nfiber 2 succeeded 0\nqueue q left\n",
+    },
+    Worked {
+        name: "brackets",
+        text: "(queue q 2) (main (using ((a (pure 1) (offer q a)) (b (pure 2) (offer q b))) (canceled)))",
+        report: "fiber 0 canceled\nqueue q left 2 1\n",
+    },
+    Worked {
+        name: "race",
+        text: "(main (race (never) (pure 8)))",
+        report: "fiber 0 succeeded 8\nfiber 1 canceled\nfiber 2 succeeded 8\n",
+    },
+    Worked {
+        name: "masks",
+        text: "(queue q 4) (main (mask a (mask b (poll a (poll b (seq (canceled) (offer q 1)))))))",
+        report: "fiber 0 canceled\nqueue q left 1\n",
+    },
+    Worked {
+        name: "cancel",
+        text: "(main (start h (never) (seq (cancel h) (join h (x (pure 1)) (e (pure 2)) (pure 3)))))",
+        report: "fiber 0 succeeded 3\nfiber 1 canceled\n",
+    },
+    Worked {
+        name: "wake",
+        text: "(queue q 1) (main (start a (take q) (start b (take q) \
+            (seq (cancel a) (offer q 3) (join b (x (pure x)) (e (pure 0)) (pure 1))))))",
+        report: "fiber 0 succeeded 3\nfiber 1 canceled\nfiber 2 succeeded 3\nqueue q left\n",
+    },
+    Worked {
+        name: "names",
+        text: "(main (let a (pure 1) (let b (pure 2) (handle (raise b) e (bracket c (pure a) (raise c) (pure e))))))",
+        report: "fiber 0 errored 1\n",
+    },
+];
