@@ -84,6 +84,10 @@ static int refused(void) {
     n = ++asked;
     if (!first || n < first || n > last) return 0;
     has_refused = 1;
+#ifdef GRANTS
+    /* a control of who judges: what it says that it refused it grants, as if each call hid its want of memory */
+    return 0;
+#endif
     return 1;
 }
 

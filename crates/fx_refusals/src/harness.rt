@@ -1,7 +1,9 @@
 //! Refuses each request of a call for memory in turn, and judges what comes of it.
 
 use crate::refuser::{Reach, Refuser};
-use std::alloc::Global;
+use fx_term::Memory;
+use fx_text::TextFault;
+use std::alloc::{AllocError, AllocFailed, Global};
 
 /// No row makes as many requests.
 const MOST_REQUESTS: u32 = 4000;
@@ -20,6 +22,15 @@ pub enum Answer {
     Whole,
     /// Anything else.
     Other,
+}
+
+/// What a call answered whose answer is as it is to be, or is not.
+pub fn whole_where(is_whole: bool) -> Answer {
+    if is_whole {
+        Answer::Whole
+    } else {
+        Answer::Other
+    }
 }
 
 /// What is wrong with a row.
@@ -48,6 +59,30 @@ impl Wrong {
             Wrong::NoRequest => "it makes no request",
             Wrong::NoEnd => "it comes to no end",
         }
+    }
+}
+
+impl From<Memory> for Wrong {
+    fn from(_refused: Memory) -> Wrong {
+        Wrong::SetUp
+    }
+}
+
+impl From<AllocError> for Wrong {
+    fn from(_refused: AllocError) -> Wrong {
+        Wrong::SetUp
+    }
+}
+
+impl<T: Drop> From<AllocFailed<T>> for Wrong {
+    fn from(_refused: AllocFailed<T>) -> Wrong {
+        Wrong::SetUp
+    }
+}
+
+impl From<TextFault> for Wrong {
+    fn from(_fault: TextFault) -> Wrong {
+        Wrong::SetUp
     }
 }
 

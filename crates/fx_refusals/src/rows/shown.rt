@@ -7,7 +7,12 @@ use fx_fiber::Report;
 use fx_plain::replay;
 use fx_report::write_report;
 use fx_text::Script;
-use std::alloc::Global;
+use std::alloc::{AllocError, Global};
+
+/// Room for all that a row has written, so that no writer requests memory.
+pub fn room(alloc: Global) -> Result<Vec<u8>, AllocError> {
+    Vec::with_capacity(alloc, 4096)
+}
 
 /// Whether the report of the script is written so.
 pub fn is_written(alloc: Global, script: &Script, report: &Report, text: &str) -> bool
