@@ -1,4 +1,4 @@
-//! Refuses each request for memory in turn, of each public call of the crates that can answer want of memory.
+//! Refuses each request for memory in turn, of public calls of the crates that can answer want of memory.
 //!
 //! 1. `refuser` says to a library that stands before that of C which request of a call it is to refuse.
 //! 2. `harness` has a call made with its first request refused, its second and so on, alone and with all after
