@@ -272,7 +272,7 @@ module _ {P S : Type 0} (calls : PortCalls P S) (agrees : P → List Deed → Ty
   look_advances m s' saw framed h =
       subst (λ (k : Made). Advances calls agrees facts nodes s p sh k s' p' sh') h.shows
       (interrupted_advances calls agrees facts nodes s s false p p' sh sh' (same_here nodes s next.inside.sound) next.inside Request m s' first
-          (λ e. saw) framed h)
+      (λ e. saw) framed h)
 
 -- it found none, and serves
 module _ {P S : Type 0} (calls : PortCalls P S) (nodes : List Node) (s : Machine) (p p' : P) (sh sh' : S) (next : LooksNext nodes s) where
