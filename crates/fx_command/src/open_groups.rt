@@ -19,7 +19,7 @@ const QUEUE: &str = "the name of a queue";
 
 const RESOURCE: &str = "a resource `(x T T)`";
 
-const JOINED: &str = "a group `(x T)`";
+const OUTCOME: &str = "a group `(x T)`";
 
 const CLOSE: &str = "`)`";
 
@@ -30,8 +30,8 @@ enum GroupKind {
     /// The resources of a `using`.
     Resources,
     Resource,
-    /// How a `join` goes on after an outcome.
-    Joined,
+    /// What a `join` or a `bracketcase` does after an outcome.
+    Outcome,
 }
 
 /// What stands after a `(` that is open: its first word, the one after that if it is no part of another
@@ -55,10 +55,19 @@ impl Group<'_> {
             GroupKind::Resource
         } else if self.is_form(b"using") && self.parts == 0 {
             GroupKind::Resources
-        } else if self.is_form(b"join") && (self.parts == 1 || self.parts == 2) {
-            GroupKind::Joined
+        } else if self.is_before_an_outcome() {
+            GroupKind::Outcome
         } else {
             GroupKind::Form
+        }
+    }
+
+    /// Whether the next part is what is done after an outcome.
+    fn is_before_an_outcome(&self) -> bool {
+        match self.parts {
+            1 | 2 => self.is_form(b"join"),
+            3 | 4 => self.is_form(b"bracketcase"),
+            _ => false,
         }
     }
 
@@ -167,13 +176,13 @@ impl<'a> OpenGroups<'a> {
                 GroupKind::Form => "the word of a form",
                 GroupKind::Resources if group.parts == 0 => RESOURCE,
                 GroupKind::Resources => CLOSE,
-                GroupKind::Resource | GroupKind::Joined => NAME,
+                GroupKind::Resource | GroupKind::Outcome => NAME,
             };
         };
         let parts: &[&'static str] = match group.kind {
             GroupKind::Form | GroupKind::Resources => parts_of(word),
             GroupKind::Resource => &[TERM, TERM],
-            GroupKind::Joined => &[TERM],
+            GroupKind::Outcome => &[TERM],
         };
         match parts.get(group.parts) {
             Some(part) => part,
@@ -206,9 +215,10 @@ fn parts_of(word: &[u8]) -> &'static [&'static str] {
         b"poll" => &[POLL, TERM],
         b"oncancel" | b"guarantee" | b"forcer" | b"race" => &[TERM, TERM],
         b"bracket" => &[NAME, TERM, TERM, TERM],
+        b"bracketcase" => &[NAME, TERM, TERM, OUTCOME, OUTCOME, TERM],
         b"using" => &["the resources `((x T T)..)`", TERM],
         b"start" => &[NAME, TERM, TERM],
-        b"join" => &[FIBER, JOINED, JOINED, TERM],
+        b"join" => &[FIBER, OUTCOME, OUTCOME, TERM],
         b"cancel" => &[FIBER],
         b"first" => &[FIBER, FIBER],
         b"queue" => &[NAME, NUMBER],

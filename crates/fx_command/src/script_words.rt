@@ -91,7 +91,7 @@ pub(crate) fn wrong_in_script(
             "this is parenthesis 101; at most 100 are open at once"
         ),
         TextKind::Need => format!(in alloc;
-            "the form that begins here can start more than 1023 fibers"
+            "the form that begins here can start more than 4095 fibers"
         ),
         TextKind::Main if token.is_empty() => format!(in alloc;
             "the text ends here, and has no `main`"

@@ -1,6 +1,7 @@
 -- What the contexts round a term do to its path.
 use Rattle.std.proofs.Common.{◌≡◌, ℕ, Bool, true, false, Option, Some, List, [], ◌∷◌, ◌++◌, refl, sym, ◌∙◌, ap, append_assoc, append-nil}
 use Rattle.std.specs.Prelude.{◌&&◌, ◌||◌, slice_get}
+use Rattle.fx_term.specs.declared.node.NodeId.{NodeId}
 use Rattle.fx_term.specs.declared.node.Node.{Node}
 use Rattle.fx_term.specs.declared.node.Node.TheVariants as node
 use Rattle.fx_term.specs.Term.{Term}
@@ -13,7 +14,8 @@ use Rattle.fx_fiber.specs.declared.machine.unwound.Unwound.{Unwound}
 use Rattle.fx_model.specs.Path.{CleanupTerm, Finalizer, Release, closed_under, closed_regions}
 use Rattle.fx_model.specs.Path.{cleanups_with, cleanup_terms, leaf, is_canceled_form, is_open, must_cancel}
 use Rattle.fx_model.specs.Row.{Counts, Label, Row}
-use Rattle.fx_fiber.specs.Machine.{filled, acquire_in, all_but_innermost, outside_frame, context_of, in_frame, within, cleanup_terms_of}
+use Rattle.fx_fiber.specs.Machine.{filled, acquire_in, acquire_case_in, use_case_in, all_but_innermost, outside_frame, context_of, in_frame, within}
+use Rattle.fx_fiber.specs.Machine.{cleanup_terms_of}
 use Rattle.fx_fiber.specs.Sound.{closed_outside, IsClosedBy, AreClosedBy}
 use Rattle.fx_model.proofs.Paths.{leaf_plug, closed_plug, cleanups_plug, row_plug}
 
@@ -32,8 +34,18 @@ module _ (nodes : List Node) (ns : List ℕ) where
   sealed_in_bracket (Some (node.Bracket x a u v)) outer = refl
   sealed_in_bracket o outer = refl
 
+  sealed_in_case : (o : Option Node) (outer : List Closing) → closed_under outer (acquire_case_in nodes ns o) ≡ Seal ∷ outer
+  sealed_in_case (Some (node.BracketCase x a u y s z e d)) outer = refl
+  sealed_in_case o outer = refl
+
+  open_in_use_case : (k : ℕ) (d : NodeId) (o : Option Node) (outer : List Closing) → closed_under outer (use_case_in nodes ns k d o) ≡ outer
+  open_in_use_case k d (Some (node.BracketCase x a u y s z e c)) outer = refl
+  open_in_use_case k d o outer = refl
+
   closed_in : (f : Frame) (cs : List Closing) → IsClosedBy f cs → closed_under (outside_frame f cs) (context_of nodes ns cs f) ≡ cs
   closed_in (frame.Acquire id) cs h = rw h.1 (sealed_in_bracket (slice_get nodes id.0) h.0)
+  closed_in (frame.AcquireCase id) cs h = rw h.1 (sealed_in_case (slice_get nodes id.0) h.0)
+  closed_in (frame.UsingCase k id d) cs h = open_in_use_case k d (slice_get nodes id.0) cs
   closed_in (frame.Releasing q v) cs h = rw h.1 refl
   closed_in frame.Masked cs h = rw h.2 refl
   closed_in (frame.Opened q true) cs h = without_innermost q.0 cs
@@ -53,11 +65,24 @@ module _ (nodes : List Node) (ns : List ℕ) where
   none_of_bracket (Some (node.Bracket x a u v)) xs = refl
   none_of_bracket o xs = refl
 
+  none_of_case : (o : Option Node) (xs : List CleanupTerm) → cleanups_with (acquire_case_in nodes ns o) xs ≡ xs
+  none_of_case (Some (node.BracketCase x a u y s z e d)) xs = refl
+  none_of_case o xs = refl
+
+  one_of_use_case : (k : ℕ) (d : NodeId) (o : Option Node) (xs : List CleanupTerm)
+      → cleanups_with (use_case_in nodes ns k d o) xs ≡ xs ++ Release k (filled nodes ns d) ∷ []
+  one_of_use_case k d (Some (node.BracketCase x a u y s z e c)) xs = refl
+  one_of_use_case k d o xs = refl
+
   cleanups_in : (f : Frame) (cs : List Closing) (xs : List CleanupTerm) (rest : List Frame)
       → cleanups_with (context_of nodes ns cs f) xs ++ cleanup_terms_of nodes ns (cleanups_of rest)
       ≡ xs ++ cleanup_terms_of nodes ns (cleanups_of (f ∷ rest))
   cleanups_in (frame.OnCancel f) cs xs rest = append_assoc xs (Finalizer (filled nodes ns f) ∷ []) (cleanup_terms_of nodes ns (cleanups_of rest))
   cleanups_in (frame.Using k r) cs xs rest = append_assoc xs (Release k (filled nodes ns r) ∷ []) (cleanup_terms_of nodes ns (cleanups_of rest))
+  cleanups_in (frame.AcquireCase id) cs xs rest = rw (none_of_case (slice_get nodes id.0) xs) refl
+  cleanups_in (frame.UsingCase k id d) cs xs rest =
+      rw (one_of_use_case k d (slice_get nodes id.0) xs)
+      (append_assoc xs (Release k (filled nodes ns d) ∷ []) (cleanup_terms_of nodes ns (cleanups_of rest)))
   cleanups_in (frame.Acquire id) cs xs rest = rw (none_of_bracket (slice_get nodes id.0) xs) refl
   cleanups_in _ cs xs rest = refl
 
@@ -97,6 +122,7 @@ seal_outside (Region r ∷ cs) s = s
 
 seal_out : (f : Frame) (cs : List Closing) → IsClosedBy f cs → HasSeal (outside_frame f cs) → HasSeal cs
 seal_out (frame.Acquire id) cs h s = seal_outside cs s
+seal_out (frame.AcquireCase id) cs h s = seal_outside cs s
 seal_out (frame.Releasing k v) cs h s = seal_outside cs s
 seal_out frame.Masked cs h s = seal_outside cs s
 seal_out (frame.Opened q true) cs h s = s

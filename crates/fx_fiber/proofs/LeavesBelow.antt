@@ -37,6 +37,7 @@ use Rattle.fx_fiber.proofs.Nodes.{leaf_of_node, loop_term, progress_is, entered_
 -- what is open inside a context is read off what its masks close
 open_by_frame : (f : Frame) (m : MasksView) → is_none_closed (masks_inside f m).regions ≡ is_open_inside f (is_none_closed m.regions)
 open_by_frame (frame.Acquire id) m = refl
+open_by_frame (frame.AcquireCase id) m = refl
 open_by_frame f m = refl
 
 -- one context further down

@@ -9,6 +9,7 @@ pub mod Resources
 pub mod Unwindings
 pub mod Looks
 pub mod Calls
+pub mod Cases
 pub mod Fibers
 pub mod QueueLeaves
 pub mod Advances

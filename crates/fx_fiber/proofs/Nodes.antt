@@ -1,5 +1,5 @@
 -- A fiber that stands at a node: the term of its leaf, and the context that it enters there.
-use Rattle.std.proofs.Common.{◌≡◌, ℕ, ◌<◌, ◌≤◌, Bool, false, Option, Some, None, List, [], ◌∷◌, length, refl, sym, ◌∙◌, ap, subst, arith}
+use Rattle.std.proofs.Common.{◌≡◌, ℕ, suc, ◌<◌, ◌≤◌, Bool, false, Option, Some, None, List, [], ◌∷◌, length, refl, sym, ◌∙◌, ap, subst, arith}
 use Rattle.std.specs.Prelude.{All, not, ◌&&◌, ◌||◌, slice_get}
 use Rattle.fx_term.specs.declared.node.Arg.{Arg}
 use Rattle.fx_term.specs.declared.node.Arg.TheVariants.{Number, Slot}
@@ -23,7 +23,7 @@ use Rattle.fx_model.specs.Step.{leaf_at, must_cancel_at, Step}
 use Rattle.fx_fiber.specs.declared.machine.focus.Focus.{Focus}
 use Rattle.fx_fiber.specs.declared.machine.focus.Focus.TheVariants.{Eval, Return, Turn, Await, Unwinding, Ended}
 use Rattle.fx_fiber.specs.Machine.{filled, loop_of, inner, outside_frame, masks_inside, within, running, progress_at}
-use Rattle.fx_fiber.specs.Sound.{taken_off, IsNode, IsBound, IsLoopIn, IsBracketIn, IsFrameIn, IsClosedBy, IsSound}
+use Rattle.fx_fiber.specs.Sound.{taken_off, IsNode, IsBound, IsLoopIn, IsBracketIn, IsCaseIn, IsFrameIn, IsClosedBy, IsSound}
 use Rattle.fx_fiber.specs.Leaves.{IsLeafNode, IsEntryOf}
 use Rattle.fx_fiber.specs.Places.{IsEntered}
 use Rattle.fx_fiber.proofs.Rules.{IsLeafTerm, result_term, row_step, leaf_of_running, free_running}
@@ -37,6 +37,7 @@ leaf_of_node cs b ns f (node.Let x c d) h = absurd h
 leaf_of_node cs b ns f (node.Handle c x d) h = absurd h
 leaf_of_node cs b ns f (node.OnCancel c d) h = absurd h
 leaf_of_node cs b ns f (node.Bracket x c d e) h = absurd h
+leaf_of_node cs b ns f (node.BracketCase x c u y s z e d) h = absurd h
 leaf_of_node cs b ns f n h = record { is_leaf = refl; stays = refl; nothing = refl }
 
 pub loop_term : (nodes : List Node) (ns : List ℕ) (cs : List Closing) (o : Option Node) (turn : ℕ) → IsLeafTerm cs (loop_of nodes ns o turn)
@@ -146,6 +147,24 @@ module _ (nodes : List Node) (ns : List ℕ) (fs : List Frame) (m : MasksView) (
         let bracket : IsBracketIn nodes sound.bound (slice_get nodes own.0) = rw (e.0, is, e.4) (used, released) in
         sound_inside (frame.Acquire own) (closed_by Seal m) (child_node a sound.bound (below 0 0 (omega arith)) s.0) bracket (m.regions, refl) refl sound.room
     entered_sound (frame.Using k r) e = absurd e
+    entered_sound (frame.AcquireCase own) entry =
+        let x : ℕ = entry.1 in
+        let u : NodeId = entry.2 in
+        let y : ℕ = entry.3 in
+        let b : NodeId = entry.4 in
+        let z : ℕ = entry.5 in
+        let c : NodeId = entry.6 in
+        let d : NodeId = entry.7 in
+        let s : HasLevels sound.bound (assemble (Some (node.BracketCase x a u y b z c d)) (term_of nodes)) = rw entry.8 at levels_at in
+        let below : All (λ k. k < id.0) (children (node.BracketCase x a u y b z c d)) = rw entry.8 at child_before in
+        let used : IsBound nodes sound.bound (Some x) u = record { binder = s.1; node = child_node u _ (below 1 0 (omega arith)) s.2 } in
+        let success : IsBound nodes (suc sound.bound) (Some y) b = record { binder = s.3; node = child_node b _ (below 2 0 (omega arith)) s.4 } in
+        let failure : IsBound nodes (suc sound.bound) (Some z) c = record { binder = s.5; node = child_node c _ (below 3 0 (omega arith)) s.6 } in
+        let canceled : IsBound nodes sound.bound (Some x) d = record { binder = s.1; node = child_node d _ (below 4 0 (omega arith)) s.7 } in
+        let case : IsCaseIn nodes sound.bound (slice_get nodes own.0) = rw (entry.0, is, entry.8) (used, success, failure, canceled) in
+        sound_inside (frame.AcquireCase own) (closed_by Seal m) (child_node a sound.bound (below 0 0 (omega arith)) s.0) case (m.regions, refl) refl
+        sound.room
+    entered_sound (frame.UsingCase k own d) e = absurd e
     entered_sound (frame.Releasing k v) e = absurd e
     entered_sound (frame.Loop own turn) e = absurd e
     entered_sound frame.Masked e = absurd e
@@ -162,6 +181,8 @@ module _ (nodes : List Node) (ns : List ℕ) (fs : List Frame) (m : MasksView) (
     entered_same (frame.OnCancel f) e = entered_term _ (rw e refl)
     entered_same (frame.Acquire own) e = rw (e.0, is, e.4) (entered_term _ (rw e.4 refl))
     entered_same (frame.Using k r) e = absurd e
+    entered_same (frame.AcquireCase own) e = rw (e.0, is, e.8) (entered_term _ (rw e.8 refl))
+    entered_same (frame.UsingCase k own d) e = absurd e
     entered_same (frame.Releasing k v) e = absurd e
     entered_same (frame.Loop own turn) e = absurd e
     entered_same frame.Masked e = absurd e
@@ -170,6 +191,7 @@ module _ (nodes : List Node) (ns : List ℕ) (fs : List Frame) (m : MasksView) (
 -- and no mask is entered by it
 pub inside_entries : (f : Frame) (m : MasksView) → (masks_inside f m).entries ≡ m.entries
 inside_entries (frame.Acquire id) m = refl
+inside_entries (frame.AcquireCase id) m = refl
 inside_entries f m = refl
 
 -- a loop stands at a node
@@ -191,6 +213,9 @@ first_before nodes id a n f tree is entry = below f entry
     below (frame.OnCancel b) entry = let p : All (λ c. c < id.0) (a.0 ∷ b.0 ∷ []) = rw entry at (tree id.0 n is) in p 0 0 (omega arith)
     below (frame.Acquire own) entry = let p : All (λ c. c < id.0) (a.0 ∷ entry.2.0 ∷ entry.3.0 ∷ []) = rw entry.4 at (tree id.0 n is) in p 0 0 (omega arith)
     below (frame.Using k r) entry = absurd entry
+    below (frame.AcquireCase own) entry =
+        let p : All (λ c. c < id.0) (a.0 ∷ entry.2.0 ∷ entry.4.0 ∷ entry.6.0 ∷ entry.7.0 ∷ []) = rw entry.8 at (tree id.0 n is) in p 0 0 (omega arith)
+    below (frame.UsingCase k own d) entry = absurd entry
     below (frame.Releasing k v) entry = absurd entry
     below (frame.Loop own turn) entry = absurd entry
     below frame.Masked entry = absurd entry

@@ -4,12 +4,12 @@ use Rattle.std.proofs.Common.{◌≡◌, ℕ, suc, ◌≤◌, Option, Some, None
 use Rattle.fx_term.specs.declared.node.NodeId.{NodeId}
 use Rattle.fx_term.specs.declared.node.Node.{Node}
 use Rattle.fx_term.specs.declared.node.Node.TheVariants as node
-use Rattle.fx_term.specs.Term.{Term, Let, Handle, OnCancel, InUse, Loop, put_named}
+use Rattle.fx_term.specs.Term.{Term, Let, Handle, OnCancel, InUse, Loop, put, put_named}
 use Rattle.fx_term.specs.Fill.{AgreeBelow}
 use Rattle.fx_term.specs.Registers.{with_number}
 use Rattle.fx_term.specs.Scope.{bound_under, HasLevels}
 use Rattle.fx_term.specs.Meaning.{term_of}
-use Rattle.fx_term.proofs.FillLaws.{lower_below, fill_agree, fill_scope, fill_same, put_fill}
+use Rattle.fx_term.proofs.FillLaws.{lower_above, lower_below, fill_agree, fill_scope, fill_same, put_fill}
 use Rattle.fx_term.proofs.RegisterLaws.{agree_below, number_at, length_with}
 use Rattle.fx_mask.specs.Closing.{Closing}
 use Rattle.fx_frames.specs.declared.frame.Frame.{Frame}
@@ -18,10 +18,11 @@ use Rattle.fx_frames.specs.declared.cleanup.Cleanup.{Cleanup}
 use Rattle.fx_frames.specs.declared.cleanup.Cleanup.TheVariants as cleanup
 use Rattle.fx_frames.specs.Frames.{cleanups_of}
 use Rattle.fx_fiber.specs.declared.machine.unwound.Unwound.{Unwound}
-use Rattle.fx_model.specs.Path.{CleanupTerm, Finalizer, Release}
+use Rattle.fx_model.specs.Path.{Context, plug, CleanupTerm, Finalizer, Release}
 use Rattle.fx_model.specs.Step.{CleansUp}
-use Rattle.fx_fiber.specs.Machine.{filled, waiting, loop_of, bracket_of, outside_frame, in_frame, within, cleanup_term, cleanup_terms_of, running}
-use Rattle.fx_fiber.specs.Sound.{left_of, IsNode, IsBound, IsLoopIn, IsBracketIn, IsFrameIn, IsCleanupIn, AreCleanupsIn, AreFramesIn}
+use Rattle.fx_fiber.specs.Machine.{filled, waiting, waiting_inner, loop_of, bracket_of, acquire_case_in, use_case_in, outside_frame, in_frame, within}
+use Rattle.fx_fiber.specs.Machine.{cleanup_term, cleanup_terms_of, running}
+use Rattle.fx_fiber.specs.Sound.{left_of, IsNode, IsBound, IsLoopIn, IsBracketIn, IsCaseIn, IsUseCaseIn, IsFrameIn, IsCleanupIn, AreCleanupsIn, AreFramesIn}
 
 pub cleanups_up : (nodes : List Node) (d e : ℕ) (cs : List Cleanup) → AreCleanupsIn nodes d cs → d ≤ e → AreCleanupsIn nodes e cs
 cleanups_up nodes d e [] h p = tt
@@ -31,6 +32,11 @@ pub frames_up : (nodes : List Node) (d e : ℕ) (fs : List Frame) (left : List C
 frames_up nodes d e [] left h p = cleanups_up nodes d e left h p
 frames_up nodes d e (f ∷ fs) left h p = (h.0, (let q = h.1 in omega arith), h.2, h.3)
 
+-- the release after cancellation is in scope where the use of its `bracketcase` is
+canceled_in : (nodes : List Node) (bound : ℕ) (canceled : NodeId) (o : Option Node) → IsUseCaseIn nodes bound canceled o → IsNode nodes bound canceled
+canceled_in nodes bound canceled (Some (node.BracketCase x a u y s z e d)) h = h.2
+canceled_in nodes bound canceled o h = absurd h
+
 -- contexts that are given up leave their clean-ups in scope
 pub cleanups_in : (nodes : List Node) (d : ℕ) (fs : List Frame) → AreFramesIn nodes d fs [] → AreCleanupsIn nodes d (cleanups_of fs)
 cleanups_in nodes d [] h = tt
@@ -39,6 +45,9 @@ cleanups_in nodes d (frame.Handle x b ∷ fs) h = cleanups_up nodes h.0 d (clean
 cleanups_in nodes d (frame.OnCancel f ∷ fs) h = (h.0, h.1, h.2, cleanups_in nodes h.0 fs h.3)
 cleanups_in nodes d (frame.Acquire id ∷ fs) h = cleanups_up nodes h.0 d (cleanups_of fs) (cleanups_in nodes h.0 fs h.3) h.1
 cleanups_in nodes d (frame.Using k r ∷ fs) h = (h.0, h.1, h.2, cleanups_in nodes h.0 fs h.3)
+cleanups_in nodes d (frame.AcquireCase id ∷ fs) h = cleanups_up nodes h.0 d (cleanups_of fs) (cleanups_in nodes h.0 fs h.3) h.1
+cleanups_in nodes d (frame.UsingCase k id c ∷ fs) h =
+    (h.0, h.1, canceled_in nodes h.0 c (slice_get nodes id.0) h.2, cleanups_in nodes h.0 fs h.3)
 cleanups_in nodes d (frame.Releasing k v ∷ fs) h = cleanups_up nodes h.0 d (cleanups_of fs) (cleanups_in nodes h.0 fs h.3) h.1
 cleanups_in nodes d (frame.Loop id turn ∷ fs) h = cleanups_up nodes h.0 d (cleanups_of fs) (cleanups_in nodes h.0 fs h.3) h.1
 cleanups_in nodes d (frame.Masked ∷ fs) h = cleanups_up nodes h.0 d (cleanups_of fs) (cleanups_in nodes h.0 fs h.3) h.1
@@ -61,6 +70,36 @@ module _ (nodes : List Node) (ns ms : List ℕ) where
       let v : x ≤ length ms = omega arith in
       rw (lower_below (length ns) x u, lower_below (length ms) x v, at) (fill_agree e ns ms (term_of nodes b.0) h)
 
+  -- a part under two binders
+  inner_same : (e x : ℕ) (y : ℕ) (b : NodeId) → x ≡ e → IsBound nodes (suc e) (Some y) b → e ≤ length ns → e ≤ length ms → AgreeBelow e ns ms
+      → waiting_inner nodes ns x y b ≡ waiting_inner nodes ms x y b
+  inner_same e x y b at s p q h =
+      let inside = s.binder in
+      let u : x ≤ length ns = omega arith in
+      let v : x ≤ length ms = omega arith in
+      let up : x ≤ y = omega arith in
+      rw (lower_below (length ns) x u, lower_below (length ms) x v, lower_above x y up, at) (fill_agree e ns ms (term_of nodes b.0) h)
+
+  case_same : (e : ℕ) (o : Option Node) → IsCaseIn nodes e o → e ≤ length ns → e ≤ length ms → AgreeBelow e ns ms
+      → acquire_case_in nodes ns o ≡ acquire_case_in nodes ms o
+  case_same e (Some (node.BracketCase x a u y b z c d)) s p q h =
+      let at = s.0.binder in
+      let used = waiting_same e (Some x) u s.0 p q h in
+      let success = inner_same e x y b at s.1 p q h in
+      let failure = inner_same e x z c at s.2 p q h in
+      let canceled = waiting_same e (Some x) d s.3 p q h in
+      cc
+  case_same e o s p q h = absurd s
+
+  use_case_same : (e k : ℕ) (d : NodeId) (o : Option Node) → IsUseCaseIn nodes e d o → e ≤ length ns → e ≤ length ms → AgreeBelow e ns ms
+      → use_case_in nodes ns k d o ≡ use_case_in nodes ms k d o
+  use_case_same e k d (Some (node.BracketCase x a u y b z c w)) s p q h =
+      let success = waiting_same e (Some y) b s.0 p q h in
+      let failure = waiting_same e (Some z) c s.1 p q h in
+      let canceled = filled_same e d s.2 p q h in
+      cc
+  use_case_same e k d o s p q h = absurd s
+
   bracket_same : (e : ℕ) (o : Option Node) (t : Term) → IsBracketIn nodes e o → e ≤ length ns → e ≤ length ms → AgreeBelow e ns ms
       → bracket_of nodes ns o t ≡ bracket_of nodes ms o t
   bracket_same e (Some (node.Bracket x a u r)) t s p q h =
@@ -81,6 +120,8 @@ module _ (nodes : List Node) (ns ms : List ℕ) where
   frame_same e cs (frame.OnCancel f) t s p q h = ap (λ (w : Term). OnCancel t w) (filled_same e f s p q h)
   frame_same e cs (frame.Acquire id) t s p q h = bracket_same e (slice_get nodes id.0) t s p q h
   frame_same e cs (frame.Using k r) t s p q h = ap (λ (w : Term). InUse k t w) (filled_same e r s p q h)
+  frame_same e cs (frame.AcquireCase id) t s p q h = ap (λ (f : Context). plug f t) (case_same e (slice_get nodes id.0) s p q h)
+  frame_same e cs (frame.UsingCase k id d) t s p q h = ap (λ (f : Context). plug f t) (use_case_same e k d (slice_get nodes id.0) s p q h)
   frame_same e cs (frame.Releasing k v) t s p q h = refl
   frame_same e cs (frame.Loop id turn) t s p q h = ap (λ (w : Term). Let None t w) (loop_same e (slice_get nodes id.0) turn s p q h)
   frame_same e cs frame.Masked t s p q h = refl
@@ -130,6 +171,21 @@ module _ (nodes : List Node) (ns : List ℕ) (n e : ℕ) (b : NodeId) (fits : e 
       rw (lower_below (length ns) x h)
       (put_fill x n ns (with_number (Some x) n ns) (agree_below x n ns h) (number_at x n ns h) (suc x) (term_of nodes b.0) levels (omega arith)
       ∙ sym filled_same)
+
+  -- the same of a part that waits under one more binder
+  pub inner_named : (x y : ℕ) → x ≡ e → IsBound nodes (suc e) (Some y) b
+      → put x n (waiting_inner nodes ns x y b) ≡ waiting nodes (with_number (Some x) n ns) (Some y) b
+  inner_named x y at s =
+      let inside = s.binder in
+      let h : x ≤ length ns = omega arith in
+      let ms : List ℕ = with_number (Some x) n ns in
+      let len = length_with x n ns h in
+      let levels : HasLevels (suc (suc x)) (term_of nodes b.0) = rw (← at) at s.node.levels in
+      let up : x ≤ y = omega arith in
+      let reaches : y ≤ length ms = omega arith in
+      let same : y ≡ suc x = omega arith in
+      rw (lower_below (length ns) x h, lower_above x y up, lower_below (length ms) y reaches, same)
+      (put_fill x n ns ms (agree_below x n ns h) (number_at x n ns h) (suc (suc x)) (term_of nodes b.0) levels (omega arith))
 
   -- a register for the name changes nothing outside its scope
   pub running_bound : (x : Option ℕ) (fs : List Frame) (cs : List Closing) (left : Option Unwound) (t : Term) → IsBound nodes e x b

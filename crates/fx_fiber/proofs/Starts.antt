@@ -5,7 +5,8 @@ use Rattle.fx_term.specs.declared.node.NodeId.{NodeId}
 use Rattle.fx_term.specs.declared.node.Node.{Node}
 use Rattle.fx_term.specs.declared.node.Node.TheVariants as node
 use Rattle.fx_term.specs.declared.begin.Begin.{Begin}
-use Rattle.fx_term.specs.Term.{Term, Let, Handle, If, For, Mask, Poll, OnCancel, Bracket, Start, Join, TryTake, Masked, Opened, InUse, InRelease, Loop}
+use Rattle.fx_term.specs.Term.{Term, Let, Handle, If, For, Mask, Poll, OnCancel, Bracket, BracketCase, Start, Join, TryTake, Masked}
+use Rattle.fx_term.specs.Term.{Opened, InUse, InUseCase, InRelease, Loop}
 use Rattle.fx_term.specs.Fill.{lower, lower_named, fill}
 use Rattle.fx_term.specs.Registers.{with_number}
 use Rattle.fx_term.specs.Scope.{HasLevels}
@@ -43,12 +44,18 @@ fill_need b ns (Mask x t) = let p = fill_need (lower b x) ns t in cc
 fill_need b ns (Poll v t) = let p = fill_need b ns t in cc
 fill_need b ns (OnCancel t f) = let p = fill_need b ns t in let q = fill_need b ns f in cc
 fill_need b ns (Bracket x t u r) = let p = fill_need b ns t in let q = fill_need (lower_named b x) ns u in let o = fill_need (lower_named b x) ns r in cc
+fill_need b ns (BracketCase x t u y v z w o) =
+    let under = lower b x in
+    let p = fill_need b ns t in let q = fill_need under ns u in let r = fill_need (lower under y) ns v in let s = fill_need (lower under z) ns w in
+    let k = fill_need under ns o in cc
 fill_need b ns (Start h t u) = let p = fill_need b ns t in let q = fill_need (lower b h) ns u in cc
 fill_need b ns (Join f x t e u v) = let p = fill_need (lower b x) ns t in let q = fill_need (lower b e) ns u in let o = fill_need b ns v in cc
 fill_need b ns (TryTake q x t u) = let p = fill_need (lower b x) ns t in let o = fill_need b ns u in cc
 fill_need b ns (Masked r t) = let p = fill_need b ns t in cc
 fill_need b ns (Opened r t) = let p = fill_need b ns t in cc
 fill_need b ns (InUse k t r) = let p = fill_need b ns t in let q = fill_need b ns r in cc
+fill_need b ns (InUseCase k t y u z v w) =
+    let p = fill_need b ns t in let q = fill_need (lower b y) ns u in let r = fill_need (lower b z) ns v in let s = fill_need b ns w in cc
 fill_need b ns (InRelease k t v) = let p = fill_need b ns t in cc
 fill_need b ns (Loop i k c t) = let p = fill_need (lower b i) ns t in cc
 fill_need b ns _ = refl

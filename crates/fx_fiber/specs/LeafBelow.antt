@@ -24,6 +24,7 @@ pub record IsDownTo (nodes : List Node) (s : Machine) (id : NodeId) (opened : Bo
 -- whether a place is open inside a context that is entered at a node, where that node's is open or not
 abbrev pub is_open_inside : Frame → Bool → Bool
 is_open_inside (frame.Acquire id) opened = false
+is_open_inside (frame.AcquireCase id) opened = false
 is_open_inside f opened = opened
 
 -- the leaf that a machine comes to by entering contexts alone, and whether the place there is open

@@ -31,6 +31,7 @@ IsLeafNode (Some (node.Let x a b)) = ⊥
 IsLeafNode (Some (node.Handle a x b)) = ⊥
 IsLeafNode (Some (node.OnCancel a f)) = ⊥
 IsLeafNode (Some (node.Bracket x a u r)) = ⊥
+IsLeafNode (Some (node.BracketCase x a u y s z e d)) = ⊥
 IsLeafNode None = ⊥
 
 -- a leaf whose rule asks nothing of the port
@@ -61,6 +62,8 @@ abbrev pub is_silent_inside : List Frame → Bool
 is_silent_inside [] = false
 is_silent_inside (frame.Acquire id ∷ outer) = false
 is_silent_inside (frame.Using k r ∷ outer) = false
+is_silent_inside (frame.AcquireCase id ∷ outer) = false
+is_silent_inside (frame.UsingCase k id d ∷ outer) = false
 is_silent_inside (frame.Releasing k v ∷ outer) = false
 is_silent_inside (f ∷ outer) = true
 
@@ -68,6 +71,8 @@ is_silent_inside (f ∷ outer) = true
 abbrev pub is_of_bracket : List Frame → Done → Bool
 is_of_bracket (frame.Acquire id ∷ outer) (Val n) = true
 is_of_bracket (frame.Using k r ∷ outer) v = true
+is_of_bracket (frame.AcquireCase id ∷ outer) (Val n) = true
+is_of_bracket (frame.UsingCase k id d ∷ outer) v = true
 is_of_bracket (frame.Releasing k w ∷ outer) v = true
 is_of_bracket frames v = false
 
@@ -93,6 +98,9 @@ IsEntryOf id n (frame.Handle x b) a = n ≡ node.Handle a x b
 IsEntryOf id n (frame.OnCancel f) a = n ≡ node.OnCancel a f
 IsEntryOf id n (frame.Acquire own) a = (own ≡ id) × (x : Option ℕ) × (u : NodeId) × (r : NodeId) × (n ≡ node.Bracket x a u r)
 IsEntryOf id n (frame.Using k r) a = ⊥
+IsEntryOf id n (frame.AcquireCase own) a =
+    (own ≡ id) × (x : ℕ) × (u : NodeId) × (y : ℕ) × (s : NodeId) × (z : ℕ) × (e : NodeId) × (d : NodeId) × (n ≡ node.BracketCase x a u y s z e d)
+IsEntryOf id n (frame.UsingCase k own d) a = ⊥
 IsEntryOf id n (frame.Releasing k v) a = ⊥
 IsEntryOf id n (frame.Loop own turn) a = ⊥
 IsEntryOf id n frame.Masked a = ⊥

@@ -104,6 +104,21 @@ pub record IsOver (nodes : List Node) (s : Machine) : Type 0 where
 abbrev pub IsBracketAt : List Node → NodeId → Option ℕ → NodeId → NodeId → Type 0
 IsBracketAt nodes id x u r = (a : NodeId) × (slice_get nodes id.0 ≡ Some (node.Bracket x a u r))
 
+-- the node is a `bracketcase` with this name, this use, and this release after cancellation
+abbrev pub IsCaseAt : List Node → NodeId → ℕ → NodeId → NodeId → Type 0
+IsCaseAt nodes id x u d =
+    (a : NodeId) × (y : ℕ) × (s : NodeId) × (z : ℕ) × (e : NodeId) × (slice_get nodes id.0 ≡ Some (node.BracketCase x a u y s z e d))
+
+-- the node is a `bracketcase` with this release, and its name, where the use succeeded
+abbrev pub HasSuccess : List Node → NodeId → ℕ → NodeId → Type 0
+HasSuccess nodes id y s =
+    (x : ℕ) × (a : NodeId) × (u : NodeId) × (z : ℕ) × (e : NodeId) × (d : NodeId) × (slice_get nodes id.0 ≡ Some (node.BracketCase x a u y s z e d))
+
+-- the same where the use erred
+abbrev pub HasFailure : List Node → NodeId → ℕ → NodeId → Type 0
+HasFailure nodes id z e =
+    (x : ℕ) × (a : NodeId) × (u : NodeId) × (y : ℕ) × (s : NodeId) × (d : NodeId) × (slice_get nodes id.0 ≡ Some (node.BracketCase x a u y s z e d))
+
 -- the fiber stands with this result, and cancellation is not the one rule
 pub record IsReturning (nodes : List Node) (s : Machine) (v : Done) : Type 0 where
   pub sound : IsSoundMachine nodes s

@@ -41,6 +41,21 @@ macro_rules! bracket {
     };
 }
 
+macro_rules! case {
+    ($name:expr, $acquire:expr, $used:expr, $value:expr, $success:expr, $error:expr, $failure:expr, $canceled:expr) => {
+        Node::BracketCase(
+            $name,
+            NodeId($acquire),
+            NodeId($used),
+            $value,
+            NodeId($success),
+            $error,
+            NodeId($failure),
+            NodeId($canceled),
+        )
+    };
+}
+
 macro_rules! start {
     ($slot:expr, $started:expr, $then:expr) => {
         Node::Start($slot, NodeId($started), NodeId($then))
@@ -49,6 +64,7 @@ macro_rules! start {
 
 mod binding;
 mod can_step;
+mod cases;
 mod fibers;
 mod leaves;
 mod loops;

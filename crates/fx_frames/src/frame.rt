@@ -16,7 +16,13 @@ pub enum Frame {
     Acquire(NodeId),
     /// A `bracket` whose use runs: the number of its resource, and its release.
     Using(u64, NodeId),
-    /// A `bracket` whose release runs: the number of its resource, and the result of its use.
+    /// A `bracketcase` whose acquire part runs: the node of the `bracketcase`.
+    AcquireCase(NodeId),
+    /// A `bracketcase` whose use runs: the number of its resource, the node of the `bracketcase`, and its
+    /// release after cancellation.
+    UsingCase(u64, NodeId, NodeId),
+    /// A `bracket` or `bracketcase` whose release runs: the number of its resource, and the result of its
+    /// use.
     Releasing(u64, Done),
     /// A mask whose inside runs.
     Masked,

@@ -7,8 +7,9 @@
 //! |---|---|---|
 //! | `Let`, `Handle` | the first part | none |
 //! | `OnCancel` | the first part | the finalizer |
-//! | `Acquire` | the acquire part of a bracket | none |
+//! | `Acquire`, `AcquireCase` | the acquire part of a bracket | none |
 //! | `Using` | its use | the release |
+//! | `UsingCase` | its use | the release after cancellation |
 //! | `Releasing` | its release | none |
 //! | `Masked` | the inside of a mask | none |
 //! | `Opened` | the inside of a poll | none |

@@ -30,9 +30,11 @@ fn cleanup_of(frame: Frame) -> Option<Cleanup>
     match frame {
         Frame::OnCancel(finalizer) => Some(Cleanup::Finalizer(finalizer)),
         Frame::Using(resource, release) => Some(Cleanup::Release(resource, release)),
+        Frame::UsingCase(resource, _, canceled) => Some(Cleanup::Release(resource, canceled)),
         Frame::Let(..)
         | Frame::Handle(..)
         | Frame::Acquire(_)
+        | Frame::AcquireCase(_)
         | Frame::Releasing(..)
         | Frame::Masked
         | Frame::Opened(..)

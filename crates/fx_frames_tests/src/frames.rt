@@ -5,12 +5,14 @@ use fx_term::{Done, NodeId};
 use std::test::Fail;
 
 /// A context of each kind.
-static CONTEXTS: [(&str, Frame); 9] = [
+static CONTEXTS: [(&str, Frame); 11] = [
     ("let", Frame::Let(Some(2), NodeId(5))),
     ("handle", Frame::Handle(None, NodeId(4))),
     ("oncancel", Frame::OnCancel(NodeId(3))),
     ("acquire", Frame::Acquire(NodeId(8))),
     ("use", Frame::Using(1, NodeId(9))),
+    ("acquire by case", Frame::AcquireCase(NodeId(8))),
+    ("use by case", Frame::UsingCase(2, NodeId(8), NodeId(1))),
     ("release", Frame::Releasing(1, Done::Err(7))),
     ("mask", Frame::Masked),
     ("poll", Frame::Opened(Region(6), true)),
@@ -50,16 +52,18 @@ fn the_innermost_is_replaced(rt: HostRuntime) -> Result<(), Fail> {
 }
 
 /// Contexts with and without a clean-up, and the clean-ups of these.
-static ENTERED: [Frame; 5] = [
+static ENTERED: [Frame; 6] = [
     Frame::OnCancel(NodeId(3)),
     Frame::Let(None, NodeId(4)),
     Frame::Using(0, NodeId(5)),
+    Frame::UsingCase(1, NodeId(9), NodeId(8)),
     Frame::Loop(NodeId(6), 1),
     Frame::OnCancel(NodeId(7)),
 ];
 
-static CLEANUPS: [Option<Cleanup>; 5] = [
+static CLEANUPS: [Option<Cleanup>; 6] = [
     Some(Cleanup::Finalizer(NodeId(7))),
+    Some(Cleanup::Release(1, NodeId(8))),
     Some(Cleanup::Release(0, NodeId(5))),
     Some(Cleanup::Finalizer(NodeId(3))),
     None,

@@ -39,7 +39,7 @@ abbrev rest : ℕ → ℕ → Term → Term → Term
 rest y ex u r =
     Let (Some y) (Handle (OnCancel (Poll (Number 0) u) r) (Some ex) (Let None (Handle r None (Pure (Number 0))) (Raise (Slot ex)))) (Let None r (Pure (Slot y)))
 
-acquire_fails_leads : (x : Option ℕ) (e : ℕ) (u r : Term) → LeadsSilently (Bracket x (Finished (Err e)) u r) (Finished (Err e))
+pub acquire_fails_leads : (x : Option ℕ) (e : ℕ) (u r : Term) → LeadsSilently (Bracket x (Finished (Err e)) u r) (Finished (Err e))
 acquire_fails_leads x e u r = record { there = λ k c. rule.acquire_fails; only = λ k c d l w h. one h; going = λ w f. cc }
   where
     one : {k : Bool} {c d : Counts} {l : Label} {w : Term} → Row k c (Bracket x (Finished (Err e)) u r) l d w
@@ -113,7 +113,7 @@ module _ (x : Option ℕ) (y ex : ℕ) (a u r : Term) (same_a : (n m : ℕ) → 
   bracket_beside next end = acquired_alike (counts_at 0 next end) (counts_at 1 next end) (record { is = refl; region = next_regions 0 1 })
 
 -- names that are in scope where no term of these may use them
-kept_under : (p z : ℕ) (scope : ℕ → Option NameKind) → scope z ≡ Some kind.OtherPoll → with_name p kind.OtherPoll scope z ≡ Some kind.OtherPoll
+pub kept_under : (p z : ℕ) (scope : ℕ → Option NameKind) → scope z ≡ Some kind.OtherPoll → with_name p kind.OtherPoll scope z ≡ Some kind.OtherPoll
 kept_under p z scope e = by_test (z == p)
   where
     by_test : (b : Bool) → (if b then Some kind.OtherPoll else scope z) ≡ Some kind.OtherPoll

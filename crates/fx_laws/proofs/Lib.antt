@@ -30,3 +30,7 @@ pub mod AlikeInside
 pub mod BracketUse
 pub mod BracketLaws
 pub mod Boundary
+pub mod SteppedAlike
+pub mod CaseSteps
+pub mod CaseLaws
+pub mod CaseReleases

@@ -4,8 +4,9 @@ use Rattle.std.specs.Prelude.{◌&&◌, ◌||◌}
 use Rattle.fx_term.specs.declared.done.Done.{Done}
 use Rattle.fx_term.specs.Term.{Term, Finished}
 use Rattle.fx_mask.specs.Closing.{Closing, is_none_closed}
-use Rattle.fx_model.specs.Path.{Context, LetIn, HandleIn, OnCancelIn, AcquireIn, MaskedIn, OpenedIn, InUseIn, InReleaseIn, plug, leaf, closed_under}
-use Rattle.fx_model.specs.Path.{closed_along, closed_regions, CleanupTerm, cleanups_with, cleanup_terms, is_canceled_form, is_open, must_cancel}
+use Rattle.fx_model.specs.Path.{Context, LetIn, HandleIn, OnCancelIn, AcquireIn, AcquireCaseIn, MaskedIn, OpenedIn, InUseIn, InUseCaseIn, InReleaseIn}
+use Rattle.fx_model.specs.Path.{plug, leaf, closed_under, closed_along, closed_regions, CleanupTerm, cleanups_with, cleanup_terms, is_canceled_form}
+use Rattle.fx_model.specs.Path.{is_open, must_cancel}
 use Rattle.fx_model.specs.Row.{Counts, Label, Row}
 use Rattle.fx_model.specs.Row as rule
 use Rattle.fx_model.proofs.Paths.{closed_plug, leaf_plug, cleanups_plug, no_context, row_plug, part_row}
@@ -73,12 +74,18 @@ module _ {k : Bool} {c : Counts} where
   row_of_part (AcquireIn x b b') rule.acquired = result
   row_of_part (AcquireIn x b b') rule.acquire_fails = result
   row_of_part (AcquireIn x b b') (rule.inside g e h r) = row_inside (AcquireIn x b b') g e h r
+  row_of_part (AcquireCaseIn x b y s z e' d') rule.acquired_case = result
+  row_of_part (AcquireCaseIn x b y s z e' d') rule.acquire_case_fails = result
+  row_of_part (AcquireCaseIn x b y s z e' d') (rule.inside g e h r) = row_inside (AcquireCaseIn x b y s z e' d') g e h r
   row_of_part (MaskedIn q) rule.masked_ends = result
   row_of_part (MaskedIn q) (rule.inside g e h r) = row_inside (MaskedIn q) g e h r
   row_of_part (OpenedIn q) rule.opened_ends = result
   row_of_part (OpenedIn q) (rule.inside g e h r) = row_inside (OpenedIn q) g e h r
   row_of_part (InUseIn q b) rule.used = result
   row_of_part (InUseIn q b) (rule.inside g e h r) = row_inside (InUseIn q b) g e h r
+  row_of_part (InUseCaseIn q y s z e' d') rule.use_succeeded = result
+  row_of_part (InUseCaseIn q y s z e' d') rule.use_erred = result
+  row_of_part (InUseCaseIn q y s z e' d') (rule.inside g e h r) = row_inside (InUseCaseIn q y s z e' d') g e h r
   row_of_part (InReleaseIn q b) rule.released = result
   row_of_part (InReleaseIn q b) (rule.inside g e h r) = row_inside (InReleaseIn q b) g e h r
 

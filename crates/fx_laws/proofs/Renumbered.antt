@@ -1,11 +1,12 @@
 -- Fibers that have acquired another number of resources: others see nothing of it.
 use Rattle.std.proofs.Common.{◌≡◌, ℕ, ◌+◌, Bool, List, [], ◌∷◌, ◌++◌, refl, sym, ◌∙◌, ap, subst}
 use Rattle.fx_term.specs.declared.done.Done.{Done}
+use Rattle.fx_term.specs.declared.done.Done.TheVariants.{Val, Err}
 use Rattle.fx_term.specs.declared.event.Event.TheVariants as event
-use Rattle.fx_term.specs.Term.{Term, Finished, InUse, InRelease}
+use Rattle.fx_term.specs.Term.{Term, Finished, InUse, InUseCase, InRelease, put}
 use Rattle.fx_mask.specs.Closing.{Closing, is_none_closed}
-use Rattle.fx_model.specs.Path.{Context, LetIn, HandleIn, OnCancelIn, AcquireIn, MaskedIn, OpenedIn, InUseIn, InReleaseIn, plug, leaf, closed_under}
-use Rattle.fx_model.specs.Path.{closed_regions, CleanupTerm, Finalizer, Release, cleanups_with, cleanup_terms, must_cancel}
+use Rattle.fx_model.specs.Path.{Context, LetIn, HandleIn, OnCancelIn, AcquireIn, AcquireCaseIn, MaskedIn, OpenedIn, InUseIn, InUseCaseIn, InReleaseIn}
+use Rattle.fx_model.specs.Path.{plug, leaf, closed_under, closed_regions, CleanupTerm, Finalizer, Release, cleanups_with, cleanup_terms, must_cancel}
 use Rattle.fx_model.specs.Row.{Counts, Label, Shows, known_canceled, Row}
 use Rattle.fx_model.specs.Row as rule
 use Rattle.fx_model.specs.Step.{Runs, Unwinds}
@@ -22,6 +23,7 @@ use Rattle.fx_laws.proofs.Looking.{looking}
 data IsContextToo : Context → Context → Type 0 where
   itself : {f : Context} → IsContextToo f f
   use_too : {k k' : ℕ} {r : Term} → IsContextToo (InUseIn k r) (InUseIn k' r)
+  use_case_too : {k k' y z : ℕ} {s e d : Term} → IsContextToo (InUseCaseIn k y s z e d) (InUseCaseIn k' y s z e d)
   release_too : {k k' : ℕ} {w : Done} → IsContextToo (InReleaseIn k w) (InReleaseIn k' w)
 
 -- the same term but for the numbers of the resources in use
@@ -73,7 +75,20 @@ own_row n {c = c} rule.acquired =
       same = within refl refl use_too same;
     }
 own_row n {c = c} {d = d} rule.acquire_fails = so n c d rule.acquire_fails
+own_row n {c = c} rule.acquired_case =
+    record {
+      label = Shows (event.Acquired n);
+      counts = with_acquired (n + 1) c;
+      term = _;
+      row = rule.acquired_case;
+      seen_is = refl;
+      near = record { is = refl };
+      same = within refl refl use_case_too same;
+    }
+own_row n {c = c} {d = d} rule.acquire_case_fails = so n c d rule.acquire_case_fails
 own_row n {c = c} {d = d} rule.used = so n c d rule.used
+own_row n {c = c} {d = d} rule.use_succeeded = so n c d rule.use_succeeded
+own_row n {c = c} {d = d} rule.use_erred = so n c d rule.use_erred
 own_row n {c = c} {d = d} rule.released = so n c d rule.released
 own_row n {c = c} {d = d} rule.start = so n c d rule.start
 own_row n {c = c} {d = d} rule.joined = so n c d rule.joined
@@ -118,6 +133,31 @@ used_row n {c = c} j j' w r rule.used =
     }
 used_row n j j' w r (rule.inside f e g h) = absurd (result_has_no_row (part_row (InUseIn j r) f (Finished w) e g h).1 refl)
 
+used_case_row : (n : ℕ) (j j' : ℕ) (w : Done) (y z : ℕ) (s e r : Term) {k : Bool} {c d : Counts} {u : Term} {l : Label}
+    → Row k c (InUseCase j (Finished w) y s z e r) l d u → IsFollowedSo k (with_acquired n c) (InUseCase j' (Finished w) y s z e r) l d u
+used_case_row n j j' (Val m) y z s e r {c = c} rule.use_succeeded =
+    record {
+      label = Shows (event.Begin j');
+      counts = with_acquired n c;
+      term = InRelease j' (put y m s) (Val m);
+      row = rule.use_succeeded;
+      seen_is = refl;
+      near = record { is = refl };
+      same = within refl refl release_too same;
+    }
+used_case_row n j j' (Err i) y z s e r {c = c} rule.use_erred =
+    record {
+      label = Shows (event.Begin j');
+      counts = with_acquired n c;
+      term = InRelease j' (put z i e) (Err i);
+      row = rule.use_erred;
+      seen_is = refl;
+      near = record { is = refl };
+      same = within refl refl release_too same;
+    }
+used_case_row n j j' w y z s e r (rule.inside f at h q) =
+    absurd (result_has_no_row (part_row (InUseCaseIn j y s z e r) f (Finished w) at h q).1 refl)
+
 released_row : (n : ℕ) {k : Bool} {c d : Counts} {u : Term} {l : Label} (j j' : ℕ) (w x : Done) → Row k c (InRelease j (Finished w) x) l d u
     → IsFollowedSo k (with_acquired n c) (InRelease j' (Finished w) x) l d u
 released_row n {c = c} j j' w x rule.released =
@@ -136,6 +176,7 @@ context_row : (n : ℕ) {k : Bool} {c d : Counts} {u : Term} {l : Label} {f g : 
     → IsFollowedSo k (with_acquired n c) (plug g (Finished w)) l d u
 context_row n w itself r = own_row n r
 context_row n w (use_too {k = j} {k' = j'} {r = q}) r = used_row n j j' w q r
+context_row n w (use_case_too {k = j} {k' = j'} {y = y} {z = z} {s = s} {e = e} {d = q}) r = used_case_row n j j' w y z s e q r
 context_row n w (release_too {k = j} {k' = j'} {w = x}) r = released_row n j j' w x r
 
 part_followed : (n : ℕ) {k : Bool} {c d : Counts} {u : Term} {l : Label} {f g : Context} {a x a' : Term} → RowOfPart k c f x l d u → x ≡ a → IsContextToo f g
@@ -174,6 +215,7 @@ renumbered_rows k c c' d l t t' u near more r =
 closed_too : {f g : Context} (outer : List Closing) → IsContextToo f g → closed_under outer f ≡ closed_under outer g
 closed_too outer itself = refl
 closed_too outer use_too = refl
+closed_too outer use_case_too = refl
 closed_too outer release_too = refl
 
 renumbered_closed : {t t' : Term} (outer : List Closing) → IsRenumbered t t' → closed_regions outer t ≡ closed_regions outer t'
@@ -208,13 +250,16 @@ append_too (release b e s p) q = release b e s (append_too p q)
 with_too : {f g : Context} {xs ys : List CleanupTerm} → IsContextToo f g → AreCleanUpsToo xs ys → AreCleanUpsToo (cleanups_with f xs) (cleanups_with g ys)
 with_too (itself {f = OnCancelIn h}) p = append_too p (all_too (Finalizer h ∷ []))
 with_too (itself {f = InUseIn k r}) p = append_too p (all_too (Release k r ∷ []))
+with_too (itself {f = InUseCaseIn k y s z e d}) p = append_too p (all_too (Release k d ∷ []))
 with_too (itself {f = LetIn x b}) p = p
 with_too (itself {f = HandleIn x b}) p = p
 with_too (itself {f = AcquireIn x u r}) p = p
+with_too (itself {f = AcquireCaseIn x u y s z e d}) p = p
 with_too (itself {f = MaskedIn r}) p = p
 with_too (itself {f = OpenedIn r}) p = p
 with_too (itself {f = InReleaseIn k w}) p = p
 with_too use_too p = append_too p (release refl refl same last)
+with_too use_case_too p = append_too p (release refl refl same last)
 with_too release_too p = p
 
 clean_too : {t t' : Term} → IsRenumbered t t' → AreCleanUpsToo (cleanup_terms t) (cleanup_terms t')

@@ -13,6 +13,7 @@
 //! | [`never`], [`cancellation`] | what comes after `never` and `canceled` |
 //! | [`forcing`], [`binding`] | what is forced after a term, and what takes its value |
 //! | [`finalizers`], [`brackets`] | which forms of finalizers are the same, and what a bracket is |
+//! | [`cases`] | what a bracket with a release for each outcome is |
 //! | [`places`] | what holds everywhere holds of whole fibers |
 //! | [`apart`] | terms that can be told apart |
 #![tactic(auto)]
@@ -21,6 +22,7 @@ pub mod apart;
 pub mod binding;
 pub mod brackets;
 pub mod cancellation;
+pub mod cases;
 pub mod finalizers;
 pub mod forcing;
 pub mod never;

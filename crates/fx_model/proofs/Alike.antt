@@ -10,7 +10,7 @@ use Rattle.fx_term.specs.declared.name_kind.NameKind.{NameKind}
 use Rattle.fx_term.specs.declared.name_kind.NameKind.TheVariants as kind
 use Rattle.fx_term.specs.Scope.{with_name, with_named, kind_elsewhere, IsScoped}
 use Rattle.fx_model.specs.MaskLaws.{IsPlain}
-use Rattle.fx_term.proofs.NameUses.{Fits, IsArgUsedAs, IsUsedAs, IsBinderUsedAs, scoped_name_used, scoped_binder_used, put_used}
+use Rattle.fx_term.proofs.NameUses.{Fits, IsArgUsedAs, IsUsedAs, IsBinderUsedAs, scoped_name_used, scoped_outer_used, scoped_binder_used, put_used}
 use Rattle.fx_term.proofs.NameUses.{put_binder_used, put_unused}
 
 -- two fibers that had entered so many regions entered these two after as many others
@@ -51,6 +51,9 @@ module _ (low low' : ℕ) where
     oncancel : {a a' f f' : Term} → Alike a a' → Alike f f' → Alike (term.OnCancel a f) (term.OnCancel a' f')
     bracket : {x : Option ℕ} {a a' u u' r r' : Term} → Alike a a' → IsBinderUsedAs kind.Value x u → Alike u u' → IsBinderUsedAs kind.Value x r → Alike r r'
         → Alike (term.Bracket x a u r) (term.Bracket x a' u' r')
+    bracket_case : {x y z : ℕ} {a a' u u' s s' e e' d d' : Term} → Alike a a' → IsUsedAs kind.Value x u → Alike u u'
+        → IsUsedAs kind.Value x s → IsUsedAs kind.Value y s → Alike s s' → IsUsedAs kind.Value x e → IsUsedAs kind.Value z e → Alike e e'
+        → IsUsedAs kind.Value x d → Alike d d' → Alike (term.BracketCase x a u y s z e d) (term.BracketCase x a' u' y s' z e' d')
     start : {h : ℕ} {a b b' : Term} → IsUsedAs kind.Fiber h b → Alike b b' → Alike (term.Start h a b) (term.Start h a b')
     join : {f f' : Arg} {x e : ℕ} {a a' b b' d d' : Term} → AreArgs kind.Fiber f f' → IsUsedAs kind.Value x a → Alike a a'
         → IsUsedAs kind.Value e b → Alike b b' → Alike d d' → Alike (term.Join f x a e b d) (term.Join f' x a' e b' d')
@@ -64,6 +67,8 @@ module _ (low low' : ℕ) where
     masked : {r r' : ℕ} {a a' : Term} → IsSameRegion low low' r r' → Alike a a' → Alike (term.Masked r a) (term.Masked r' a')
     opened : {r r' : ℕ} {a a' : Term} → IsSameRegion low low' r r' → Alike a a' → Alike (term.Opened r a) (term.Opened r' a')
     using_ : {k : ℕ} {a a' r r' : Term} → Alike a a' → Alike r r' → Alike (term.InUse k a r) (term.InUse k a' r')
+    using_case : {k y z : ℕ} {a a' s s' e e' d d' : Term} → Alike a a' → IsUsedAs kind.Value y s → Alike s s' → IsUsedAs kind.Value z e → Alike e e'
+        → Alike d d' → Alike (term.InUseCase k a y s z e d) (term.InUseCase k a' y s' z e' d')
     releasing : {k : ℕ} {a a' : Term} {v : Done} → Alike a a' → Alike (term.InRelease k a v) (term.InRelease k a' v)
     loop : {i k n : ℕ} {a a' : Term} → IsUsedAs kind.Value i a → Alike a a' → Alike (term.Loop i k n a) (term.Loop i k n a')
     await : {f : ℕ} → Alike (term.Await f) (term.Await f)
@@ -96,6 +101,13 @@ module _ (low low' : ℕ) where
   plain_alike s (term.Bracket x a u r) h g =
       bracket (plain_alike s a h.0 g.0) (scoped_binder_used s kind.Value x u g.2) (plain_alike (with_named x kind.Value s) u h.1 g.2)
       (scoped_binder_used s kind.Value x r g.3) (plain_alike (with_named x kind.Value s) r h.2 g.3)
+  plain_alike s (term.BracketCase x a u y b z c d) h g =
+      let there = with_name x kind.Value s in
+      bracket_case (plain_alike s a h.0 g.0) (scoped_name_used s kind.Value x u g.2) (plain_alike there u h.1 g.2)
+      (scoped_outer_used s kind.Value kind.Value x y b g.3 g.4) (scoped_name_used there kind.Value y b g.4)
+      (plain_alike (with_name y kind.Value there) b h.2 g.4)
+      (scoped_outer_used s kind.Value kind.Value x z c g.5 g.6) (scoped_name_used there kind.Value z c g.6)
+      (plain_alike (with_name z kind.Value there) c h.3 g.6) (scoped_name_used s kind.Value x d g.7) (plain_alike there d h.4 g.7)
   plain_alike s (term.Start i a b) h g = start (scoped_name_used s kind.Fiber i b g.2) (plain_alike (with_name i kind.Fiber s) b h.1 g.2)
   plain_alike s (term.Join f x a e b d) h g =
       join (same_fiber f) (scoped_name_used s kind.Value x a g.2) (plain_alike (with_name x kind.Value s) a h.0 g.2) (scoped_name_used s kind.Value e b g.4)
@@ -147,6 +159,9 @@ module _ (low low' : ℕ) where
     put_alike (oncancel p q) h = oncancel (put_alike p h.0) (put_alike q h.1)
     put_alike (bracket {x = y} {u = u} {r = r} p i q j s) h =
         bracket (put_alike p h.0) (put_binder_used x kind.Value y n u i) (put_alike q h.1) (put_binder_used x kind.Value y n r j) (put_alike s h.2)
+    put_alike (bracket_case {x = v} {y = y} {z = z} {u = u} {s = b} {e = c} {d = d} p i q j j' r l l' s o w) h =
+        bracket_case (put_alike p h.0) (put_used v kind.Value x n u i) (put_alike q h.1) (put_used v kind.Value x n b j) (put_used y kind.Value x n b j')
+        (put_alike r h.2) (put_used v kind.Value x n c l) (put_used z kind.Value x n c l') (put_alike s h.3) (put_used v kind.Value x n d o) (put_alike w h.4)
     put_alike (start {h = i} {a = a} {b = b} {b' = b'} u p) h =
         subst (λ (c : Term). Alike (term.Start i (put x n a) (put x n b)) (term.Start i c (put x n' b'))) (put_apart ns x a h.0)
         (start (put_used i kind.Fiber x n b u) (put_alike p h.1))
@@ -162,6 +177,8 @@ module _ (low low' : ℕ) where
     put_alike (masked r p) h = masked r (put_alike p h)
     put_alike (opened r p) h = opened r (put_alike p h)
     put_alike (using_ p q) h = using_ (put_alike p h.0) (put_alike q h.1)
+    put_alike (using_case {y = y} {z = z} {s = b} {e = c} p i q j r s) h =
+        using_case (put_alike p h.0) (put_used y kind.Value x n b i) (put_alike q h.1) (put_used z kind.Value x n c j) (put_alike r h.2) (put_alike s h.3)
     put_alike (releasing p) h = releasing (put_alike p h)
     put_alike (loop {i = i} {a = a} u p) h = loop (put_used i kind.Value x n a u) (put_alike p h)
     put_alike await h = await

@@ -16,9 +16,11 @@ module _ (low low' : ℕ) where
   leaf_alike (alike.handle p u q) = leaf_alike p
   leaf_alike (alike.oncancel p q) = leaf_alike p
   leaf_alike (alike.bracket p i q j r) = leaf_alike p
+  leaf_alike (alike.bracket_case p i q j k r l m s n t) = leaf_alike p
   leaf_alike (alike.masked s p) = leaf_alike p
   leaf_alike (alike.opened s p) = leaf_alike p
   leaf_alike (alike.using_ p q) = leaf_alike p
+  leaf_alike (alike.using_case p i q j r s) = leaf_alike p
   leaf_alike (alike.releasing p) = leaf_alike p
   leaf_alike _ = refl
 
@@ -39,9 +41,11 @@ module _ (low low' : ℕ) where
   clean_ups_alike (alike.handle p u q) = clean_ups_alike p
   clean_ups_alike (alike.oncancel p q) = one_more (clean_ups_alike p) (finalizer q none)
   clean_ups_alike (alike.bracket p i q j r) = clean_ups_alike p
+  clean_ups_alike (alike.bracket_case p i q j k r l m s n t) = clean_ups_alike p
   clean_ups_alike (alike.masked s p) = clean_ups_alike p
   clean_ups_alike (alike.opened s p) = clean_ups_alike p
   clean_ups_alike (alike.using_ p q) = one_more (clean_ups_alike p) (release q none)
+  clean_ups_alike (alike.using_case p i q j r s) = one_more (clean_ups_alike p) (release s none)
   clean_ups_alike (alike.releasing p) = clean_ups_alike p
   clean_ups_alike _ = none
 
@@ -70,9 +74,11 @@ module _ (low low' : ℕ) where
     closings_alike (alike.handle p u q) h = closings_alike p h
     closings_alike (alike.oncancel p q) h = closings_alike p h
     closings_alike (alike.bracket p i q j r) h = closings_alike p (seal h)
+    closings_alike (alike.bracket_case p i q j k r l m s n t) h = closings_alike p (seal h)
     closings_alike (alike.masked s p) h = closings_alike p (region s h)
     closings_alike (alike.opened s p) h = closings_alike p (taken_off s h)
     closings_alike (alike.using_ p q) h = closings_alike p h
+    closings_alike (alike.using_case p i q j r s) h = closings_alike p h
     closings_alike (alike.releasing p) h = closings_alike p (seal h)
     closings_alike alike.await h = seal h
     closings_alike _ h = h

@@ -4,11 +4,11 @@ use Rattle.fx_term.specs.declared.outcome.Outcome.{Outcome}
 use Rattle.fx_term.specs.declared.outcome.Outcome.TheVariants as outcome
 use Rattle.fx_term.specs.Term.{Term}
 use Rattle.fx_term.specs.declared.name_kind.NameKind.TheVariants as kind
-use Rattle.fx_model.specs.Path.{Context, LetIn, HandleIn, OnCancelIn, AcquireIn, MaskedIn, OpenedIn, InUseIn, InReleaseIn, plug}
+use Rattle.fx_model.specs.Path.{Context, LetIn, HandleIn, OnCancelIn, AcquireIn, AcquireCaseIn, MaskedIn, OpenedIn, InUseIn, InUseCaseIn, InReleaseIn, plug}
 use Rattle.fx_model.specs.Row.{Counts, Label, Row, part_after}
 use Rattle.fx_model.specs.Row as row
 use Rattle.fx_model.proofs.Paths.{row_plug}
-use Rattle.fx_term.proofs.NameUses.{IsUsedAs}
+use Rattle.fx_term.proofs.NameUses.{IsUsedAs, put_used}
 use Rattle.fx_model.proofs.Alike.{IsSameRegion, Alike, AreNumbersOf, value, fiber, region, AreArgs, number, put_alike, put_named_alike}
 use Rattle.fx_model.proofs.Alike as alike
 
@@ -47,9 +47,13 @@ module _ (low low' : ℕ) where
       record { context = OnCancelIn f'; part = _; is = refl; parts = p; wholes = λ h. alike.oncancel h q }
   alike_inside (AcquireIn x u r) (alike.bracket {u' = u'} {r' = r'} p i q j v) =
       record { context = AcquireIn x u' r'; part = _; is = refl; parts = p; wholes = λ h. alike.bracket h i q j v }
+  alike_inside (AcquireCaseIn x u y s z e d) (alike.bracket_case {u' = u'} {s' = s'} {e' = e'} {d' = d'} p i q j j' r l l' v m w) =
+      record { context = AcquireCaseIn x u' y s' z e' d'; part = _; is = refl; parts = p; wholes = λ h. alike.bracket_case h i q j j' r l l' v m w }
   alike_inside (MaskedIn r) (alike.masked {r' = r'} e p) = record { context = MaskedIn r'; part = _; is = refl; parts = p; wholes = λ h. alike.masked e h }
   alike_inside (OpenedIn r) (alike.opened {r' = r'} e p) = record { context = OpenedIn r'; part = _; is = refl; parts = p; wholes = λ h. alike.opened e h }
   alike_inside (InUseIn k r) (alike.using_ {r' = r'} p q) = record { context = InUseIn k r'; part = _; is = refl; parts = p; wholes = λ h. alike.using_ h q }
+  alike_inside (InUseCaseIn k y s z e d) (alike.using_case {s' = s'} {e' = e'} {d' = d'} p i q j r w) =
+      record { context = InUseCaseIn k y s' z e' d'; part = _; is = refl; parts = p; wholes = λ h. alike.using_case h i q j r w }
   alike_inside (InReleaseIn k v) (alike.releasing p) = record { context = InReleaseIn k v; part = _; is = refl; parts = p; wholes = λ h. alike.releasing h }
 
   module _ {k : Bool} {m : ℕ} where
@@ -85,6 +89,13 @@ module _ (low low' : ℕ) where
     row_alike (row.acquired {x = x} {n = n}) (alike.bracket alike.finished i q j r) s =
         stays row.acquired (alike.using_ (put_named_alike low low' x n q i) (put_named_alike low low' x n r j)) s
     row_alike row.acquire_fails (alike.bracket alike.finished i q j r) s = stays row.acquire_fails alike.finished s
+    row_alike (row.acquired_case {x = x} {n = n}) (alike.bracket_case {y = y} {z = z} {s = b} {e = c} alike.finished i q j j' r l l' v m w) s =
+        stays row.acquired_case (alike.using_case (put_alike low low' value x q i) (put_used y kind.Value x n b j') (put_alike low low' value x r j)
+        (put_used z kind.Value x n c l') (put_alike low low' value x v l) (put_alike low low' value x w m)) s
+    row_alike row.acquire_case_fails (alike.bracket_case alike.finished i q j j' r l l' v m w) s = stays row.acquire_case_fails alike.finished s
+    row_alike (row.use_succeeded {y = y}) (alike.using_case alike.finished i q j r w) s =
+        stays row.use_succeeded (alike.releasing (put_alike low low' value y q i)) s
+    row_alike (row.use_erred {z = z}) (alike.using_case alike.finished i q j r w) s = stays row.use_erred (alike.releasing (put_alike low low' value z r j)) s
     row_alike row.used (alike.using_ alike.finished q) s = stays row.used (alike.releasing q) s
     row_alike row.released (alike.releasing alike.finished) s = stays row.released alike.finished s
     row_alike (row.start {h = h}) (alike.start u p) s = stays row.start (put_alike low low' fiber h p u) s

@@ -1,7 +1,7 @@
 -- What holds of the clean-ups of a path.
 use Rattle.std.proofs.Common.{List, [], ◌∷◌, ◌++◌}
 use Rattle.fx_term.specs.Term.{Term}
-use Rattle.fx_model.specs.Path.{Context, OnCancelIn, InUseIn, plug, CleanupTerm, Finalizer, Release, cleanups_with, cleanup_terms}
+use Rattle.fx_model.specs.Path.{Context, OnCancelIn, InUseIn, InUseCaseIn, plug, CleanupTerm, Finalizer, Release, cleanups_with, cleanup_terms}
 use Rattle.fx_model.specs.Step.{AreAll}
 use Rattle.fx_model.proofs.Paths.{along_path}
 
@@ -15,6 +15,8 @@ module _ (P Q : Term → Type 0) (part : (f : Context) (a : Term) → P (plug f 
   in_context : (f : Context) (a : Term) → (P a → AreAll Q (cleanup_terms a)) → P (plug f a) → AreAll Q (cleanup_terms (plug f a))
   in_context (OnCancelIn f) a inner h = let p = part (OnCancelIn f) a h in all_append Q (cleanup_terms a) (Finalizer f ∷ []) (inner p.0) p.1
   in_context (InUseIn k r) a inner h = let p = part (InUseIn k r) a h in all_append Q (cleanup_terms a) (Release k r ∷ []) (inner p.0) p.1
+  in_context (InUseCaseIn k y s z e d) a inner h =
+      let p = part (InUseCaseIn k y s z e d) a h in all_append Q (cleanup_terms a) (Release k d ∷ []) (inner p.0) p.1
   in_context f a inner h = inner (part f a h).0
 
   -- so it holds of all on the path

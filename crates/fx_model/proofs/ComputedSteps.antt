@@ -7,11 +7,11 @@ use Rattle.fx_term.specs.declared.outcome.Outcome.TheVariants.{Succeeded, Errore
 use Rattle.fx_term.specs.declared.outcome.Outcome.TheVariants as outcome
 use Rattle.fx_term.specs.declared.event.Event.{Event}
 use Rattle.fx_term.specs.declared.event.Event.TheVariants as event
-use Rattle.fx_term.specs.Term.{Term, Pure, Raise, Canceled, Cede, Let, Handle, If, For, Mask, Poll, OnCancel, Bracket, Start, Join, Cancel, First, Offer}
-use Rattle.fx_term.specs.Term.{TryOffer, Take, TryTake, Finished, Masked, Opened, InUse, InRelease, Loop, Await, put}
+use Rattle.fx_term.specs.Term.{Term, Pure, Raise, Canceled, Cede, Let, Handle, If, For, Mask, Poll, OnCancel, Bracket, BracketCase, Start, Join, Cancel}
+use Rattle.fx_term.specs.Term.{First, Offer, TryOffer, Take, TryTake, Finished, Masked, Opened, InUse, InUseCase, InRelease, Loop, Await, put}
 use Rattle.fx_term.specs.Need.{need}
-use Rattle.fx_model.specs.Path.{LetIn, HandleIn, OnCancelIn, AcquireIn, MaskedIn, OpenedIn, InUseIn, InReleaseIn, CleanupTerm, Finalizer, Release}
-use Rattle.fx_model.specs.Path.{cleanup_terms, is_open, must_cancel}
+use Rattle.fx_model.specs.Path.{LetIn, HandleIn, OnCancelIn, AcquireIn, AcquireCaseIn, MaskedIn, OpenedIn, InUseIn, InUseCaseIn, InReleaseIn, CleanupTerm}
+use Rattle.fx_model.specs.Path.{Finalizer, Release, cleanup_terms, is_open, must_cancel}
 use Rattle.fx_model.specs.Row.{Counts, Label, Silent, Shows, Learns, Starts, one_more_mask, numbers_taken, known_canceled}
 use Rattle.fx_model.specs.Origin.{child_origin}
 use Rattle.fx_model.specs.Row.{part_after}
@@ -89,6 +89,7 @@ move w k c (Mask p t) = Some (silently (one_more_mask c) (Masked c.masks (put p 
 move w k c (Poll (Number r) t) = Some (silently c (Opened r t))
 move w k c (OnCancel a f) = move_in c (OnCancelIn f) (done_of a) (move w k c a)
 move w k c (Bracket x a u r) = move_in c (AcquireIn x u r) (done_of a) (move w k c a)
+move w k c (BracketCase x a u y s z e d) = move_in c (AcquireCaseIn x u y s z e d) (done_of a) (move w k c a)
 move w k c (Start h a b) = Some (record { label = Starts c.next (child_origin c.next a); counts = numbers_taken (1 + need a) c; term = put h c.next b })
 move w k c (Join (Number f) x a e b d) = join_move c f x a e b d (w.outcome f)
 move w k c (Cancel (Number f)) = showing (event.Request f) c (Await f)
@@ -100,6 +101,7 @@ move w k c (TryTake q x a b) = try_take_move c q x a b (w.front q)
 move w k c (Masked r a) = move_in c (MaskedIn r) (done_of a) (move w k c a)
 move w k c (Opened r a) = move_in c (OpenedIn r) (done_of a) (move w k c a)
 move w k c (InUse i a r) = move_in c (InUseIn i r) (done_of a) (move w k c a)
+move w k c (InUseCase i a y s z e d) = move_in c (InUseCaseIn i y s z e d) (done_of a) (move w k c a)
 move w k c (InRelease i a v) = move_in c (InReleaseIn i v) (done_of a) (move w k c a)
 move w k c (Loop i j n t) = Some (loop_move c i j n t (nat_lt j n))
 move w k c (Await f) = await_move c f (w.outcome f)

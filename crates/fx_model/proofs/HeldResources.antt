@@ -1,8 +1,8 @@
 -- The resources that a fiber holds, the innermost first.
 use Rattle.std.proofs.Common.{◌≡◌, ℕ, Some, None, List, [], ◌∷◌, ◌++◌, refl, ap, append-nil}
-use Rattle.fx_term.specs.Term.{Term, Let, Handle, OnCancel, Bracket, Masked, Opened, InUse, InRelease}
+use Rattle.fx_term.specs.Term.{Term, Let, Handle, OnCancel, Bracket, BracketCase, Masked, Opened, InUse, InUseCase, InRelease}
 use Rattle.fx_term.specs.Forms.{IsCore}
-use Rattle.fx_model.specs.Path.{Context, InUseIn, InReleaseIn, path, CleanupTerm, Finalizer, Release, cleanup_terms}
+use Rattle.fx_model.specs.Path.{Context, InUseIn, InUseCaseIn, InReleaseIn, path, CleanupTerm, Finalizer, Release, cleanup_terms}
 use Rattle.fx_model.specs.Step.{Progress, Runs, Unwinds, CleansUp, HasEnded}
 use Rattle.fx_model.specs.PairedMasks.{marks}
 use Rattle.fx_model.proofs.PairedMasks.{HasNoSeal}
@@ -15,6 +15,7 @@ pub data Held : Type 0 where
 -- those in a context and its own, which is the outermost
 abbrev pub held_with : Context → List Held → List Held
 held_with (InUseIn k r) inside = inside ++ Unreleased k ∷ []
+held_with (InUseCaseIn k y s z e d) inside = inside ++ Unreleased k ∷ []
 held_with (InReleaseIn k v) inside = inside ++ BeingReleased k ∷ []
 held_with _ inside = inside
 
@@ -44,9 +45,11 @@ core_holds_none (Let y a b) h = core_holds_none a h.0
 core_holds_none (Handle a y b) h = core_holds_none a h.0
 core_holds_none (OnCancel a f) h = core_holds_none a h.0
 core_holds_none (Bracket y a u r) h = core_holds_none a h.0
+core_holds_none (BracketCase x a u y s z e d) h = core_holds_none a h.0
 core_holds_none (Masked r a) h = absurd h
 core_holds_none (Opened r a) h = absurd h
 core_holds_none (InUse k a r) h = absurd h
+core_holds_none (InUseCase k a y s z e d) h = absurd h
 core_holds_none (InRelease k a v) h = absurd h
 core_holds_none _ h = refl
 
@@ -61,8 +64,10 @@ held_by_clean_ups (Let x a b) h = held_by_clean_ups a h
 held_by_clean_ups (Handle a x b) h = held_by_clean_ups a h
 held_by_clean_ups (OnCancel a f) h = rw (held_for_append, append-nil) (held_by_clean_ups a h)
 held_by_clean_ups (Bracket x a u r) h = absurd h
+held_by_clean_ups (BracketCase x a u y s z e d) h = absurd h
 held_by_clean_ups (Masked r a) h = held_by_clean_ups a h
 held_by_clean_ups (Opened r a) h = held_by_clean_ups a h
 held_by_clean_ups (InUse k a r) h = rw held_for_append (ap (λ (s : List Held). s ++ Unreleased k ∷ []) (held_by_clean_ups a h))
+held_by_clean_ups (InUseCase k a y s z e d) h = rw held_for_append (ap (λ (held : List Held). held ++ Unreleased k ∷ []) (held_by_clean_ups a h))
 held_by_clean_ups (InRelease k a v) h = absurd h
 held_by_clean_ups _ h = refl

@@ -2,8 +2,8 @@
 use Rattle.std.proofs.Common.{◌≡◌, ℕ, suc, ◌+◌, ◌*◌, ◌≤◌, max, Option, Some, None, List, [], ◌∷◌, ◌++◌, refl, arith}
 use Rattle.fx_term.specs.declared.outcome.Outcome.{Outcome}
 use Rattle.fx_term.specs.declared.outcome.Outcome.TheVariants as outcome
-use Rattle.fx_term.specs.Term.{Term, OnCancel, InUse, put, put_named}
-use Rattle.fx_model.specs.Path.{Context, OnCancelIn, InUseIn, plug, CleanupTerm, Finalizer, Release, cleanup_terms, over_cleanups}
+use Rattle.fx_term.specs.Term.{Term, OnCancel, InUse, InUseCase, put, put_named}
+use Rattle.fx_model.specs.Path.{Context, OnCancelIn, InUseIn, InUseCaseIn, plug, CleanupTerm, Finalizer, Release, cleanup_terms, over_cleanups}
 use Rattle.fx_model.specs.Row.{part_after}
 use Rattle.fx_model.proofs.Paths.{along_path}
 
@@ -31,13 +31,17 @@ module _ (m : Term → ℕ) (more : ℕ) where
 
   -- what each term has at least, it has beside the clean-ups of its path
   module _ (least : ℕ) (has : (t : Term) → least ≤ m t) (on_cancel : (a f : Term) → more + m a + m f ≤ m (OnCancel a f))
-      (in_use : (k : ℕ) (a r : Term) → more + m a + m r ≤ m (InUse k a r)) (part : (f : Context) (a : Term) → m a ≤ m (plug f a)) where
+      (in_use : (k : ℕ) (a r : Term) → more + m a + m r ≤ m (InUse k a r))
+      (in_use_case : (k : ℕ) (a : Term) (y : ℕ) (s : Term) (z : ℕ) (e d : Term) → more + m a + m d ≤ m (InUseCase k a y s z e d))
+      (part : (f : Context) (a : Term) → m a ≤ m (plug f a)) where
     abbrev IsWithin : Term → Type 0
     IsWithin t = least + over_cleanups m more (cleanup_terms t) ≤ m t
 
     in_context : (f : Context) (a : Term) → IsWithin a → IsWithin (plug f a)
     in_context (OnCancelIn f) a h = let p = cleanups_append (cleanup_terms a) (Finalizer f ∷ []) in let q = on_cancel a f in omega arith
     in_context (InUseIn k r) a h = let p = cleanups_append (cleanup_terms a) (Release k r ∷ []) in let q = in_use k a r in omega arith
+    in_context (InUseCaseIn k y s z e d) a h =
+        let p = cleanups_append (cleanup_terms a) (Release k d ∷ []) in let q = in_use_case k a y s z e d in omega arith
     in_context f a h = let q = part f a in omega arith
 
     pub cleanups_within : (t : Term) → IsWithin t

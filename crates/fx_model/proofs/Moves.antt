@@ -3,8 +3,8 @@ use Rattle.std.proofs.Common.{ℕ, ◌+◌, Bool, true, false, Option, Some, Non
 use Rattle.fx_term.specs.declared.done.Done.{Done}
 use Rattle.fx_term.specs.declared.done.Done.TheVariants.{Val, Err}
 use Rattle.fx_term.specs.declared.event.Event.TheVariants as event
-use Rattle.fx_term.specs.Term.{Term, Let, Finished, InUse, InRelease, Loop, put, put_named}
-use Rattle.fx_model.specs.Path.{Context, LetIn, HandleIn, AcquireIn, InUseIn, InReleaseIn, plug}
+use Rattle.fx_term.specs.Term.{Term, Let, Finished, InUse, InUseCase, InRelease, Loop, put, put_named}
+use Rattle.fx_model.specs.Path.{Context, LetIn, HandleIn, AcquireIn, AcquireCaseIn, InUseIn, InUseCaseIn, InReleaseIn, plug}
 use Rattle.fx_model.specs.Row.{Counts, one_more_acquired, Label, Silent, Shows, after_release}
 
 -- what a row leads to, and with which label
@@ -34,12 +34,26 @@ after_acquire c x u r (Val n) =
     record { label = Shows (event.Acquired c.acquired); counts = one_more_acquired c; term = InUse c.acquired (put_named x n u) (put_named x n r) }
 after_acquire c x u r (Err e) = silently c (Finished (Err e))
 
+abbrev after_acquire_case : Counts → ℕ → Term → ℕ → Term → ℕ → Term → Term → Done → Moved
+after_acquire_case c x u y s z e d (Val n) = record {
+  label = Shows (event.Acquired c.acquired);
+  counts = one_more_acquired c;
+  term = InUseCase c.acquired (put x n u) y (put x n s) z (put x n e) (put x n d);
+}
+after_acquire_case c x u y s z e d (Err i) = silently c (Finished (Err i))
+
+abbrev after_use : Counts → ℕ → ℕ → Term → ℕ → Term → Done → Moved
+after_use c k y s z e (Val n) = record { label = Shows (event.Begin k); counts = c; term = InRelease k (put y n s) (Val n) }
+after_use c k y s z e (Err i) = record { label = Shows (event.Begin k); counts = c; term = InRelease k (put z i e) (Err i) }
+
 -- what a context comes to with a result in it
 abbrev pub ends : Counts → Context → Done → Moved
 ends c (LetIn x b) v = after_let c x b v
 ends c (HandleIn x b) v = after_handle c x b v
 ends c (AcquireIn x u r) v = after_acquire c x u r v
+ends c (AcquireCaseIn x u y s z e d) v = after_acquire_case c x u y s z e d v
 ends c (InUseIn k r) v = record { label = Shows (event.Begin k); counts = c; term = InRelease k r v }
+ends c (InUseCaseIn k y s z e d) v = after_use c k y s z e v
 ends c (InReleaseIn k v) w = record { label = Shows (event.End k); counts = c; term = Finished (after_release w v) }
 ends c _ v = silently c (Finished v)
 

@@ -86,6 +86,10 @@ module _ (w : Answers) where
   row_is_move row.acquired a left = refl
   row_is_move row.acquire_fails a left = refl
   row_is_move row.used a left = refl
+  row_is_move row.acquired_case a left = refl
+  row_is_move row.acquire_case_fails a left = refl
+  row_is_move row.use_succeeded a left = refl
+  row_is_move row.use_erred a left = refl
   row_is_move row.released a left = refl
   row_is_move row.start a left = refl
   row_is_move {c = c} (row.joined {f = g} {x = x} {e = y} {a = t} {b = b} {d = d}) a left = ap (join_move c g x t y b d) a

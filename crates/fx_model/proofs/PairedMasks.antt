@@ -2,7 +2,7 @@
 use Rattle.std.proofs.Common.{◌≡◌, ℕ, Bool, true, false, List, [], ◌∷◌, ◌++◌, refl, sym, ◌∙◌, ap, subst, append_assoc, append-nil}
 use Rattle.std.specs.Prelude.{if◌then◌else◌, ◌==◌, ◌↔◌}
 use Rattle.std.proofs.lemmas.Bool.{eqb-true}
-use Rattle.fx_term.specs.Term.{Term, Let, Handle, OnCancel, Bracket, Masked, Opened, InUse, InRelease, Await}
+use Rattle.fx_term.specs.Term.{Term, Let, Handle, OnCancel, Bracket, BracketCase, Masked, Opened, InUse, InUseCase, InRelease, Await}
 use Rattle.fx_mask.specs.Closing.{Closing, Region, Seal, without_region, is_none_closed}
 use Rattle.fx_model.specs.Path.{closed_regions, is_open}
 use Rattle.fx_model.specs.PairedMasks.{Mark, Closes, Opens, Seals, marks, IsPaired, nothing, idle, pair, appended}
@@ -20,9 +20,11 @@ closed_by_marks outer (Let x a b) = closed_by_marks outer a
 closed_by_marks outer (Handle a x b) = closed_by_marks outer a
 closed_by_marks outer (OnCancel a f) = closed_by_marks outer a
 closed_by_marks outer (Bracket x a u r) = closed_by_marks (Seal ∷ outer) a
+closed_by_marks outer (BracketCase x a u y s z e d) = closed_by_marks (Seal ∷ outer) a
 closed_by_marks outer (Masked r a) = closed_by_marks (Region r ∷ outer) a
 closed_by_marks outer (Opened r a) = closed_by_marks (without_region r outer) a
 closed_by_marks outer (InUse k a r) = closed_by_marks outer a
+closed_by_marks outer (InUseCase k a y s z e d) = closed_by_marks outer a
 closed_by_marks outer (InRelease k a v) = closed_by_marks (Seal ∷ outer) a
 closed_by_marks outer (Await f) = refl
 closed_by_marks outer _ = refl

@@ -1,10 +1,10 @@
 -- The path of a term: one context more, and the whole path.
 use Rattle.std.proofs.Common.{◌≡◌, Bool, List, [], ◌∷◌, refl, sym, ◌∙◌, ap}
 use Rattle.fx_term.specs.declared.done.Done.{Done}
-use Rattle.fx_term.specs.Term.{Term, Let, Handle, OnCancel, Bracket, Finished, Masked, Opened, InUse, InRelease}
+use Rattle.fx_term.specs.Term.{Term, Let, Handle, OnCancel, Bracket, BracketCase, Finished, Masked, Opened, InUse, InUseCase, InRelease}
 use Rattle.fx_mask.specs.Closing.{Closing}
-use Rattle.fx_model.specs.Path.{Context, LetIn, HandleIn, OnCancelIn, AcquireIn, MaskedIn, OpenedIn, InUseIn, InReleaseIn, plug, path, leaf, closed_under}
-use Rattle.fx_model.specs.Path.{closed_regions, cleanups_with, cleanup_terms}
+use Rattle.fx_model.specs.Path.{Context, LetIn, HandleIn, OnCancelIn, AcquireIn, AcquireCaseIn, MaskedIn, OpenedIn, InUseIn, InUseCaseIn, InReleaseIn, plug}
+use Rattle.fx_model.specs.Path.{path, leaf, closed_under, closed_regions, cleanups_with, cleanup_terms}
 use Rattle.fx_model.specs.Row.{Counts, Label, Row, inside}
 
 pub path_plug : (f : Context) (a : Term) → path (plug f a) ≡ f ∷ path a
@@ -29,9 +29,11 @@ bare_leaf (Let x a b) e = absurd cc
 bare_leaf (Handle a x b) e = absurd cc
 bare_leaf (OnCancel a f) e = absurd cc
 bare_leaf (Bracket x a u r) e = absurd cc
+bare_leaf (BracketCase x a u y s z f d) e = absurd cc
 bare_leaf (Masked r a) e = absurd cc
 bare_leaf (Opened r a) e = absurd cc
 bare_leaf (InUse k a r) e = absurd cc
+bare_leaf (InUseCase k a y s z f d) e = absurd cc
 bare_leaf (InRelease k a v) e = absurd cc
 bare_leaf _ e = refl
 
@@ -52,9 +54,11 @@ along_path P more bare (Let x a b) = more (LetIn x b) a (along_path P more bare 
 along_path P more bare (Handle a x b) = more (HandleIn x b) a (along_path P more bare a)
 along_path P more bare (OnCancel a f) = more (OnCancelIn f) a (along_path P more bare a)
 along_path P more bare (Bracket x a u r) = more (AcquireIn x u r) a (along_path P more bare a)
+along_path P more bare (BracketCase x a u y s z e d) = more (AcquireCaseIn x u y s z e d) a (along_path P more bare a)
 along_path P more bare (Masked r a) = more (MaskedIn r) a (along_path P more bare a)
 along_path P more bare (Opened r a) = more (OpenedIn r) a (along_path P more bare a)
 along_path P more bare (InUse k a r) = more (InUseIn k r) a (along_path P more bare a)
+along_path P more bare (InUseCase k a y s z e d) = more (InUseCaseIn k y s z e d) a (along_path P more bare a)
 along_path P more bare (InRelease k a v) = more (InReleaseIn k v) a (along_path P more bare a)
 along_path P more bare t = bare t refl
 

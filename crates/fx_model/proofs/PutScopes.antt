@@ -4,8 +4,8 @@ use Rattle.std.specs.Prelude.{option_map}
 use Rattle.std.proofs.lemmas.Bool.{eq-eqb, ne_eqb, eqb-true}
 use Rattle.fx_term.specs.declared.node.Arg.{Arg}
 use Rattle.fx_term.specs.declared.node.Arg.TheVariants.{Number, Slot}
-use Rattle.fx_term.specs.Term.{Term, Pure, Raise, Let, Handle, If, For, Mask, Poll, OnCancel, Bracket, Start, Join, Cancel, First, Offer, TryOffer, TryTake}
-use Rattle.fx_term.specs.Term.{Masked, Opened, InUse, InRelease, Loop, Await, put_arg, put}
+use Rattle.fx_term.specs.Term.{Term, Pure, Raise, Let, Handle, If, For, Mask, Poll, OnCancel, Bracket, BracketCase, Start, Join, Cancel, First, Offer}
+use Rattle.fx_term.specs.Term.{TryOffer, TryTake, Masked, Opened, InUse, InUseCase, InRelease, Loop, Await, put_arg, put}
 use Rattle.fx_term.specs.declared.name_kind.NameKind.{NameKind}
 use Rattle.fx_term.specs.declared.name_kind.NameKind.TheVariants as kind
 use Rattle.fx_term.specs.Scope.{with_name, with_named, elsewhere, IsArgOf, IsNew, IsScoped, kind_elsewhere}
@@ -61,6 +61,17 @@ module _ (x n : ℕ) where
       → IsScoped (with_name x k (with_named y j s)) b
   under s k j y b new h = subst (λ (scope : ℕ → Option NameKind). IsScoped scope b) (other_order s k j y new) h
 
+  -- a part under two binders, of which the outer one stands there already
+  under_both : (s : ℕ → Option NameKind) (k : NameKind) (y z : ℕ) (b : Term) → IsNew (with_name x k s) (Some y)
+      → IsNew (with_name y kind.Value (with_name x k s)) (Some z) → IsScoped (with_name z kind.Value (with_name y kind.Value (with_name x k s))) b
+      → IsNew (with_name y kind.Value s) (Some z) × IsScoped (with_name x k (with_name z kind.Value (with_name y kind.Value s))) b
+  under_both s k y z b new other h =
+      let inner = with_name y kind.Value s in
+      let order = other_order s k kind.Value (Some y) new in
+      let there : IsNew (with_name x k inner) (Some z) = subst (λ (scope : ℕ → Option NameKind). IsNew scope (Some z)) order other in
+      let part = subst (λ (scope : ℕ → Option NameKind). IsScoped (with_name z kind.Value scope) b) order h in
+      (new_without inner k (Some z) there, under inner k kind.Value (Some z) b there part)
+
   pub put_scoped : (s : ℕ → Option NameKind) (k : NameKind) (t : Term) → IsScoped (with_name x k s) t → IsScoped s (put x n t)
   put_scoped s k (Pure a) h = put_arg_scoped s k kind.Value a h
   put_scoped s k (Raise a) h = put_arg_scoped s k kind.Value a h
@@ -77,6 +88,19 @@ module _ (x n : ℕ) where
     put_scoped (with_named y kind.Value s) k u (under s k kind.Value y u h.1 h.2),
     put_scoped (with_named y kind.Value s) k r (under s k kind.Value y r h.1 h.3),
   )
+  put_scoped s k (BracketCase y a u z b w c d) h =
+      let inner = with_name y kind.Value s in
+      let success = under_both s k y z b h.1 h.3 h.4 in
+      let failure = under_both s k y w c h.1 h.5 h.6 in (
+        put_scoped s k a h.0,
+        new_without s k (Some y) h.1,
+        put_scoped inner k u (under s k kind.Value (Some y) u h.1 h.2),
+        success.0,
+        put_scoped (with_name z kind.Value inner) k b success.1,
+        failure.0,
+        put_scoped (with_name w kind.Value inner) k c failure.1,
+        put_scoped inner k d (under s k kind.Value (Some y) d h.1 h.7),
+      )
   put_scoped s k (Start i a b) h =
       let inner = subst (λ (scope : ℕ → Option NameKind). IsScoped scope a) (in_another_fiber s k) h.0 in (
         put_scoped (elsewhere s) (kind_elsewhere k) a inner,
@@ -96,6 +120,14 @@ module _ (x n : ℕ) where
   put_scoped s k (Masked r a) h = put_scoped s k a h
   put_scoped s k (Opened r a) h = put_scoped s k a h
   put_scoped s k (InUse j a r) h = (put_scoped s k a h.0, put_scoped s k r h.1)
+  put_scoped s k (InUseCase j u y b z c d) h = (
+    put_scoped s k u h.0,
+    new_without s k (Some y) h.1,
+    put_scoped (with_name y kind.Value s) k b (under s k kind.Value (Some y) b h.1 h.2),
+    new_without s k (Some z) h.3,
+    put_scoped (with_name z kind.Value s) k c (under s k kind.Value (Some z) c h.3 h.4),
+    put_scoped s k d h.5,
+  )
   put_scoped s k (InRelease j a v) h = put_scoped s k a h
   put_scoped s k (Loop i j c a) h = (new_without s k (Some i) h.0, put_scoped (with_name i kind.Value s) k a (under s k kind.Value (Some i) a h.0 h.1))
   put_scoped s k _ h = tt
@@ -128,6 +160,8 @@ module _ (x n : ℕ) where
     put_given k (Poll p a) u g h = put_given k a u.1 g h
     put_given k (OnCancel a f) u g h = (put_given k a u.0 g h.0, put_given k f u.1 g h.1)
     put_given k (Bracket y a v r) u g h = (put_given k a u.0 g h.0, put_given k v u.1 g h.1, put_given k r u.2 g h.2)
+    put_given k (BracketCase y a v z b w c d) u g h =
+        (put_given k a u.0 g h.0, put_given k v u.1 g h.1, put_given k b u.2 g h.2, put_given k c u.3 g h.3, put_given k d u.4 g h.4)
     put_given k (Start i a b) u g h = (put_given (kind_elsewhere k) a u.0 (λ e. g (fiber_elsewhere k e)) h.0, put_given k b u.1 g h.1)
     put_given k (Join f y a e b c) u g h = (put_arg_given k f u.0 g h.0, put_given k a u.1 g h.1, put_given k b u.2 g h.2, put_given k c u.3 g h.3)
     put_given k (Cancel f) u g h = put_arg_given k f u g h
@@ -136,6 +170,7 @@ module _ (x n : ℕ) where
     put_given k (Masked r a) u g h = put_given k a u g h
     put_given k (Opened r a) u g h = put_given k a u g h
     put_given k (InUse j a r) u g h = (put_given k a u.0 g h.0, put_given k r u.1 g h.1)
+    put_given k (InUseCase j a y b z c d) u g h = (put_given k a u.0 g h.0, put_given k b u.1 g h.1, put_given k c u.2 g h.2, put_given k d u.3 g h.3)
     put_given k (InRelease j a v) u g h = put_given k a u g h
     put_given k (Loop i j c a) u g h = put_given k a u g h
     put_given k (Await f) u g h = h

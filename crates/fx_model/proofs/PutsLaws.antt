@@ -1,7 +1,7 @@
 -- What a fiber has put and what it can still put are never more together than its term has.
 use Rattle.std.proofs.Common.{◌≡◌, ℕ, ◌+◌, ◌-◌, ◌≤◌, Bool, List, [], ◌∷◌, refl, arith}
-use Rattle.fx_term.specs.Term.{Finished, Term, Let, Handle, If, For, Mask, Poll, OnCancel, Bracket, Start, Join, TryTake, Masked, Opened, InUse, InRelease}
-use Rattle.fx_term.specs.Term.{Loop, put}
+use Rattle.fx_term.specs.Term.{Finished, Term, Let, Handle, If, For, Mask, Poll, OnCancel, Bracket, BracketCase, Start, Join, TryTake, Masked, Opened, InUse}
+use Rattle.fx_term.specs.Term.{InUseCase, InRelease, Loop, put}
 use Rattle.fx_model.specs.Path.{Context, LetIn, plug, cleanup_terms}
 use Rattle.fx_model.proofs.Measures.{kept_by_name, branch_within, one_turn, cleanups_within}
 use Rattle.fx_term.specs.declared.done.Done.TheVariants.{Val}
@@ -23,12 +23,15 @@ put_puts x n (Mask y a) = let p = put_puts x n a in cc
 put_puts x n (Poll v a) = let p = put_puts x n a in cc
 put_puts x n (OnCancel a b) = let p = put_puts x n a in let q = put_puts x n b in cc
 put_puts x n (Bracket y a b c) = let p = put_puts x n a in let q = put_puts x n b in let r = put_puts x n c in cc
+put_puts x n (BracketCase y a u z b w c d) =
+    let o = put_puts x n a in let p = put_puts x n u in let q = put_puts x n b in let r = put_puts x n c in let s = put_puts x n d in cc
 put_puts x n (Start y a b) = let p = put_puts x n a in let q = put_puts x n b in cc
 put_puts x n (Join v y a z b c) = let p = put_puts x n a in let q = put_puts x n b in let r = put_puts x n c in cc
 put_puts x n (TryTake k y a b) = let p = put_puts x n a in let q = put_puts x n b in cc
 put_puts x n (Masked k a) = let p = put_puts x n a in cc
 put_puts x n (Opened k a) = let p = put_puts x n a in cc
 put_puts x n (InUse k a b) = let p = put_puts x n a in let q = put_puts x n b in cc
+put_puts x n (InUseCase k a y b z c d) = let p = put_puts x n a in let q = put_puts x n b in let r = put_puts x n c in let s = put_puts x n d in cc
 put_puts x n (InRelease k a v) = let p = put_puts x n a in cc
 put_puts x n (Loop y k c a) = let p = put_puts x n a in cc
 put_puts x n _ = refl
@@ -47,6 +50,10 @@ row_puts (row.let_value {x = x} {n = n} {b = b}) = let p = kept_by_name puts put
 row_puts (row.handle_error {x = x} {e = e} {b = b}) = let p = kept_by_name puts put_puts x e b in omega arith
 row_puts {c = c} (row.mask {p = p} {t = a}) = let q = put_puts p c.masks a in omega arith
 row_puts (row.acquired {x = x} {n = n} {u = u} {r = r}) = let p = kept_by_name puts put_puts x n u in let q = kept_by_name puts put_puts x n r in omega arith
+row_puts {c = c} (row.acquired_case {x = x} {y = y} {z = z} {n = n} {u = u} {s = s} {e = e} {d = d}) =
+    let p = put_puts x n (InUseCase c.acquired u y s z e d) in omega arith
+row_puts (row.use_succeeded {y = y} {n = n} {s = s}) = let p = put_puts y n s in omega arith
+row_puts (row.use_erred {z = z} {i = i} {e = e}) = let p = put_puts z i e in omega arith
 row_puts {c = c} (row.start {h = h} {b = b}) = let p = put_puts h c.next b in omega arith
 row_puts (row.joined {x = x} {e = e} {a = a} {b = b} {d = g} {o = o}) = let p = branch_within puts put_puts o x e a b g in omega arith
 row_puts (row.tried_take {n = n} {x = x} {a = a}) = let p = put_puts x n a in omega arith
@@ -57,7 +64,8 @@ row_puts _ = omega arith
 -- the clean-ups of a path are a part of the term
 clean_ups_puts : (t : Term) → clean_up_puts (cleanup_terms t) ≤ puts t
 clean_ups_puts t =
-    let within = cleanups_within puts 0 0 (λ t. omega arith) (λ a f. omega arith) (λ k a r. omega arith) (λ f a. let p = puts_plug f a in omega arith) t in
+    let within = cleanups_within puts 0 0 (λ t. omega arith) (λ a f. omega arith) (λ k a r. omega arith) (λ k a y s z e d. omega arith)
+    (λ f a. let p = puts_plug f a in omega arith) t in
     omega arith
 
 -- each step of a fiber

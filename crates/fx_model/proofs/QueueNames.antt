@@ -4,10 +4,10 @@ use Rattle.std.proofs.lemmas.List.Elements.{All-nil, All-cons, All-head, All-tai
 use Rattle.fx_term.specs.declared.outcome.Outcome.{Outcome}
 use Rattle.fx_term.specs.declared.outcome.Outcome.TheVariants as outcome
 use Rattle.fx_term.specs.declared.event.Event.TheVariants as event
-use Rattle.fx_term.specs.Term.{Term, Let, Handle, If, For, Mask, Poll, OnCancel, Bracket, Start, Join, Offer, TryOffer, Take, TryTake, Masked, Opened, InUse}
-use Rattle.fx_term.specs.Term.{InRelease, Loop, put, put_named}
+use Rattle.fx_term.specs.Term.{Term, Let, Handle, If, For, Mask, Poll, OnCancel, Bracket, BracketCase, Start, Join, Offer, TryOffer, Take, TryTake, Masked}
+use Rattle.fx_term.specs.Term.{Opened, InUse, InUseCase, InRelease, Loop, put, put_named}
 use Rattle.fx_term.specs.QueuesNamed.{NamesQueuesBelow, NamesQueueBelow}
-use Rattle.fx_model.specs.Path.{Context, OnCancelIn, AcquireIn, MaskedIn, OpenedIn, InUseIn, InReleaseIn, plug, cleanups_with}
+use Rattle.fx_model.specs.Path.{Context, OnCancelIn, AcquireIn, AcquireCaseIn, MaskedIn, OpenedIn, InUseIn, InUseCaseIn, InReleaseIn, plug, cleanups_with}
 use Rattle.fx_model.specs.Row.{Counts, Label, Silent, Shows, Learns, Starts, part_after, Row}
 use Rattle.fx_model.specs.Row as row
 use Rattle.fx_model.specs.Step.{Progress, Runs, AreAll, IsProgressOf, Step}
@@ -28,6 +28,7 @@ module _ (n k : ℕ) (le : n ≤ k) where
   below_more (Poll p a) h = below_more a h
   below_more (OnCancel a f) h = (below_more a h.0, below_more f h.1)
   below_more (Bracket x a u r) h = (below_more a h.0, below_more u h.1, below_more r h.2)
+  below_more (BracketCase x a u y s z e d) h = (below_more a h.0, below_more u h.1, below_more s h.2, below_more e h.3, below_more d h.4)
   below_more (Start i a b) h = (below_more a h.0, below_more b h.1)
   below_more (Join f x a e b c) h = (below_more a h.0, below_more b h.1, below_more c h.2)
   below_more (Offer q v) h = omega arith
@@ -37,6 +38,7 @@ module _ (n k : ℕ) (le : n ≤ k) where
   below_more (Masked r a) h = below_more a h
   below_more (Opened r a) h = below_more a h
   below_more (InUse j a r) h = (below_more a h.0, below_more r h.1)
+  below_more (InUseCase j a y s z e d) h = (below_more a h.0, below_more s h.1, below_more e h.2, below_more d h.3)
   below_more (InRelease j a v) h = below_more a h
   below_more (Loop i j c a) h = below_more a h
   below_more _ h = tt
@@ -66,6 +68,8 @@ module _ (n : ℕ) where
   put_names x v (Poll p a) h = put_names x v a h
   put_names x v (OnCancel a f) h = (put_names x v a h.0, put_names x v f h.1)
   put_names x v (Bracket y a u r) h = (put_names x v a h.0, put_names x v u h.1, put_names x v r h.2)
+  put_names x v (BracketCase y a u z s w e d) h =
+      (put_names x v a h.0, put_names x v u h.1, put_names x v s h.2, put_names x v e h.3, put_names x v d h.4)
   put_names x v (Start i a b) h = (put_names x v a h.0, put_names x v b h.1)
   put_names x v (Join f y a e b c) h = (put_names x v a h.0, put_names x v b h.1, put_names x v c h.2)
   put_names x v (Offer q w) h = h
@@ -75,6 +79,7 @@ module _ (n : ℕ) where
   put_names x v (Masked r a) h = put_names x v a h
   put_names x v (Opened r a) h = put_names x v a h
   put_names x v (InUse k a r) h = (put_names x v a h.0, put_names x v r h.1)
+  put_names x v (InUseCase k a y s z e d) h = (put_names x v a h.0, put_names x v s h.1, put_names x v e h.2, put_names x v d h.3)
   put_names x v (InRelease k a w) h = put_names x v a h
   put_names x v (Loop i k c a) h = put_names x v a h
   put_names x v _ h = tt
@@ -94,6 +99,8 @@ module _ (n : ℕ) where
   names_inside : (f : Context) (a : Term) → NamesQueuesBelow n (plug f a)
       → NamesQueuesBelow n a × ((b : Term) → NamesQueuesBelow n b → NamesQueuesBelow n (plug f b))
   names_inside (AcquireIn x u r) a h = (h.0, λ b k. (k, h.1, h.2))
+  names_inside (AcquireCaseIn x u y s z e d) a h = (h.0, λ b k. (k, h.1, h.2, h.3, h.4))
+  names_inside (InUseCaseIn i y s z e d) a h = (h.0, λ b k. (k, h.1, h.2, h.3))
   names_inside (MaskedIn r) a h = (h, λ b k. k)
   names_inside (OpenedIn r) a h = (h, λ b k. k)
   names_inside (InReleaseIn i v) a h = (h, λ b k. k)
@@ -111,6 +118,10 @@ module _ (n : ℕ) where
   row_names row.poll h = (h, tt)
   row_names (row.acquired {x = x} {n = v} {u = u} {r = r}) h = ((put_named_names x v u h.1, put_named_names x v r h.2), tt)
   row_names row.used h = (h.1, tt)
+  row_names {c = c} (row.acquired_case {x = x} {y = y} {z = z} {n = v} {u = u} {s = s} {e = e} {d = d}) h =
+      (put_names x v (InUseCase c.acquired u y s z e d) (h.1, h.2, h.3, h.4), tt)
+  row_names (row.use_succeeded {y = y} {n = v} {s = s}) h = (put_names y v s h.1, tt)
+  row_names (row.use_erred {z = z} {i = v} {e = e}) h = (put_names z v e h.2, tt)
   row_names {c = c} (row.start {h = i} {b = b}) h = (put_names i c.next b h.1, h.0)
   row_names (row.joined {x = x} {e = e} {a = a} {b = b} {d = g} {o = o}) h = (branch_names o x e a b g h, tt)
   row_names row.offered h = (tt, h)
@@ -128,6 +139,7 @@ module _ (n : ℕ) where
   clean_up_part : (f : Context) (a : Term) → NamesQueuesBelow n (plug f a) → NamesQueuesBelow n a × AreAll (NamesQueuesBelow n) (cleanups_with f [])
   clean_up_part (OnCancelIn f) a h = (h.0, (h.1, tt))
   clean_up_part (InUseIn k r) a h = (h.0, (h.1, tt))
+  clean_up_part (InUseCaseIn k y s z e d) a h = (h.0, (h.3, tt))
   clean_up_part f a h = ((names_inside f a h).0, tt)
 
   -- each step of a fiber

@@ -1,7 +1,7 @@
 -- A fiber's range has room for all that its term can start.
 use Rattle.std.proofs.Common.{◌≡◌, ℕ, ◌+◌, ◌-◌, ◌≤◌, Bool, List, [], ◌∷◌, refl, arith}
-use Rattle.fx_term.specs.Term.{Finished, Term, Let, Handle, If, For, Mask, Poll, OnCancel, Bracket, Start, Join, TryTake, Masked, Opened, InUse, InRelease}
-use Rattle.fx_term.specs.Term.{Loop, put}
+use Rattle.fx_term.specs.Term.{Finished, Term, Let, Handle, If, For, Mask, Poll, OnCancel, Bracket, BracketCase, Start, Join, TryTake, Masked, Opened, InUse}
+use Rattle.fx_term.specs.Term.{InUseCase, InRelease, Loop, put}
 use Rattle.fx_term.specs.Need.{need}
 use Rattle.fx_model.specs.Path.{Context, LetIn, plug, cleanup_terms}
 use Rattle.fx_model.proofs.Measures.{kept_by_name, branch_within, one_turn, cleanups_within}
@@ -25,12 +25,15 @@ put_need x n (Mask y a) = let p = put_need x n a in cc
 put_need x n (Poll v a) = let p = put_need x n a in cc
 put_need x n (OnCancel a b) = let p = put_need x n a in let q = put_need x n b in cc
 put_need x n (Bracket y a b c) = let p = put_need x n a in let q = put_need x n b in let r = put_need x n c in cc
+put_need x n (BracketCase y a u z b w c d) =
+    let o = put_need x n a in let p = put_need x n u in let q = put_need x n b in let r = put_need x n c in let s = put_need x n d in cc
 put_need x n (Start y a b) = let p = put_need x n a in let q = put_need x n b in cc
 put_need x n (Join v y a z b c) = let p = put_need x n a in let q = put_need x n b in let r = put_need x n c in cc
 put_need x n (TryTake k y a b) = let p = put_need x n a in let q = put_need x n b in cc
 put_need x n (Masked k a) = let p = put_need x n a in cc
 put_need x n (Opened k a) = let p = put_need x n a in cc
 put_need x n (InUse k a b) = let p = put_need x n a in let q = put_need x n b in cc
+put_need x n (InUseCase k a y b z c d) = let p = put_need x n a in let q = put_need x n b in let r = put_need x n c in let s = put_need x n d in cc
 put_need x n (InRelease k a v) = let p = put_need x n a in cc
 put_need x n (Loop y k c a) = let p = put_need x n a in cc
 put_need x n _ = refl
@@ -49,6 +52,10 @@ row_need (row.let_value {x = x} {n = n} {b = b}) = let p = kept_by_name need put
 row_need (row.handle_error {x = x} {e = e} {b = b}) = let p = kept_by_name need put_need x e b in omega arith
 row_need {c = c} (row.mask {p = p} {t = a}) = let q = put_need p c.masks a in omega arith
 row_need (row.acquired {x = x} {n = n} {u = u} {r = r}) = let p = kept_by_name need put_need x n u in let q = kept_by_name need put_need x n r in omega arith
+row_need {c = c} (row.acquired_case {x = x} {y = y} {z = z} {n = n} {u = u} {s = s} {e = e} {d = d}) =
+    let p = put_need x n (InUseCase c.acquired u y s z e d) in omega arith
+row_need (row.use_succeeded {y = y} {n = n} {s = s}) = let p = put_need y n s in omega arith
+row_need (row.use_erred {z = z} {i = i} {e = e}) = let p = put_need z i e in omega arith
 row_need {c = c} (row.start {h = h} {b = b}) = let p = put_need h c.next b in omega arith
 row_need (row.joined {x = x} {e = e} {a = a} {b = b} {d = g} {o = o}) = let p = branch_within need put_need o x e a b g in omega arith
 row_need (row.tried_take {n = n} {x = x} {a = a}) = let p = put_need x n a in omega arith
@@ -59,7 +66,8 @@ row_need _ = omega arith
 -- the clean-ups of a path are a part of the term
 clean_ups_need : (t : Term) → clean_up_need (cleanup_terms t) ≤ need t
 clean_ups_need t =
-    let within = cleanups_within need 0 0 (λ t. omega arith) (λ a f. omega arith) (λ k a r. omega arith) (λ f a. let p = need_plug f a in omega arith) t in
+    let within = cleanups_within need 0 0 (λ t. omega arith) (λ a f. omega arith) (λ k a r. omega arith) (λ k a y s z e d. omega arith)
+    (λ f a. let p = need_plug f a in omega arith) t in
     omega arith
 
 pub step_need : {c d : Counts} {p q : Progress} {l : Label} → Step c p l d q → d.next + need_left q ≤ c.next + need_left p

@@ -4,7 +4,7 @@ use Rattle.fx_term.specs.declared.outcome.Outcome.{Outcome}
 use Rattle.fx_term.specs.declared.outcome.Outcome.TheVariants as outcome
 use Rattle.fx_term.specs.Term.{Term, put, put_named}
 use Rattle.fx_term.specs.Forms.{IsCore}
-use Rattle.fx_model.specs.Path.{Context, InUseIn, InReleaseIn, plug}
+use Rattle.fx_model.specs.Path.{Context, InUseIn, InUseCaseIn, InReleaseIn, plug}
 use Rattle.fx_model.specs.Row.{Counts, Label, Row, part_after}
 use Rattle.fx_model.specs.Row as row
 use Rattle.fx_term.proofs.CoreTerms.{core_put, core_put_named}
@@ -25,6 +25,7 @@ core_part_after outcome.Canceled x e a b d p q r = r
 -- what is held in the part of a context that runs is held in the whole
 context_changes : (l : Label) (f : Context) (a a' : Term) → Changes l (held_in a) (held_in a') → Changes l (held_in (plug f a)) (held_in (plug f a'))
 context_changes l (InUseIn k r) a a' h = changes_inside _ _ _ _ h
+context_changes l (InUseCaseIn k y s z e d) a a' h = changes_inside _ _ _ _ h
 context_changes l (InReleaseIn k v) a a' h = changes_inside _ _ _ _ h
 context_changes l _ a a' h = h
 
@@ -42,6 +43,13 @@ row_keeps_running {c = c} (row.acquired {x = x} {n = n} {u = u} {r = r}) h =
     let g = begun (put_named x n u) (core_put_named x n u h.1) in
     ((g.0, core_put_named x n r h.2), ap (λ (s : List Held). s ++ Unreleased c.acquired ∷ []) g.1)
 row_keeps_running (row.used {k = j} {r = r}) h = let g = begun r h.1 in (g.0, ([], refl, ap (λ (s : List Held). s ++ BeingReleased j ∷ []) g.1))
+row_keeps_running {c = c} (row.acquired_case {x = x} {n = n} {u = u} {s = s} {e = e} {d = d}) h =
+    let g = begun (put x n u) (core_put x n u h.1) in
+    ((g.0, core_put x n s h.2, core_put x n e h.3, core_put x n d h.4), ap (λ (held : List Held). held ++ Unreleased c.acquired ∷ []) g.1)
+row_keeps_running (row.use_succeeded {k = j} {y = y} {n = n} {s = s}) h =
+    let g = begun (put y n s) (core_put y n s h.1) in (g.0, ([], refl, ap (λ (held : List Held). held ++ BeingReleased j ∷ []) g.1))
+row_keeps_running (row.use_erred {k = j} {z = z} {i = i} {e = e}) h =
+    let g = begun (put z i e) (core_put z i e h.2) in (g.0, ([], refl, ap (λ (held : List Held). held ++ BeingReleased j ∷ []) g.1))
 row_keeps_running {c = c} (row.start {h = x} {b = b}) h = begun (put x c.next b) (core_put x c.next b h.1)
 row_keeps_running (row.joined {x = x} {e = e} {a = a} {b = b} {d = d} {o = o}) h =
     let g = begun (part_after o x a e b d) (core_part_after o x e a b d h.0 h.1 h.2) in (g.0, (g.1, tt))

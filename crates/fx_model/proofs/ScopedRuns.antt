@@ -4,11 +4,11 @@ use Rattle.std.proofs.lemmas.List.Elements.{All-nil, All-cons}
 use Rattle.fx_term.specs.declared.outcome.Outcome.{Outcome}
 use Rattle.fx_term.specs.declared.outcome.Outcome.TheVariants as outcome
 use Rattle.fx_term.specs.declared.event.Event.TheVariants as event
-use Rattle.fx_term.specs.Term.{Term, Let, Handle, OnCancel, Bracket, Masked, Opened, InUse, InRelease, put, put_named}
+use Rattle.fx_term.specs.Term.{Term, Let, Handle, OnCancel, Bracket, BracketCase, Masked, Opened, InUse, InUseCase, InRelease, put, put_named}
 use Rattle.fx_term.specs.declared.name_kind.NameKind.{NameKind}
 use Rattle.fx_term.specs.declared.name_kind.NameKind.TheVariants as kind
 use Rattle.fx_term.specs.Scope.{with_name, with_named, IsScoped}
-use Rattle.fx_model.specs.Path.{Context, LetIn, HandleIn, OnCancelIn, AcquireIn, InUseIn, plug, cleanups_with, leaf}
+use Rattle.fx_model.specs.Path.{Context, LetIn, HandleIn, OnCancelIn, AcquireIn, AcquireCaseIn, InUseIn, InUseCaseIn, plug, cleanups_with, leaf}
 use Rattle.fx_model.specs.Origin.{Origin}
 use Rattle.fx_model.specs.Row.{Counts, Label, Shows, Starts, Row, part_after}
 use Rattle.fx_model.specs.Row as row
@@ -52,7 +52,11 @@ module _ (is_given : ℕ → Bool) where
   inside_over (HandleIn x b) a h = ((h.0.0, h.1.0), λ t k. ((k.0, h.0.1, h.0.2), (k.1, h.1.1)))
   inside_over (OnCancelIn f) a h = ((h.0.0, h.1.0), λ t k. ((k.0, h.0.1), (k.1, h.1.1)))
   inside_over (AcquireIn x u r) a h = ((h.0.0, h.1.0), λ t k. ((k.0, h.0.1, h.0.2, h.0.3), (k.1, h.1.1, h.1.2)))
+  inside_over (AcquireCaseIn x u y s z e d) a h =
+      ((h.0.0, h.1.0), λ t k. ((k.0, h.0.1, h.0.2, h.0.3, h.0.4, h.0.5, h.0.6, h.0.7), (k.1, h.1.1, h.1.2, h.1.3, h.1.4)))
   inside_over (InUseIn i r) a h = ((h.0.0, h.1.0), λ t k. ((k.0, h.0.1), (k.1, h.1.1)))
+  inside_over (InUseCaseIn i y s z e d) a h =
+      ((h.0.0, h.1.0), λ t k. ((k.0, h.0.1, h.0.2, h.0.3, h.0.4, h.0.5), (k.1, h.1.1, h.1.2, h.1.3)))
   inside_over _ a h = (h, λ t k. k)
 
   -- so is the leaf of a term
@@ -61,9 +65,11 @@ module _ (is_given : ℕ → Bool) where
   leaf_over (Handle a x b) h = leaf_over a (h.0.0, h.1.0)
   leaf_over (OnCancel a f) h = leaf_over a (h.0.0, h.1.0)
   leaf_over (Bracket x a u r) h = leaf_over a (h.0.0, h.1.0)
+  leaf_over (BracketCase x a u y s z e d) h = leaf_over a (h.0.0, h.1.0)
   leaf_over (Masked r a) h = leaf_over a h
   leaf_over (Opened r a) h = leaf_over a h
   leaf_over (InUse k a r) h = leaf_over a (h.0.0, h.1.0)
+  leaf_over (InUseCase k a y s z e d) h = leaf_over a (h.0.0, h.1.0)
   leaf_over (InRelease k a v) h = leaf_over a h
   leaf_over t h = h
 
@@ -93,6 +99,10 @@ module _ (is_given : ℕ → Bool) where
       let q = put_named_value x n r h.0.3 h.1.2 in
       (((p.0, q.0), (p.1, q.1)), tt)
   row_over row.used g h = ((h.0.1, h.1.1), tt)
+  row_over {c = c} (row.acquired_case {x = x} {y = y} {z = z} {n = n} {u = u} {s = s} {e = e} {d = d}) g h =
+      (put_value x n (InUseCase c.acquired u y s z e d) (h.0.2, h.0.3, h.0.4, h.0.5, h.0.6, h.0.7) (h.1.1, h.1.2, h.1.3, h.1.4), tt)
+  row_over (row.use_succeeded {y = y} {n = n} {s = s}) g h = (put_value y n s h.0.2 h.1.1, tt)
+  row_over (row.use_erred {z = z} {i = i} {e = e}) g h = (put_value z i e h.0.4 h.1.2, tt)
   row_over {c = c} (row.start {h = x} {a = a} {b = b}) g h =
       (put_over kind.Fiber x c.next b (λ e. g c.next (omega arith) (omega arith)) h.0.2 h.1.1, (h.0.0, h.1.0))
   row_over (row.joined {x = x} {e = e} {a = a} {b = b} {d = d} {o = o}) g h = (branch_over o x e a b d h.0.2 h.1.1 h.0.4 h.1.2 (h.0.5, h.1.3), tt)
@@ -108,6 +118,7 @@ module _ (is_given : ℕ → Bool) where
   part_over : (f : Context) (a : Term) → IsScopedOver is_given (plug f a) → IsScopedOver is_given a × AreAll (IsScopedOver is_given) (cleanups_with f [])
   part_over (OnCancelIn f) a h = ((h.0.0, h.1.0), ((h.0.1, h.1.1), tt))
   part_over (InUseIn k r) a h = ((h.0.0, h.1.0), ((h.0.1, h.1.1), tt))
+  part_over (InUseCaseIn k y s z e d) a h = ((h.0.0, h.1.0), ((h.0.5, h.1.3), tt))
   part_over f a h = ((inside_over f a h).0, tt)
 
   pub step_over : {c d : Counts} {p q : Progress} {l : Label} → Step c p l d q → GivesTaken c d → IsProgressScopedOver is_given p

@@ -77,6 +77,15 @@ row_tells row.acquired =
       numbered = record { count = 1; after = refl; numbers = refl };
       counted = omega arith;
     }
+row_tells row.acquired_case =
+    record {
+      proper = tt;
+      takes = refl;
+      end = refl;
+      known = λ h. h;
+      numbered = record { count = 1; after = refl; numbers = refl };
+      counted = omega arith;
+    }
 row_tells (row.self_request closed) =
     record { proper = tt; takes = refl; end = refl; known = λ h. refl; numbered = none_acquired refl refl; counted = omega arith }
 row_tells _ = record { proper = tt; takes = refl; end = refl; known = λ h. h; numbered = none_acquired refl refl; counted = omega arith }

@@ -3,8 +3,8 @@ use Rattle.std.proofs.Common.{◌≤◌, length, All, ◌≡◌, ◌≢◌, ℕ,
 use Rattle.std.proofs.lemmas.List.Elements.{All-head, All-tail}
 use Rattle.fx_term.specs.declared.done.Done.TheVariants.{Val}
 use Rattle.fx_term.specs.declared.event.Event.TheVariants as event
-use Rattle.fx_term.specs.Term.{Term, Never, Let, Handle, If, For, Mask, Poll, OnCancel, Bracket, Start, Join, TryTake, Finished, Masked, Opened, InUse}
-use Rattle.fx_term.specs.Term.{InRelease, Loop, put}
+use Rattle.fx_term.specs.Term.{Term, Never, Let, Handle, If, For, Mask, Poll, OnCancel, Bracket, BracketCase, Start, Join, TryTake, Finished, Masked, Opened}
+use Rattle.fx_term.specs.Term.{InUse, InUseCase, InRelease, Loop, put}
 use Rattle.fx_model.specs.Path.{Context, LetIn, plug, cleanup_terms}
 use Rattle.fx_model.specs.Row.{Counts, Label, Shows, part_after, Row}
 use Rattle.fx_model.specs.Row as row
@@ -26,12 +26,15 @@ work_put x n (Mask y a) = let p = work_put x n a in cc
 work_put x n (Poll v a) = let p = work_put x n a in cc
 work_put x n (OnCancel a b) = let p = work_put x n a in let q = work_put x n b in cc
 work_put x n (Bracket y a b c) = let p = work_put x n a in let q = work_put x n b in let r = work_put x n c in cc
+work_put x n (BracketCase y a u z b w c d) =
+    let o = work_put x n a in let p = work_put x n u in let q = work_put x n b in let r = work_put x n c in let s = work_put x n d in cc
 work_put x n (Start y a b) = let p = work_put x n a in let q = work_put x n b in cc
 work_put x n (Join v y a z b c) = let p = work_put x n a in let q = work_put x n b in let r = work_put x n c in cc
 work_put x n (TryTake k y a b) = let p = work_put x n a in let q = work_put x n b in cc
 work_put x n (Masked k a) = let p = work_put x n a in cc
 work_put x n (Opened k a) = let p = work_put x n a in cc
 work_put x n (InUse k a b) = let p = work_put x n a in let q = work_put x n b in cc
+work_put x n (InUseCase k a y b z c d) = let p = work_put x n a in let q = work_put x n b in let r = work_put x n c in let s = work_put x n d in cc
 work_put x n (InRelease k a v) = let p = work_put x n a in cc
 work_put x n (Loop y k c a) = let p = work_put x n a in cc
 work_put x n _ = refl
@@ -54,6 +57,10 @@ row_lowers k c d l t t' (row.handle_error {x = x} {e = e} {b = b}) = let p = kep
 row_lowers k c d l t t' (row.mask {p = p} {t = a}) = let q = work_put p c.masks a in omega arith
 row_lowers k c d l t t' (row.acquired {x = x} {n = n} {u = u} {r = r}) =
     let p = kept_by_name work work_put x n u in let q = kept_by_name work work_put x n r in omega arith
+row_lowers k c d l t t' (row.acquired_case {x = x} {y = y} {z = z} {n = n} {u = u} {s = s} {e = e} {d = g}) =
+    let p = work_put x n (InUseCase c.acquired u y s z e g) in omega arith
+row_lowers k c d l t t' (row.use_succeeded {y = y} {n = n} {s = s} {e = e} {d = g}) = let p = work_put y n s in omega arith
+row_lowers k c d l t t' (row.use_erred {z = z} {i = i} {s = s} {e = e} {d = g}) = let p = work_put z i e in omega arith
 row_lowers k c d l t t' (row.start {h = h} {b = b}) = let p = work_put h c.next b in omega arith
 row_lowers k c d l t t' (row.joined {x = x} {e = e} {a = a} {b = b} {d = g} {o = o}) =
     let p = branch_within work work_put o x e a b g in omega arith
@@ -70,7 +77,7 @@ some_work _ = omega arith
 clean_ups_lower : (t : Term) → clean_up_work (cleanup_terms t) < work t
 clean_ups_lower t =
     let within = cleanups_within work 2 1 some_work (λ a f. omega arith) (λ k a r. omega arith)
-    (λ f a. let p = work_plug f a in let q = some_work (plug f (Finished (Val 0))) in omega arith) t in
+    (λ k a y s z e d. omega arith) (λ f a. let p = work_plug f a in let q = some_work (plug f (Finished (Val 0))) in omega arith) t in
     omega arith
 
 -- each step leaves less work, but for a request that is seen

@@ -24,6 +24,10 @@ little_three : (turns k e d c s r q : ℕ) → k ≤ 5 → turns ≤ most_turns 
     → IsLittle turns (k + e + d + c) (1 + s + r + q)
 little_three turns k e d c s r q few fits h i j = grind arith
 
+little_five : (turns k e d c b a s r q p o : ℕ) → k ≤ 5 → turns ≤ most_turns → IsLittle turns e s → IsLittle turns d r → IsLittle turns c q
+    → IsLittle turns b p → IsLittle turns a o → IsLittle turns (k + e + d + c + b + a) (1 + s + r + q + p + o)
+little_five turns k e d c b a s r q p o few fits h i j l m = grind arith
+
 little_loop : (turns count e s : ℕ) → turns ≤ most_turns → turns_of_loop turns count ≤ most_turns → IsLittle (turns_of_loop turns count) e s
     → IsLittle turns (3 + count * (2 + e)) (1 + s)
 little_loop turns count e s fits few h = grind arith
@@ -41,6 +45,9 @@ little_node (Some (node.Poll p a)) term turns fits few h = little_one turns 2 _ 
 little_node (Some (node.OnCancel a b)) term turns fits few h = little_two turns 2 _ _ _ _ (omega arith) fits (h a.0 turns fits few.0) (h b.0 turns fits few.1)
 little_node (Some (node.Bracket x a b c)) term turns fits few h =
     little_three turns 3 _ _ _ _ _ _ (omega arith) fits (h a.0 turns fits few.0) (h b.0 turns fits few.1) (h c.0 turns fits few.2)
+little_node (Some (node.BracketCase x a u y s z e d)) term turns fits few h =
+    little_five turns 3 _ _ _ _ _ _ _ _ _ _ (omega arith) fits (h a.0 turns fits few.0) (h u.0 turns fits few.1) (h s.0 turns fits few.2)
+    (h e.0 turns fits few.3) (h d.0 turns fits few.4)
 little_node (Some (node.Start x a b)) term turns fits few h = little_two turns 3 _ _ _ _ (omega arith) fits (h a.0 turns fits few.0) (h b.0 turns fits few.1)
 little_node (Some (node.Join f x a e b c)) term turns fits few h =
     little_three turns 1 _ _ _ _ _ _ (omega arith) fits (h a.0 turns fits few.0) (h b.0 turns fits few.1) (h c.0 turns fits few.2)

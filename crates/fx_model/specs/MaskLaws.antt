@@ -2,8 +2,8 @@
 use Rattle.std.specs.Prelude.{◌≡◌, ◌↔◌, ℕ, Option, None, List, ◌∷◌}
 use Rattle.fx_term.specs.declared.node.Arg.TheVariants.{Number, Slot}
 use Rattle.fx_term.specs.declared.event.Event.TheVariants as event
-use Rattle.fx_term.specs.Term.{Term, Pure, Let, Handle, If, For, Mask, Poll, OnCancel, Bracket, Start, Join, TryTake, Finished, Masked, Opened, InUse}
-use Rattle.fx_term.specs.Term.{InRelease, Loop, Await}
+use Rattle.fx_term.specs.Term.{Term, Pure, Let, Handle, If, For, Mask, Poll, OnCancel, Bracket, BracketCase, Start, Join, TryTake, Finished, Masked, Opened}
+use Rattle.fx_term.specs.Term.{InUse, InUseCase, InRelease, Loop, Await}
 use Rattle.fx_term.specs.declared.name_kind.NameKind.{NameKind}
 use Rattle.fx_term.specs.declared.name_kind.NameKind.TheVariants as kind
 use Rattle.fx_term.specs.Scope.{with_name, IsScoped}
@@ -56,6 +56,7 @@ IsPlain (Poll (Slot p) a) = IsPlain a
 IsPlain (Poll (Number r) a) = ⊥
 IsPlain (OnCancel a f) = IsPlain a × IsPlain f
 IsPlain (Bracket x a u r) = IsPlain a × IsPlain u × IsPlain r
+IsPlain (BracketCase x a u y s z e d) = IsPlain a × IsPlain u × IsPlain s × IsPlain e × IsPlain d
 IsPlain (Start h a b) = IsPlain a × IsPlain b
 IsPlain (Join f x a e b c) = IsPlain a × IsPlain b × IsPlain c
 IsPlain (TryTake q x a b) = IsPlain a × IsPlain b
@@ -63,6 +64,7 @@ IsPlain (Finished v) = ⊥
 IsPlain (Masked r a) = ⊥
 IsPlain (Opened r a) = ⊥
 IsPlain (InUse k a r) = ⊥
+IsPlain (InUseCase k a y s z e d) = ⊥
 IsPlain (InRelease k a v) = ⊥
 IsPlain (Loop i k c a) = ⊥
 IsPlain (Await f) = ⊥

@@ -2,7 +2,7 @@
 use Rattle.std.specs.Prelude.{◌≡◌, ℕ, List, [], ◌∷◌, ◌++◌}
 use Rattle.fx_term.specs.declared.event.Event.TheVariants as event
 use Rattle.fx_term.specs.Term.{Term, Await}
-use Rattle.fx_model.specs.Path.{Context, AcquireIn, MaskedIn, OpenedIn, InReleaseIn, path, leaf}
+use Rattle.fx_model.specs.Path.{Context, AcquireIn, AcquireCaseIn, MaskedIn, OpenedIn, InReleaseIn, path, leaf}
 use Rattle.fx_model.specs.Row.{Counts, Label, Shows}
 use Rattle.fx_model.specs.Step.{Progress, Runs}
 use Rattle.fx_model.specs.Run.{Leads}
@@ -16,6 +16,7 @@ pub data Mark : Type 0 where
 -- what a context says of masks, the path of contexts, and the leaf
 abbrev pub marks_of : Context → List Mark
 marks_of (AcquireIn x u r) = Seals ∷ []
+marks_of (AcquireCaseIn x u y s z e d) = Seals ∷ []
 marks_of (MaskedIn r) = Closes r ∷ []
 marks_of (OpenedIn r) = Opens r ∷ []
 marks_of (InReleaseIn k v) = Seals ∷ []

@@ -1,8 +1,8 @@
 -- How many elements a fiber can still put.
 use Rattle.std.specs.Prelude.{ℕ, suc, ◌+◌, ◌-◌, ◌*◌, max, List, [], ◌∷◌}
 use Rattle.fx_term.specs.declared.event.Event.TheVariants as event
-use Rattle.fx_term.specs.Term.{Term, Let, Handle, If, For, Mask, Poll, OnCancel, Bracket, Start, Join, Offer, TryOffer, TryTake, Masked, Opened, InUse}
-use Rattle.fx_term.specs.Term.{InRelease, Loop}
+use Rattle.fx_term.specs.Term.{Term, Let, Handle, If, For, Mask, Poll, OnCancel, Bracket, BracketCase, Start, Join, Offer, TryOffer, TryTake, Masked, Opened}
+use Rattle.fx_term.specs.Term.{InUse, InUseCase, InRelease, Loop}
 use Rattle.fx_model.specs.Path.{CleanupTerm, over_cleanups}
 use Rattle.fx_model.specs.Row.{Label, Shows}
 use Rattle.fx_model.specs.Step.{Progress, Runs, Unwinds, CleansUp, HasEnded}
@@ -17,12 +17,14 @@ puts (Mask p a) = puts a
 puts (Poll p a) = puts a
 puts (OnCancel a f) = puts a + puts f
 puts (Bracket x a u r) = puts a + puts u + puts r
+puts (BracketCase x a u y s z e d) = puts a + puts u + max (puts s) (max (puts e) (puts d))
 puts (Start h a b) = puts b
 puts (Join f x a e b c) = max (puts a) (max (puts b) (puts c))
 puts (TryTake q x a b) = max (puts a) (puts b)
 puts (Masked r a) = puts a
 puts (Opened r a) = puts a
 puts (InUse k a r) = puts a + puts r
+puts (InUseCase k a y s z e d) = puts a + max (puts s) (max (puts e) (puts d))
 puts (InRelease k a v) = puts a
 puts (Loop i k n a) = (n - k) * puts a
 puts (Offer q v) = 1

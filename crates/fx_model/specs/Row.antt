@@ -8,8 +8,8 @@ use Rattle.fx_term.specs.declared.outcome.Outcome.TheVariants.{Succeeded, Errore
 use Rattle.fx_term.specs.declared.outcome.Outcome.TheVariants as outcome
 use Rattle.fx_term.specs.declared.event.Event.{Event}
 use Rattle.fx_term.specs.declared.event.Event.TheVariants as event
-use Rattle.fx_term.specs.Term.{Term, Pure, Raise, Canceled, Cede, Let, Handle, If, For, Mask, Poll, OnCancel, Bracket, Start, Join, Cancel, First, Offer}
-use Rattle.fx_term.specs.Term.{TryOffer, Take, TryTake, Finished, Masked, Opened, InUse, InRelease, Loop, Await, put, put_named}
+use Rattle.fx_term.specs.Term.{Term, Pure, Raise, Canceled, Cede, Let, Handle, If, For, Mask, Poll, OnCancel, Bracket, BracketCase, Start, Join, Cancel}
+use Rattle.fx_term.specs.Term.{First, Offer, TryOffer, Take, TryTake, Finished, Masked, Opened, InUse, InUseCase, InRelease, Loop, Await, put, put_named}
 use Rattle.fx_term.specs.Need.{need}
 use Rattle.fx_model.specs.Path.{Context, plug}
 use Rattle.fx_model.specs.Origin.{Origin, child_origin}
@@ -87,7 +87,15 @@ pub data Row (closed : Bool) (c : Counts) : Term → Label → Counts → Term �
       → Row closed c (Bracket x (Finished (Val n)) u r) (Shows (event.Acquired c.acquired)) (one_more_acquired c)
       (InUse c.acquired (put_named x n u) (put_named x n r))
   acquire_fails : {x : Option ℕ} {e : ℕ} {u r : Term} → Row closed c (Bracket x (Finished (Err e)) u r) Silent c (Finished (Err e))
+  acquired_case : {x y z n : ℕ} {u s e d : Term}
+      → Row closed c (BracketCase x (Finished (Val n)) u y s z e d) (Shows (event.Acquired c.acquired)) (one_more_acquired c)
+      (InUseCase c.acquired (put x n u) y (put x n s) z (put x n e) (put x n d))
+  acquire_case_fails : {x y z i : ℕ} {u s e d : Term} → Row closed c (BracketCase x (Finished (Err i)) u y s z e d) Silent c (Finished (Err i))
   used : {k : ℕ} {v : Done} {r : Term} → Row closed c (InUse k (Finished v) r) (Shows (event.Begin k)) c (InRelease k r v)
+  use_succeeded : {k y z n : ℕ} {s e d : Term}
+      → Row closed c (InUseCase k (Finished (Val n)) y s z e d) (Shows (event.Begin k)) c (InRelease k (put y n s) (Val n))
+  use_erred : {k y z i : ℕ} {s e d : Term}
+      → Row closed c (InUseCase k (Finished (Err i)) y s z e d) (Shows (event.Begin k)) c (InRelease k (put z i e) (Err i))
   released : {k : ℕ} {w v : Done} → Row closed c (InRelease k (Finished w) v) (Shows (event.End k)) c (Finished (after_release w v))
   start : {h : ℕ} {a b : Term} → Row closed c (Start h a b) (Starts c.next (child_origin c.next a)) (numbers_taken (1 + need a) c) (put h c.next b)
   joined : {f : ℕ} {x e : ℕ} {a b d : Term} {o : Outcome} → Row closed c (Join (Number f) x a e b d) (Learns f o (event.Joined f o)) c (part_after o x a e b d)

@@ -2,8 +2,8 @@
 use Rattle.std.specs.Prelude.{◌≡◌, ℕ, Bool, true, None}
 use Rattle.fx_term.specs.declared.node.Arg.{Arg}
 use Rattle.fx_term.specs.declared.node.Arg.TheVariants.{Number, Slot}
-use Rattle.fx_term.specs.Term.{Term, Let, Handle, If, For, Mask, Poll, OnCancel, Bracket, Start, Join, Cancel, First, TryTake, Masked, Opened, InUse, InRelease}
-use Rattle.fx_term.specs.Term.{Loop, Await}
+use Rattle.fx_term.specs.Term.{Term, Let, Handle, If, For, Mask, Poll, OnCancel, Bracket, BracketCase, Start, Join, Cancel, First, TryTake, Masked, Opened}
+use Rattle.fx_term.specs.Term.{InUse, InUseCase, InRelease, Loop, Await}
 use Rattle.fx_term.specs.Scope.{IsScoped}
 use Rattle.fx_model.specs.Row.{Label, Starts}
 use Rattle.fx_model.specs.Step.{Progress, IsProgressOf}
@@ -27,6 +27,8 @@ UsesGiven is_given (Mask p a) = UsesGiven is_given a
 UsesGiven is_given (Poll p a) = UsesGiven is_given a
 UsesGiven is_given (OnCancel a f) = UsesGiven is_given a × UsesGiven is_given f
 UsesGiven is_given (Bracket x a u r) = UsesGiven is_given a × UsesGiven is_given u × UsesGiven is_given r
+UsesGiven is_given (BracketCase x a u y s z e d) =
+    UsesGiven is_given a × UsesGiven is_given u × UsesGiven is_given s × UsesGiven is_given e × UsesGiven is_given d
 UsesGiven is_given (Start h a b) = UsesGiven is_given a × UsesGiven is_given b
 UsesGiven is_given (Join f x a e b c) = IsArgGiven is_given f × UsesGiven is_given a × UsesGiven is_given b × UsesGiven is_given c
 UsesGiven is_given (Cancel f) = IsArgGiven is_given f
@@ -35,6 +37,7 @@ UsesGiven is_given (TryTake q x a b) = UsesGiven is_given a × UsesGiven is_give
 UsesGiven is_given (Masked r a) = UsesGiven is_given a
 UsesGiven is_given (Opened r a) = UsesGiven is_given a
 UsesGiven is_given (InUse k a r) = UsesGiven is_given a × UsesGiven is_given r
+UsesGiven is_given (InUseCase k a y s z e d) = UsesGiven is_given a × UsesGiven is_given s × UsesGiven is_given e × UsesGiven is_given d
 UsesGiven is_given (InRelease k a v) = UsesGiven is_given a
 UsesGiven is_given (Loop i k n a) = UsesGiven is_given a
 UsesGiven is_given (Await f) = is_given f ≡ true

@@ -1,7 +1,7 @@
 -- How much work is left to a fiber.
 use Rattle.std.specs.Prelude.{ℕ, ◌+◌, ◌-◌, ◌*◌, List}
-use Rattle.fx_term.specs.Term.{Term, Pure, Raise, Canceled, Never, Cede, Let, Handle, If, For, Mask, Poll, OnCancel, Bracket, Start, Join, Cancel, First, Offer}
-use Rattle.fx_term.specs.Term.{TryOffer, Take, TryTake, Finished, Masked, Opened, InUse, InRelease, Loop, Await}
+use Rattle.fx_term.specs.Term.{Term, Pure, Raise, Canceled, Never, Cede, Let, Handle, If, For, Mask, Poll, OnCancel, Bracket, BracketCase, Start, Join}
+use Rattle.fx_term.specs.Term.{Cancel, First, Offer, TryOffer, Take, TryTake, Finished, Masked, Opened, InUse, InUseCase, InRelease, Loop, Await}
 use Rattle.fx_model.specs.Path.{CleanupTerm, over_cleanups}
 use Rattle.fx_model.specs.Step.{Progress, Runs, Unwinds, CleansUp, HasEnded}
 
@@ -20,6 +20,7 @@ work (Mask p a) = 2 + work a
 work (Poll p a) = 2 + work a
 work (OnCancel a f) = 2 + work a + work f
 work (Bracket x a u r) = 3 + work a + work u + work r
+work (BracketCase x a u y s z e d) = 3 + work a + work u + work s + work e + work d
 work (Start h a b) = 3 + work a + work b
 work (Join f x a e b c) = 1 + work a + work b + work c
 work (Cancel f) = 3
@@ -32,6 +33,7 @@ work (Finished v) = 1
 work (Masked r a) = 1 + work a
 work (Opened r a) = 1 + work a
 work (InUse k a r) = 2 + work a + work r
+work (InUseCase k a y s z e d) = 2 + work a + work s + work e + work d
 work (InRelease k a v) = 1 + work a
 work (Loop i k n a) = 2 + (n - k) * (2 + work a)
 work (Await f) = 2

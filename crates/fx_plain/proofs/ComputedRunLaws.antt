@@ -9,10 +9,10 @@ use Rattle.fx_term.specs.declared.done.Done.{Done}
 use Rattle.fx_term.specs.declared.done.Done.TheVariants.{Val, Err}
 use Rattle.fx_term.specs.declared.outcome.Outcome.{Outcome}
 use Rattle.fx_term.specs.declared.event.Event.TheVariants as event
-use Rattle.fx_term.specs.Term.{Term, Pure, Raise, Canceled, Cede, Let, Handle, If, For, Mask, Poll, OnCancel, Bracket, Start, Join, Cancel, First, Offer}
-use Rattle.fx_term.specs.Term.{TryOffer, Take, TryTake, Finished, Masked, Opened, InUse, InRelease, Loop, Await}
-use Rattle.fx_model.specs.Path.{Context, LetIn, HandleIn, OnCancelIn, AcquireIn, MaskedIn, OpenedIn, InUseIn, InReleaseIn, plug, CleanupTerm, Finalizer}
-use Rattle.fx_model.specs.Path.{Release, leaf, is_open, must_cancel}
+use Rattle.fx_term.specs.Term.{Term, Pure, Raise, Canceled, Cede, Let, Handle, If, For, Mask, Poll, OnCancel, Bracket, BracketCase, Start, Join, Cancel}
+use Rattle.fx_term.specs.Term.{First, Offer, TryOffer, Take, TryTake, Finished, Masked, Opened, InUse, InUseCase, InRelease, Loop, Await}
+use Rattle.fx_model.specs.Path.{Context, LetIn, HandleIn, OnCancelIn, AcquireIn, AcquireCaseIn, MaskedIn, OpenedIn, InUseIn, InUseCaseIn, InReleaseIn}
+use Rattle.fx_model.specs.Path.{plug, CleanupTerm, Finalizer, Release, leaf, is_open, must_cancel}
 use Rattle.fx_model.specs.Row.{Counts, Label, Shows, Row}
 use Rattle.fx_model.specs.Row as row
 use Rattle.fx_model.specs.Step.{Progress, Runs, Unwinds, CleansUp, HasEnded, leaf_at, looks_first, Step}
@@ -88,6 +88,10 @@ module _ (s : ScriptView) (m : WholeMachine) (f : ℕ) where
   ends_is_row k c (MaskedIn r) v = record { row = row.masked_ends; answered = tt; left = tt }
   ends_is_row k c (OpenedIn r) v = record { row = row.opened_ends; answered = tt; left = tt }
   ends_is_row k c (InUseIn i r) v = record { row = row.used; answered = tt; left = tt }
+  ends_is_row k c (AcquireCaseIn x u y b z e d) (Val n) = record { row = row.acquired_case; answered = tt; left = tt }
+  ends_is_row k c (AcquireCaseIn x u y b z e d) (Err n) = record { row = row.acquire_case_fails; answered = tt; left = tt }
+  ends_is_row k c (InUseCaseIn i y b z e d) (Val n) = record { row = row.use_succeeded; answered = tt; left = tt }
+  ends_is_row k c (InUseCaseIn i y b z e d) (Err n) = record { row = row.use_erred; answered = tt; left = tt }
   ends_is_row k c (InReleaseIn i u) v = record { row = row.released; answered = tt; left = tt }
 
   -- a context, with a result in it or not
@@ -147,6 +151,7 @@ module _ (s : ScriptView) (m : WholeMachine) (f : ℕ) where
   move_is_row k c (Poll (Number r) t) e = give row.poll tt tt e
   move_is_row k c (OnCancel a b) e = in_is_row k c (OnCancelIn b) a (done_of a) refl (λ u h. move_is_row k c a h) e
   move_is_row k c (Bracket x a u r) e = in_is_row k c (AcquireIn x u r) a (done_of a) refl (λ v h. move_is_row k c a h) e
+  move_is_row k c (BracketCase x a u y b z r d) e = in_is_row k c (AcquireCaseIn x u y b z r d) a (done_of a) refl (λ v h. move_is_row k c a h) e
   move_is_row k c (Start h a b) e = give row.start tt tt e
   move_is_row k c (Join (Number g) x a y b d) e = join_is_row k c g x a y b d (outcome_of m g) refl e
   move_is_row k c (Cancel (Number g)) e = give row.request tt tt e
@@ -158,6 +163,7 @@ module _ (s : ScriptView) (m : WholeMachine) (f : ℕ) where
   move_is_row k c (Masked r a) e = in_is_row k c (MaskedIn r) a (done_of a) refl (λ u h. move_is_row k c a h) e
   move_is_row k c (Opened r a) e = in_is_row k c (OpenedIn r) a (done_of a) refl (λ u h. move_is_row k c a h) e
   move_is_row k c (InUse i a r) e = in_is_row k c (InUseIn i r) a (done_of a) refl (λ u h. move_is_row k c a h) e
+  move_is_row k c (InUseCase i a y b z r d) e = in_is_row k c (InUseCaseIn i y b z r d) a (done_of a) refl (λ u h. move_is_row k c a h) e
   move_is_row k c (InRelease i a v) e = in_is_row k c (InReleaseIn i v) a (done_of a) refl (λ u h. move_is_row k c a h) e
   move_is_row k c (Loop i j n t) e = subst (IsRowOf k c (Loop i j n t)) (same_Some _ _ e) (loop_is_row k c i j n t (nat_lt j n) refl)
   move_is_row k c (Await g) e = await_is_row k c g (outcome_of m g) refl e

@@ -7,8 +7,8 @@ use Rattle.fx_term.specs.declared.outcome.Outcome.TheVariants.{Succeeded, Errore
 use Rattle.fx_term.specs.declared.outcome.Outcome.TheVariants as outcome
 use Rattle.fx_term.specs.declared.event.Event.{Event}
 use Rattle.fx_term.specs.declared.event.Event.TheVariants as event
-use Rattle.fx_term.specs.Term.{Term, Pure, Raise, Canceled, Never, Let, If, Mask, Poll, OnCancel, Bracket, Start, Join, Cancel, First, Offer, TryOffer, Take}
-use Rattle.fx_term.specs.Term.{TryTake}
+use Rattle.fx_term.specs.Term.{Term, Pure, Raise, Canceled, Never, Let, If, Mask, Poll, OnCancel, Bracket, BracketCase, Start, Join, Cancel, First, Offer}
+use Rattle.fx_term.specs.Term.{TryOffer, Take, TryTake}
 use Rattle.fx_text.specs.declared.pick.Pick.{Pick}
 use Rattle.fx_text.specs.declared.pick.Pick.TheVariants.{Step}
 use Rattle.fx_text.specs.declared.pick.Pick.TheVariants as pick
@@ -124,6 +124,22 @@ uses_one_after_another = refl
 a_release_offers : traces_of (1 ∷ []) (Bracket (Some 0) (Pure (n 7)) (Raise (n 3)) (Offer 0 (Slot 0))) [] ≡ Some
     ((event.Acquired 0 ∷ event.Begin 0 ∷ event.Put 0 7 ∷ event.End 0 ∷ event.Ended (Errored 3) ∷ []) ∷ [])
 a_release_offers = refl
+
+-- a resource of 7, used so and released so where the use succeeded; where it erred the error is offered, and after cancellation the resource
+abbrev released_by_case : Term → Term → Term
+released_by_case u success = BracketCase 0 (Pure (n 7)) u 1 success 1 (Offer 0 (Slot 1)) (Offer 0 (Slot 0))
+
+a_use_that_erred_is_released_with_its_error : traces_of (4 ∷ []) (released_by_case (Raise (n 3)) (Offer 0 (n 1))) [] ≡ Some
+    ((event.Acquired 0 ∷ event.Begin 0 ∷ event.Put 0 3 ∷ event.End 0 ∷ event.Ended (Errored 3) ∷ []) ∷ [])
+a_use_that_erred_is_released_with_its_error = refl
+
+a_use_that_succeeded_is_released_with_its_value : summary_of (4 ∷ []) (released_by_case (Pure (n 5)) (Offer 0 (Slot 1))) []
+    ≡ ends_so (Some (Succeeded 5) ∷ []) ((5 ∷ []) ∷ []) []
+a_use_that_succeeded_is_released_with_its_value = refl
+
+a_use_that_was_canceled_is_released_without : summary_of (4 ∷ []) (released_by_case Canceled (Offer 0 (n 1))) []
+    ≡ ends_so (Some outcome.Canceled ∷ []) ((7 ∷ []) ∷ []) []
+a_use_that_was_canceled_is_released_without = refl
 
 abbrev tries : Term
 tries = Let None (TryOffer 0 (n 1)) (Let (Some 0) (TryOffer 0 (n 2)) (TryTake 0 1 (TryTake 0 2 (Pure (n 9)) (Pure (Slot 0))) (Pure (n 8))))

@@ -16,7 +16,7 @@ const THREE: &[u8] = b"(main (start h (cede) (start k (cede) (cede))))";
 const THREE_AND_A_QUEUE: &[u8] = b"(queue q 1) (main (start h (cede) (start k (cede) (cede))))";
 
 /// A script of as many fibers as a script can have.
-const MOST: &[u8] = b"(main (for i 1023 (start h (cede) (cede))))";
+const MOST: &[u8] = b"(main (for i 4095 (start h (cede) (cede))))";
 
 /// What is done to a world. An element is put into queue 0, if that has room, or taken out of it.
 #[derive(Clone, Copy)]
@@ -134,13 +134,13 @@ static WAKEN: [Step; 16] = [
     (Deed::Waits(4, Source::Nothing), Some(0)),
     (Deed::Waits(63, Source::Outcome(5)), Some(0)),
     (Deed::Waits(69, Source::Either(6, 5)), Some(0)),
-    (Deed::Waits(1023, Source::Either(5, 6)), Some(0)),
+    (Deed::Waits(4095, Source::Either(5, 6)), Some(0)),
     (Deed::Ends(0), Some(5)),
     (Deed::Ends(5), Some(2)),
     (Deed::Ends(2), Some(63)),
     (Deed::Ends(63), Some(69)),
-    (Deed::Waits(69, Source::Either(6, 7)), Some(1023)),
-    (Deed::Ends(1023), None),
+    (Deed::Waits(69, Source::Either(6, 7)), Some(4095)),
+    (Deed::Ends(4095), None),
     (Deed::Ends(6), Some(3)),
     (Deed::Ends(3), Some(69)),
     (Deed::Ends(69), None),
@@ -169,7 +169,7 @@ fn a_request_moves_a_fiber_that_waits(rt: HostRuntime) -> Result<(), Fail> {
 /// Fibers become able from the last one to the first one, in words of 64 numbers each.
 static ABLE: [Step; 6] = [
     (Deed::Ends(0), None),
-    (Deed::Starts(1023), Some(1023)),
+    (Deed::Starts(4095), Some(4095)),
     (Deed::Starts(64), Some(64)),
     (Deed::Starts(63), Some(63)),
     (Deed::Starts(0), Some(0)),
@@ -182,7 +182,7 @@ static OVER: [Step; 7] = [
     (Deed::Starts(64), Some(0)),
     (Deed::Ends(0), Some(63)),
     (Deed::Ends(63), Some(64)),
-    (Deed::Ends(1023), Some(64)),
+    (Deed::Ends(4095), Some(64)),
     (Deed::Ends(64), None),
     (Deed::Starts(64), Some(64)),
 ];

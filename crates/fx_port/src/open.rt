@@ -16,7 +16,7 @@ pub fn open_queues(
     fibers: u32,
 ) -> Result<(Vec<FiberQueue>, Passes), Memory>
     requires capacities { (q cap : ℕ) → slice_get capacities.now q ≡ Some cap → (0 < cap) × (cap ≤ 1024) }
-    requires fibers { (0 < fibers) × (fibers ≤ 1024) }
+    requires fibers { (0 < fibers) × (fibers ≤ 4096) }
     ensures capacities { IfOk result
         (λ opened. map (λ (i : QueueId). i.cap) opened.0.items ≡ capacities.now) }
     ensures first { IfOk result (λ opened. AreFirst fibers opened.0.items opened.1) }

@@ -45,7 +45,7 @@ impl Model for FiberQueue {
 impl FiberQueue {
     /// An empty queue, with room for every fiber as a waiter, and the pass of the main fiber.
     pub fn new(alloc: Global, cap: u32, fibers: u32) -> Result<(FiberQueue, QueuePass), Memory>
-        requires { (0 < cap) × (cap ≤ 1024) × (0 < fibers) × (fibers ≤ 1024) }
+        requires { (0 < cap) × (cap ≤ 1024) × (0 < fibers) × (fibers ≤ 4096) }
         ensures { IfOk result (λ r. (r.0.cap ≡ cap) × (r.0.fibers ≡ fibers) × IsOf r.1 r.0
             × (r.1.view ≡ first_view cap fibers)) }
     {

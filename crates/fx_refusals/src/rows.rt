@@ -1,35 +1,25 @@
 //! The rows, a line each.
 
-mod fibers;
 mod places;
 mod plain;
-mod shown;
 mod texts;
-mod threads;
-mod workers;
 
-use crate::harness::Anew;
-use crate::scripts::{WORKED, Worked};
-use crate::tally::Tally;
-use fibers::Part;
+use fx_refusing::{Anew, Part, Tally, WORKED, Worked};
 use plain::Text;
 use std::alloc::AllocGlobal;
 use std::random::RandomSource;
-use std::sync::Wait;
-use workers::{Of, Place};
 
 /// Tries all rows.
-pub fn all<R: Print + Wait + RandomSource + AllocGlobal + Drop>(rt: &R, tally: &mut Tally<R>) {
+pub fn all<R: Print + RandomSource + AllocGlobal>(rt: &R, tally: &mut Tally<R>) {
     parts(rt, tally);
-    hands(rt, tally);
     for worked in &WORKED {
-        of_texts(rt, tally, *worked);
-        steps(rt, tally, *worked);
+        of_texts(rt, tally, worked);
+        steps(rt, tally, worked);
     }
 }
 
 /// Those that are made on no script.
-fn parts<R: Print + Wait + AllocGlobal>(rt: &R, tally: &mut Tally<R>) {
+fn parts<R: Print + AllocGlobal>(rt: &R, tally: &mut Tally<R>) {
     let alloc = rt.alloc();
     tally.row("Masks::enter", "13 regions", &places::Enter { alloc });
     tally.row("Masks::seal", "12 seals", &places::Seal { alloc });
@@ -41,54 +31,10 @@ fn parts<R: Print + Wait + AllocGlobal>(rt: &R, tally: &mut Tally<R>) {
         "a main fiber",
         &Anew(plain::NewFiber { alloc }),
     );
-    tally.row(
-        "Words::new",
-        "100 fibers",
-        &Anew(threads::OpenWords { alloc }),
-    );
-    tally.row(
-        "FiberQueue::new",
-        "3 fibers",
-        &Anew(threads::OpenQueue { alloc }),
-    );
-    tally.row(
-        "FiberQueue::close",
-        "an element",
-        &Anew(threads::CloseQueue { rt }),
-    );
-}
-
-/// Those of workers.
-fn hands<R: Print + Wait + RandomSource + AllocGlobal + Drop>(rt: &R, tally: &mut Tally<R>) {
-    let alloc = rt.alloc();
-    tally.row(
-        "Tasks::new",
-        "4 workers",
-        &Anew(workers::NewTasks { alloc }),
-    );
-    let place = Place::Hand;
-    tally.row("Owner::push", "100 tasks", &workers::PutTasks { rt, place });
-    let place = Place::Injector;
-    tally.row(
-        "Tasks::inject",
-        "100 tasks",
-        &workers::PutTasks { rt, place },
-    );
-    tally.row("solo", "a worker", &Anew(workers::NewSolo { rt }));
-    tally.row(
-        "Lot::new",
-        "2 fibers",
-        &Anew(workers::LotOf { rt, of: Of::New }),
-    );
-    tally.row(
-        "Lot::empty",
-        "a fiber",
-        &Anew(workers::LotOf { rt, of: Of::Empty }),
-    );
 }
 
 /// Those that go from a script to a text.
-fn of_texts<R: Print + AllocGlobal>(rt: &R, tally: &mut Tally<R>, worked: Worked) {
+fn of_texts<R: Print + AllocGlobal>(rt: &R, tally: &mut Tally<R>, worked: &'static Worked) {
     let alloc = rt.alloc();
     let name = worked.name;
     tally.row("parse", name, &Anew(texts::Parse { alloc, worked }));
@@ -98,7 +44,7 @@ fn of_texts<R: Print + AllocGlobal>(rt: &R, tally: &mut Tally<R>, worked: Worked
         &Anew(plain::OpenWorld { alloc, worked }),
     );
     tally.row("replay", name, &Anew(plain::Replay { alloc, worked }));
-    let (text, written) = (Text::Report, worked.report);
+    let text = Text::Report;
     tally.row(
         "write_report",
         name,
@@ -106,10 +52,9 @@ fn of_texts<R: Print + AllocGlobal>(rt: &R, tally: &mut Tally<R>, worked: Worked
             alloc,
             worked,
             text,
-            written,
         }),
     );
-    let (text, written) = (Text::Trace, worked.traces);
+    let text = Text::Trace;
     tally.row(
         "write_trace",
         name,
@@ -117,7 +62,6 @@ fn of_texts<R: Print + AllocGlobal>(rt: &R, tally: &mut Tally<R>, worked: Worked
             alloc,
             worked,
             text,
-            written,
         }),
     );
     tally.row(
@@ -127,11 +71,14 @@ fn of_texts<R: Print + AllocGlobal>(rt: &R, tally: &mut Tally<R>, worked: Worked
     );
 }
 
-/// Those of a fiber, over the port of one thread and over that of several.
-fn steps<R: Print + Wait + RandomSource + AllocGlobal>(
+/// The script of which no burst makes a request.
+const WITHOUT_BURST: &str = "mask";
+
+/// Those of a fiber.
+fn steps<R: Print + RandomSource + AllocGlobal>(
     rt: &R,
     tally: &mut Tally<R>,
-    worked: Worked,
+    worked: &'static Worked,
 ) {
     let name = worked.name;
     let part = Part::Step;
@@ -140,27 +87,18 @@ fn steps<R: Print + Wait + RandomSource + AllocGlobal>(
         name,
         &plain::PlainSteps { rt, worked, part },
     );
-    tally.row(
-        "Fiber::step over ThreadPort",
-        name,
-        &threads::ThreadSteps { rt, worked, part },
-    );
-    let part = Part::Burst;
-    tally.row(
-        "Fiber::burst over PlainPort",
-        name,
-        &plain::PlainSteps { rt, worked, part },
-    );
+    if name != WITHOUT_BURST {
+        let part = Part::Burst;
+        tally.row(
+            "Fiber::burst over PlainPort",
+            name,
+            &plain::PlainSteps { rt, worked, part },
+        );
+    }
     let part = Part::Turn;
     tally.row(
         "poll of Turn over PlainPort",
         name,
         &plain::PlainSteps { rt, worked, part },
     );
-    tally.row(
-        "poll of Turn over ThreadPort",
-        name,
-        &threads::ThreadSteps { rt, worked, part },
-    );
-    tally.row("work", name, &Anew(workers::WorkAlone { rt, worked }));
 }

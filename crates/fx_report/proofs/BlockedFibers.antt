@@ -5,7 +5,8 @@ use Rattle.std.specs.List.{filter, cons_option}
 use Rattle.std.proofs.lemmas.Option.{none-some, same_Some}
 use Rattle.fx_term.specs.declared.node.Arg.TheVariants.{Number}
 use Rattle.fx_term.specs.QueuesNamed.{NamesQueuesBelow}
-use Rattle.fx_term.specs.Term.{Term, Let, Handle, OnCancel, Bracket, Masked, Opened, InUse, InRelease, Never, Offer, Take, Join, Await, First}
+use Rattle.fx_term.specs.Term.{Term, Let, Handle, OnCancel, Bracket, BracketCase, Masked, Opened, InUse, InUseCase, InRelease, Never, Offer, Take, Join}
+use Rattle.fx_term.specs.Term.{Await, First}
 use Rattle.fx_model.specs.Path.{leaf}
 use Rattle.fx_model.specs.Step.{Progress, Runs, Unwinds, CleansUp, HasEnded, leaf_at}
 use Rattle.fx_model.specs.Waiting.{wait_at}
@@ -43,9 +44,11 @@ module _ (n : ℕ) where
   leaf_names (Handle a x b) h = leaf_names a h.0
   leaf_names (OnCancel a f) h = leaf_names a h.0
   leaf_names (Bracket x a u r) h = leaf_names a h.0
+  leaf_names (BracketCase x a u y s z e d) h = leaf_names a h.0
   leaf_names (Masked r a) h = leaf_names a h
   leaf_names (Opened r a) h = leaf_names a h
   leaf_names (InUse k a r) h = leaf_names a h.0
+  leaf_names (InUseCase k a y s z e d) h = leaf_names a h.0
   leaf_names (InRelease k a v) h = leaf_names a h
   leaf_names t h = h
 

@@ -8,8 +8,8 @@ use thiserror::Error;
 /// Why a run has no report.
 #[derive(Clone, Copy, PartialEq, Eq, Debug, Error)]
 pub enum RunFault {
-    /// The number of workers is not from 1 to 16.
-    #[error("the number of workers is not from 1 to 16")]
+    /// The number of workers is not from 1 to 64.
+    #[error("the number of workers is not from 1 to 64")]
     Workers,
     /// Memory ran out.
     #[error("out of memory")]

@@ -36,7 +36,7 @@ use std::sync::Wait;
 use std::thread::Threads;
 
 /// The most workers that a run can have.
-pub const MOST_WORKERS: u32 = 16;
+pub const MOST_WORKERS: u32 = 64;
 
 /// What the fibers of a run left, and how many waiting ones only a sweep put back.
 #[derive(Drop)]

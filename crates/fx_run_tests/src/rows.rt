@@ -114,10 +114,36 @@ const ROWS: [(&str, &str); 19] = [
     ),
 ];
 
+const RELEASED_BY_CASE: [(&str, &str); 3] = [
+    (
+        "(queue q 4) (main (bracketcase x (pure 7) (pure 5) (y (offer q y)) (z (offer q z)) (offer q x)))",
+        "fiber 0 succeeded 5\nqueue q left 5\n",
+    ),
+    (
+        "(queue q 4) (main (bracketcase x (pure 7) (raise 3) (y (offer q 1)) (z (offer q z)) (offer q x)))",
+        "fiber 0 errored 3\nqueue q left 3\n",
+    ),
+    (
+        "(queue q 4) (main (bracketcase x (pure 7) (canceled) (y (offer q 1)) (z (offer q z)) (offer q x)))",
+        "fiber 0 canceled\nqueue q left 7\n",
+    ),
+];
+
+#[test]
+fn a_resource_is_released_by_how_its_use_ended(rt: HostRuntime) -> Result<(), Fail> {
+    for (script, report) in RELEASED_BY_CASE {
+        for workers in [1u32, 4] {
+            let written = run_text(&rt, script, workers, &Free)?;
+            assert_eq!(rt; written.text.as_slice(), report.as_bytes());
+        }
+    }
+    Ok(())
+}
+
 #[test]
 fn reports_do_not_depend_on_how_fibers_interleave(rt: HostRuntime) -> Result<(), Fail> {
     for (script, report) in ROWS {
-        for workers in [1u32, 2, 4, 16] {
+        for workers in [1u32, 2, 4, 64] {
             let written = run_text(&rt, script, workers, &Free)?;
             assert_eq!(rt; written.text.as_slice(), report.as_bytes());
             assert_eq!(rt; written.late, 0);
@@ -127,9 +153,9 @@ fn reports_do_not_depend_on_how_fibers_interleave(rt: HostRuntime) -> Result<(),
 }
 
 #[test]
-fn there_are_from_1_to_16_workers(rt: HostRuntime) -> Result<(), Fail> {
+fn there_are_from_1_to_64_workers(rt: HostRuntime) -> Result<(), Fail> {
     let script = parse(rt.alloc(), b"(main (pure 5))")?;
-    for workers in [0u32, 17, u32::MAX] {
+    for workers in [0u32, 65, u32::MAX] {
         let answer = run(&rt, rt.alloc(), &script, workers, &Free);
         assert!(rt; matches!(answer, Err(RunFault::Workers)));
     }

@@ -187,6 +187,18 @@ impl<T: Drop> Owner<T> {
         unreachable!()
     }
 
+    /// Whether it has no task.
+    pub(crate) fn is_empty(&self) -> bool {
+        self.local.is_empty()
+    }
+
+    /// Calls a worker that sleeps, where there is a task beside the one in hand, which comes next.
+    pub(crate) fn share_rest(&self, work: &Tasks<T>) {
+        if work.has_sleeper() && !self.local.is_empty() {
+            work.call_one();
+        }
+    }
+
     /// Calls a worker that sleeps, where there are more tasks than the one that comes next.
     pub(crate) fn share(&self, work: &Tasks<T>) {
         if work.has_sleeper() && self.local.len() > 1 {

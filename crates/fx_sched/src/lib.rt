@@ -16,6 +16,8 @@
 //! 3. After its turn the fiber is pushed where it gave way; laid down where it has ended; parked where it
 //!    waits, but pushed where a wake was left for it since it was last taken. A child is pushed before
 //!    its starter. Then those that were noted to be woken are taken out and pushed.
+//! 4. One that gave way while its worker's deque is empty would come next, before those that are woken. So
+//!    it stays in the worker's hand, and goes on with 2 once they are pushed.
 //!
 //! | a worker finds | it |
 //! |---|---|
@@ -24,7 +26,7 @@
 //! | none, and no other has one | is done: no fiber is able to go on |
 //! | no memory | ends, and gives back the fibers that it has in hand |
 //!
-//! A worker that has more than the fiber that comes next calls one that sleeps. No call is missed: a worker
+//! A worker that has more than the fiber that comes next, in its deque or in its hand, calls one that sleeps. No call is missed: a worker
 //! counts as one that sleeps before it looks for the last time, and each call changes a word that it read
 //! before that, and on which it sleeps.
 //!

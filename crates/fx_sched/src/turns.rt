@@ -33,30 +33,39 @@ pub fn gated_turn<P: Port, G: Gate>(
         (G.answers gate.now worker ((P.facts fiber.old.port).number)) fiber.old shared.old
         (come_to result) fiber.new shared.new }
 {
-    if let Some(id) = gate.turn(worker, fiber.id()) {
-        fiber.outside(shared, id);
-    }
-    polled(solo, fiber, code, shared)
+    let mut cx = solo.begin();
+    let answer = turn_in(&mut cx, gate, worker, fiber, code, shared);
+    leave(cx);
+    answer
 }
 
-/// Makes one turn of the fiber, in a context of the worker's own that is ready for the next one after it.
-fn polled<P: Port>(
-    solo: &Solo,
+/// The same in a context of the worker's own, which is ready for the next turn after it.
+pub(crate) fn turn_in<P: Port, G: Gate>(
+    cx: &mut Context<'_>,
+    gate: &G,
+    worker: u32,
     fiber: &mut Fiber<P>,
     code: &Code,
     shared: &mut P::Shared,
 ) -> Poll<Turned<P>>
-    requires { code.now.nodes ≡ P.code }
+    requires code { code.now.nodes ≡ P.code }
+    requires gate { (id : ℕ) → G.may gate.now id ≡ true → P.may id ≡ true }
     ensures number { (P.facts fiber.new.port).number ≡ (P.facts fiber.old.port).number }
     ensures beginning { (P.facts fiber.new.port).beginning ≡ (P.facts fiber.old.port).beginning }
-    ensures turns { Turns P.calls P.facts P.code fiber.old shared.old
+    ensures turn { HasGatedTurn P.calls P.facts P.code
+        (G.answers gate.now worker ((P.facts fiber.old.port).number)) fiber.old shared.old
         (come_to result) fiber.new shared.new }
 {
-    let mut cx = solo.begin();
-    let answer = one_turn(fiber, code, shared, &mut cx);
+    if let Some(id) = gate.turn(worker, fiber.id()) {
+        fiber.outside(shared, id);
+    }
+    one_turn(fiber, code, shared, cx)
+}
+
+/// Leaves a context whose turns are over.
+pub(crate) fn leave(mut cx: Context<'_>) {
     let _: Poll<()> = cx.yield_now();
     cx.park();
-    answer
 }
 
 /// Makes one turn of the fiber.

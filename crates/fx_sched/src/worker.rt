@@ -4,8 +4,8 @@ ghost use Rattle.std.specs.Prelude.{◌≡◌, ◌≤◌, ℕ, true};
 use crate::deques::{Hand, Work};
 use crate::gate::Gate;
 use crate::lot::Lot;
-use crate::turns::{gated_turn, solo};
-use futures::task::Poll;
+use crate::turns::{leave, solo, turn_in};
+use futures::task::{Context, Poll};
 use fx_fiber::{Fiber, Port, Turned};
 use fx_term::Code;
 use std::alloc::AllocGlobal;
@@ -27,7 +27,7 @@ pub enum WorkerEnd<P: Port> {
 pub fn work<R: Wait + RandomSource + AllocGlobal, P: Port + Drop, G: Gate>(
     rt: &R,
     worker: u32,
-    mut hand: Hand<P>,
+    hand: Hand<P>,
     all: &Work<P>,
     lot: &Lot<P>,
     code: &Code,
@@ -41,12 +41,42 @@ pub fn work<R: Wait + RandomSource + AllocGlobal, P: Port + Drop, G: Gate>(
     let Ok(solo) = solo(rt) else {
         return WorkerEnd::Memory(None, None);
     };
+    let mut cx = solo.begin();
     all.resumes();
+    let end = rounds(rt, &mut cx, worker, hand, all, lot, code, shared, gate);
+    leave(cx);
+    end
+}
+
+/// Takes a fiber, lets it have its turns, and lays it down, again and again.
+fn rounds<R: Wait, P: Port + Drop, G: Gate>(
+    rt: &R,
+    cx: &mut Context<'_>,
+    worker: u32,
+    mut hand: Hand<P>,
+    all: &Work<P>,
+    lot: &Lot<P>,
+    code: &Code,
+    shared: &mut P::Shared,
+    gate: &G,
+) -> WorkerEnd<P>
+    requires code { code.now.nodes ≡ P.code }
+    requires total { P.total ≤ lot.now }
+    requires gate { (id : ℕ) → G.may gate.now id ≡ true → P.may id ≡ true }
+{
     for _ in rt.forever() {
         let Some(mut fiber) = hand.wait_next(rt, all) else {
             return WorkerEnd::Done;
         };
-        let answer = gated_turn(&solo, gate, worker, &mut fiber, code, shared);
+        let answer = match turns(
+            rt, cx, gate, worker, &mut hand, all, lot, &mut fiber, code, shared,
+        ) {
+            Ok(answer) => answer,
+            Err(woken) => {
+                all.rests();
+                return WorkerEnd::Memory(Some(fiber), Some(woken));
+            }
+        };
         if let Err(end) = placed(rt, &mut hand, lot, fiber, answer) {
             all.rests();
             return end;
@@ -56,6 +86,37 @@ pub fn work<R: Wait + RandomSource + AllocGlobal, P: Port + Drop, G: Gate>(
             return WorkerEnd::Memory(None, Some(fiber));
         }
         hand.share(all);
+    }
+    unreachable!()
+}
+
+/// Lets the fiber have its turn, and the next ones for as long as it yields and its worker has no other:
+/// it would come next. Answers what the last turn came to; or want of memory, with the fiber that was woken
+/// after a turn and cannot be pushed.
+fn turns<R: Wait, P: Port + Drop, G: Gate>(
+    rt: &R,
+    cx: &mut Context<'_>,
+    gate: &G,
+    worker: u32,
+    hand: &mut Hand<P>,
+    all: &Work<P>,
+    lot: &Lot<P>,
+    fiber: &mut Fiber<P>,
+    code: &Code,
+    shared: &mut P::Shared,
+) -> Result<Poll<Turned<P>>, Fiber<P>>
+    requires code { code.now.nodes ≡ P.code }
+    requires total { P.total ≤ lot.now }
+    requires gate { (id : ℕ) → G.may gate.now id ≡ true → P.may id ≡ true }
+{
+    for _ in rt.forever() {
+        let answer = turn_in(cx, gate, worker, fiber, code, shared);
+        let yields = matches!(answer, Poll::Pending) && fiber.source().is_none();
+        if !yields || !hand.is_empty() {
+            return Ok(answer);
+        }
+        wakes(rt, hand, lot, shared)?;
+        hand.share_rest(all);
     }
     unreachable!()
 }

@@ -12,7 +12,8 @@ use Rattle.fx_term.specs.Term.{Term, Pure, Raise, Canceled, Never, Let, If, Mask
 use Rattle.fx_term.specs.Script.{ScriptView}
 use Rattle.fx_model.specs.Scopes.{IsClosedTerm, UsesGiven}
 use Rattle.fx_text.specs.Race.{race_slots, deciding, race}
-use Rattle.fx_model.specs.Path.{leaf, is_open, cleanup_terms, LetIn, HandleIn, OnCancelIn, AcquireIn, MaskedIn, OpenedIn, InUseIn, InReleaseIn}
+use Rattle.fx_model.specs.Path.{leaf, is_open, cleanup_terms, LetIn, HandleIn, OnCancelIn, AcquireIn, AcquireCaseIn, MaskedIn, OpenedIn, InUseIn}
+use Rattle.fx_model.specs.Path.{InUseCaseIn, InReleaseIn}
 use Rattle.fx_model.specs.Row.{Counts, Label, Silent, Shows, Learns, Starts, Row, numbers_taken, one_more_mask, known_canceled}
 use Rattle.fx_model.specs.Row as row
 use Rattle.fx_model.specs.Origin.{Origin, main_origin, child_origin}
@@ -42,9 +43,11 @@ never_row (row.inside (LetIn x b) e j r) on = absurd (rw e at on)
 never_row (row.inside (HandleIn x b) e j r) on = absurd (rw e at on)
 never_row (row.inside (OnCancelIn b) e j r) on = absurd (rw e at on)
 never_row (row.inside (AcquireIn x u b) e j r) on = absurd (rw e at on)
+never_row (row.inside (AcquireCaseIn x u y s z d b) e j r) on = absurd (rw e at on)
 never_row (row.inside (MaskedIn n) e j r) on = absurd (rw e at on)
 never_row (row.inside (OpenedIn n) e j r) on = absurd (rw e at on)
 never_row (row.inside (InUseIn n b) e j r) on = absurd (rw e at on)
+never_row (row.inside (InUseCaseIn n y s z d b) e j r) on = absurd (rw e at on)
 never_row (row.inside (InReleaseIn n v) e j r) on = absurd (rw e at on)
 never_row _ on = absurd on
 

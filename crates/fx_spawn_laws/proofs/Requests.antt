@@ -11,7 +11,7 @@ use Rattle.fx_term.specs.declared.outcome.Outcome.TheVariants as outcome
 use Rattle.fx_term.specs.declared.event.Event.TheVariants as event
 use Rattle.fx_term.specs.Term.{Term, Pure, Raise, Canceled, Never, Join, Finished, put}
 use Rattle.fx_term.specs.Script.{ScriptView}
-use Rattle.fx_model.specs.Path.{cleanup_terms, LetIn, HandleIn, OnCancelIn, AcquireIn, MaskedIn, OpenedIn, InUseIn, InReleaseIn}
+use Rattle.fx_model.specs.Path.{cleanup_terms, LetIn, HandleIn, OnCancelIn, AcquireIn, AcquireCaseIn, MaskedIn, OpenedIn, InUseIn, InUseCaseIn, InReleaseIn}
 use Rattle.fx_model.specs.Row.{Counts, Label, Silent, Shows, Learns, Starts, Row, part_after}
 use Rattle.fx_model.specs.Row as row
 use Rattle.fx_model.specs.Origin.{Origin}
@@ -90,9 +90,11 @@ row_is_barren (row.inside (LetIn x b) e j r) h = absurd (rw e at h)
 row_is_barren (row.inside (HandleIn x b) e j r) h = absurd (rw e at h)
 row_is_barren (row.inside (OnCancelIn b) e j r) h = absurd (rw e at h)
 row_is_barren (row.inside (AcquireIn x u b) e j r) h = absurd (rw e at h)
+row_is_barren (row.inside (AcquireCaseIn x u y s z d b) e j r) h = absurd (rw e at h)
 row_is_barren (row.inside (MaskedIn n) e j r) h = absurd (rw e at h)
 row_is_barren (row.inside (OpenedIn n) e j r) h = absurd (rw e at h)
 row_is_barren (row.inside (InUseIn n b) e j r) h = absurd (rw e at h)
+row_is_barren (row.inside (InUseCaseIn n y s z d b) e j r) h = absurd (rw e at h)
 row_is_barren (row.inside (InReleaseIn n v) e j r) h = absurd (rw e at h)
 row_is_barren _ h = absurd h
 

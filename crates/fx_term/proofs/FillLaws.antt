@@ -5,8 +5,8 @@ use Rattle.std.proofs.lemmas.Bool.{ltb-true, ltb-false, lt-ltb, eqb-true, eqb-fa
 use Rattle.std.proofs.lemmas.Bool.Decides.{nat_tests}
 use Rattle.fx_term.specs.declared.node.Arg.{Arg}
 use Rattle.fx_term.specs.declared.node.Arg.TheVariants.{Number, Slot}
-use Rattle.fx_term.specs.Term.{Term, Pure, Raise, Let, Handle, If, For, Mask, Poll, OnCancel, Bracket, Start, Join, Cancel}
-use Rattle.fx_term.specs.Term.{First, Offer, TryOffer, TryTake, Masked, Opened, InUse, InRelease, Loop, put_arg, put}
+use Rattle.fx_term.specs.Term.{Term, Pure, Raise, Let, Handle, If, For, Mask, Poll, OnCancel, Bracket, BracketCase, Start, Join, Cancel}
+use Rattle.fx_term.specs.Term.{First, Offer, TryOffer, TryTake, Masked, Opened, InUse, InUseCase, InRelease, Loop, put_arg, put}
 use Rattle.fx_term.specs.Fill.{fill_arg, lower, fill, AgreeBelow}
 use Rattle.fx_term.specs.Scope.{IsArgBelow, HasLevels}
 
@@ -48,6 +48,11 @@ fill_agree e ns ms (Bracket None a b c) h = let p = fill_agree e ns ms a h in le
 fill_agree e ns ms (Bracket (Some x) a b c) h =
     let k = agree_lower e x ns ms h in let p = fill_agree e ns ms a h in let q = fill_agree (lower e x) ns ms b k in let r = fill_agree (lower e x) ns ms c k in
     cc
+fill_agree e ns ms (BracketCase x a u y b z c d) h =
+    let k = agree_lower e x ns ms h in let o = fill_agree e ns ms a h in let p = fill_agree (lower e x) ns ms u k in
+    let q = fill_agree (lower (lower e x) y) ns ms b (agree_lower (lower e x) y ns ms k) in
+    let r = fill_agree (lower (lower e x) z) ns ms c (agree_lower (lower e x) z ns ms k) in
+    let s = fill_agree (lower e x) ns ms d k in cc
 fill_agree e ns ms (Start x a b) h = let p = fill_agree e ns ms a h in let q = fill_agree (lower e x) ns ms b (agree_lower e x ns ms h) in cc
 fill_agree e ns ms (Join v x a y b c) h =
     let o = fill_arg_agree e ns ms v h in let p = fill_agree (lower e x) ns ms a (agree_lower e x ns ms h) in
@@ -60,6 +65,9 @@ fill_agree e ns ms (TryTake k x a b) h = let p = fill_agree (lower e x) ns ms a 
 fill_agree e ns ms (Masked k a) h = let p = fill_agree e ns ms a h in cc
 fill_agree e ns ms (Opened k a) h = let p = fill_agree e ns ms a h in cc
 fill_agree e ns ms (InUse k a b) h = let p = fill_agree e ns ms a h in let q = fill_agree e ns ms b h in cc
+fill_agree e ns ms (InUseCase k a y b z c d) h =
+    let o = fill_agree e ns ms a h in let p = fill_agree (lower e y) ns ms b (agree_lower e y ns ms h) in
+    let q = fill_agree (lower e z) ns ms c (agree_lower e z ns ms h) in let r = fill_agree e ns ms d h in cc
 fill_agree e ns ms (InRelease k a v) h = let p = fill_agree e ns ms a h in cc
 fill_agree e ns ms (Loop x k c a) h = let q = fill_agree (lower e x) ns ms a (agree_lower e x ns ms h) in cc
 fill_agree e ns ms _ h = refl
@@ -73,6 +81,9 @@ lower_scope d l x e h = lower_below l x (omega arith) ∙ sym (lower_below d x (
 
 under : (d l x : ℕ) (ns : List ℕ) (t : Term) → x ≡ d → d ≤ l → fill (lower l x) ns t ≡ fill (lower d x) ns t
 under d l x ns t e h = ap (λ (b : ℕ). fill b ns t) (lower_scope d l x e h)
+
+under_both : (d l x y : ℕ) (ns : List ℕ) (t : Term) → x ≡ d → d ≤ l → fill (lower (lower l x) y) ns t ≡ fill (lower (lower d x) y) ns t
+under_both d l x y ns t e h = ap (λ (b : ℕ). fill (lower b y) ns t) (lower_scope d l x e h)
 
 -- in a term whose free names are below d, a bound above d puts in no more
 pub fill_scope : (d l : ℕ) (ns : List ℕ) (t : Term) → HasLevels d t → d ≤ l → fill l ns t ≡ fill d ns t
@@ -89,6 +100,9 @@ fill_scope d l ns (Poll v a) s h = let o = fill_arg_scope d l ns v s.0 h in let 
 fill_scope d l ns (OnCancel a b) s h = let p = fill_scope d l ns a s.0 h in let q = fill_scope d l ns b s.1 h in cc
 fill_scope d l ns (Bracket None a b c) s h = let p = fill_scope d l ns a s.0 h in let q = fill_scope d l ns b s.2 h in let r = fill_scope d l ns c s.3 h in cc
 fill_scope d l ns (Bracket (Some x) a b c) s h = let p = fill_scope d l ns a s.0 h in let q = under d l x ns b s.1 h in let r = under d l x ns c s.1 h in cc
+fill_scope d l ns (BracketCase x a u y b z c e) s h =
+    let o = fill_scope d l ns a s.0 h in let p = under d l x ns u s.1 h in let q = under_both d l x y ns b s.1 h in
+    let r = under_both d l x z ns c s.1 h in let t = under d l x ns e s.1 h in cc
 fill_scope d l ns (Start x a b) s h = let p = fill_scope d l ns a s.0 h in let q = under d l x ns b s.1 h in cc
 fill_scope d l ns (Join v x a y b c) s h =
     let o = fill_arg_scope d l ns v s.0 h in let p = under d l x ns a s.1 h in let q = under d l y ns b s.3 h in let r = fill_scope d l ns c s.5 h in cc
@@ -100,6 +114,7 @@ fill_scope d l ns (TryTake k x a b) s h = let p = under d l x ns a s.0 h in let 
 fill_scope d l ns (Masked k a) s h = absurd s
 fill_scope d l ns (Opened k a) s h = absurd s
 fill_scope d l ns (InUse k a b) s h = absurd s
+fill_scope d l ns (InUseCase k a y b z c e) s h = absurd s
 fill_scope d l ns (InRelease k a v) s h = absurd s
 fill_scope d l ns (Loop x k c a) s h = absurd s
 fill_scope d l ns _ s h = refl
@@ -132,6 +147,10 @@ module _ (x n : ℕ) (ns ms : List ℕ) (below : AgreeBelow x ns ms) (at : slice
       → put x n (fill (lower x y) ns t) ≡ fill (lower (suc x) y) ms t
   put_under d y t e h p = rw (lower_x d y e h, lower_suc_x d y e h) p
 
+  put_under_both : (d y z : ℕ) (t : Term) → y ≡ d → z ≡ suc d → suc x ≤ d → put x n (fill x ns t) ≡ fill (suc x) ms t
+      → put x n (fill (lower (lower x y) z) ns t) ≡ fill (lower (lower (suc x) y) z) ms t
+  put_under_both d y z t e g h p = rw (lower_x d y e h, lower_suc_x d y e h) (put_under (suc d) z t g (omega arith) p)
+
   -- a number put for the first name above those that are filled fills that name too
   pub put_fill : (d : ℕ) (t : Term) → HasLevels d t → suc x ≤ d → put x n (fill x ns t) ≡ fill (suc x) ms t
   put_fill d (Pure a) s h = let p = put_fill_arg a in cc
@@ -150,6 +169,12 @@ module _ (x n : ℕ) (ns ms : List ℕ) (below : AgreeBelow x ns ms) (at : slice
       let p = put_fill d a s.0 h in
       let q = put_under d y b s.1 h (put_fill (suc d) b s.2 (omega arith)) in
       let r = put_under d y c s.1 h (put_fill (suc d) c s.3 (omega arith)) in cc
+  put_fill d (BracketCase y a u z b w c e) s h =
+      let o = put_fill d a s.0 h in
+      let p = put_under d y u s.1 h (put_fill (suc d) u s.2 (omega arith)) in
+      let q = put_under_both d y z b s.1 s.3 h (put_fill (suc (suc d)) b s.4 (omega arith)) in
+      let r = put_under_both d y w c s.1 s.5 h (put_fill (suc (suc d)) c s.6 (omega arith)) in
+      let t = put_under d y e s.1 h (put_fill (suc d) e s.7 (omega arith)) in cc
   put_fill d (Start y a b) s h = let p = put_fill d a s.0 h in let q = put_under d y b s.1 h (put_fill (suc d) b s.2 (omega arith)) in cc
   put_fill d (Join v y a z b c) s h =
       let o = put_fill_arg v in
@@ -164,6 +189,7 @@ module _ (x n : ℕ) (ns ms : List ℕ) (below : AgreeBelow x ns ms) (at : slice
   put_fill d (Masked k a) s h = absurd s
   put_fill d (Opened k a) s h = absurd s
   put_fill d (InUse k a b) s h = absurd s
+  put_fill d (InUseCase k a y b z c e) s h = absurd s
   put_fill d (InRelease k a v) s h = absurd s
   put_fill d (Loop y k c a) s h = absurd s
   put_fill d _ s h = refl

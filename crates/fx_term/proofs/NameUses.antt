@@ -6,8 +6,8 @@ use Rattle.fx_term.specs.declared.name_kind.NameKind.{NameKind}
 use Rattle.fx_term.specs.declared.name_kind.NameKind.TheVariants as kind
 use Rattle.fx_term.specs.declared.node.Arg.{Arg}
 use Rattle.fx_term.specs.declared.node.Arg.TheVariants.{Number, Slot}
-use Rattle.fx_term.specs.Term.{Term, Pure, Raise, Let, Handle, If, For, Mask, Poll, OnCancel, Bracket}
-use Rattle.fx_term.specs.Term.{Start, Join, Cancel, First, Offer, TryOffer, TryTake, Masked, Opened, InUse, InRelease, Loop, put_arg, put}
+use Rattle.fx_term.specs.Term.{Term, Pure, Raise, Let, Handle, If, For, Mask, Poll, OnCancel, Bracket, BracketCase}
+use Rattle.fx_term.specs.Term.{Start, Join, Cancel, First, Offer, TryOffer, TryTake, Masked, Opened, InUse, InUseCase, InRelease, Loop, put_arg, put}
 use Rattle.fx_term.specs.Scope.{with_name, with_named, kind_elsewhere, elsewhere, IsArgOf, IsNew, IsScoped}
 
 -- a name of the first kind may stand at a place of the second
@@ -34,6 +34,7 @@ IsUsedAs k x (Mask p a) = IsUsedAs k x a
 IsUsedAs k x (Poll p a) = IsArgUsedAs k x kind.Poll p × IsUsedAs k x a
 IsUsedAs k x (OnCancel a f) = IsUsedAs k x a × IsUsedAs k x f
 IsUsedAs k x (Bracket y a u r) = IsUsedAs k x a × IsUsedAs k x u × IsUsedAs k x r
+IsUsedAs k x (BracketCase y a u z s w e d) = IsUsedAs k x a × IsUsedAs k x u × IsUsedAs k x s × IsUsedAs k x e × IsUsedAs k x d
 IsUsedAs k x (Start h a b) = IsUsedAs (kind_elsewhere k) x a × IsUsedAs k x b
 IsUsedAs k x (Join f y a e b c) = IsArgUsedAs k x kind.Fiber f × IsUsedAs k x a × IsUsedAs k x b × IsUsedAs k x c
 IsUsedAs k x (Cancel f) = IsArgUsedAs k x kind.Fiber f
@@ -44,6 +45,7 @@ IsUsedAs k x (TryTake q y a b) = IsUsedAs k x a × IsUsedAs k x b
 IsUsedAs k x (Masked r a) = IsUsedAs k x a
 IsUsedAs k x (Opened r a) = IsUsedAs k x a
 IsUsedAs k x (InUse j a r) = IsUsedAs k x a × IsUsedAs k x r
+IsUsedAs k x (InUseCase j u y s z e d) = IsUsedAs k x u × IsUsedAs k x s × IsUsedAs k x e × IsUsedAs k x d
 IsUsedAs k x (InRelease j a v) = IsUsedAs k x a
 IsUsedAs k x (Loop i j c a) = IsUsedAs k x a
 IsUsedAs k x _ = Unit {0}
@@ -84,6 +86,15 @@ module _ (x : ℕ) where
         scoped_used (with_named y kind.Value s) k u under_y h.2,
         scoped_used (with_named y kind.Value s) k r under_y h.3,
       )
+  scoped_used s k (BracketCase v a u y b z c d) e h =
+      let there = with_name v kind.Value s in
+      let in_there = under s k kind.Value (Some v) e h.1 in (
+        scoped_used s k a e h.0,
+        scoped_used there k u in_there h.2,
+        scoped_used (with_name y kind.Value there) k b (under there k kind.Value (Some y) in_there h.3) h.4,
+        scoped_used (with_name z kind.Value there) k c (under there k kind.Value (Some z) in_there h.5) h.6,
+        scoped_used there k d in_there h.7,
+      )
   scoped_used s k (Start i a b) e h = (
     scoped_used (elsewhere s) (kind_elsewhere k) a (ap (option_map kind_elsewhere) e) h.0,
     scoped_used (with_name i kind.Fiber s) k b (under s k kind.Fiber (Some i) e h.1) h.2,
@@ -102,6 +113,12 @@ module _ (x : ℕ) where
   scoped_used s k (Masked r a) e h = scoped_used s k a e h
   scoped_used s k (Opened r a) e h = scoped_used s k a e h
   scoped_used s k (InUse j a r) e h = (scoped_used s k a e h.0, scoped_used s k r e h.1)
+  scoped_used s k (InUseCase j u y b z c d) e h = (
+    scoped_used s k u e h.0,
+    scoped_used (with_name y kind.Value s) k b (under s k kind.Value (Some y) e h.1) h.2,
+    scoped_used (with_name z kind.Value s) k c (under s k kind.Value (Some z) e h.3) h.4,
+    scoped_used s k d e h.5,
+  )
   scoped_used s k (InRelease j a v) e h = scoped_used s k a e h
   scoped_used s k (Loop i j c a) e h = scoped_used (with_name i kind.Value s) k a (under s k kind.Value (Some i) e h.0) h.1
   scoped_used s k _ e h = tt
@@ -126,6 +143,8 @@ module _ (x : ℕ) where
   put_used k y n (Poll p a) h = (put_arg_used k kind.Poll y n p h.0, put_used k y n a h.1)
   put_used k y n (OnCancel a f) h = (put_used k y n a h.0, put_used k y n f h.1)
   put_used k y n (Bracket z a u r) h = (put_used k y n a h.0, put_used k y n u h.1, put_used k y n r h.2)
+  put_used k y n (BracketCase z a u w s v e d) h =
+      (put_used k y n a h.0, put_used k y n u h.1, put_used k y n s h.2, put_used k y n e h.3, put_used k y n d h.4)
   put_used k y n (Start i a b) h = (put_used (kind_elsewhere k) y n a h.0, put_used k y n b h.1)
   put_used k y n (Join f z a e b c) h = (put_arg_used k kind.Fiber y n f h.0, put_used k y n a h.1, put_used k y n b h.2, put_used k y n c h.3)
   put_used k y n (Cancel f) h = put_arg_used k kind.Fiber y n f h
@@ -136,6 +155,7 @@ module _ (x : ℕ) where
   put_used k y n (Masked r a) h = put_used k y n a h
   put_used k y n (Opened r a) h = put_used k y n a h
   put_used k y n (InUse j a r) h = (put_used k y n a h.0, put_used k y n r h.1)
+  put_used k y n (InUseCase j u z s w e d) h = (put_used k y n u h.0, put_used k y n s h.1, put_used k y n e h.2, put_used k y n d h.3)
   put_used k y n (InRelease j a v) h = put_used k y n a h
   put_used k y n (Loop i j c a) h = put_used k y n a h
   put_used k y n _ h = tt
@@ -156,6 +176,8 @@ module _ (x : ℕ) where
   put_unused n (Poll v a) h = let o = put_arg_unused kind.Poll n v h.0 in let p = put_unused n a h.1 in cc
   put_unused n (OnCancel a f) h = let p = put_unused n a h.0 in let q = put_unused n f h.1 in cc
   put_unused n (Bracket y a u r) h = let p = put_unused n a h.0 in let q = put_unused n u h.1 in let s = put_unused n r h.2 in cc
+  put_unused n (BracketCase y a u z b w c d) h =
+      let o = put_unused n a h.0 in let p = put_unused n u h.1 in let q = put_unused n b h.2 in let r = put_unused n c h.3 in let s = put_unused n d h.4 in cc
   put_unused n (Start i a b) h = let p = put_unused n a h.0 in let q = put_unused n b h.1 in cc
   put_unused n (Join f y a e b c) h =
       let o = put_arg_unused kind.Fiber n f h.0 in let p = put_unused n a h.1 in let q = put_unused n b h.2 in let s = put_unused n c h.3 in cc
@@ -167,6 +189,8 @@ module _ (x : ℕ) where
   put_unused n (Masked r a) h = let p = put_unused n a h in cc
   put_unused n (Opened r a) h = let p = put_unused n a h in cc
   put_unused n (InUse k a r) h = let p = put_unused n a h.0 in let q = put_unused n r h.1 in cc
+  put_unused n (InUseCase k a y b z c d) h =
+      let o = put_unused n a h.0 in let p = put_unused n b h.1 in let q = put_unused n c h.2 in let r = put_unused n d h.3 in cc
   put_unused n (InRelease k a v) h = let p = put_unused n a h in cc
   put_unused n (Loop i k c a) h = let p = put_unused n a h in cc
   put_unused n _ h = refl
@@ -181,6 +205,13 @@ name_is x k scope = rw (eq-eqb x x refl) refl
 -- a part under a binder in a scope
 pub scoped_name_used : (scope : ℕ → Option NameKind) (k : NameKind) (x : ℕ) (t : Term) → IsScoped (with_name x k scope) t → IsUsedAs k x t
 scoped_name_used scope k x t h = scoped_used x (with_name x k scope) k t (name_is x k scope) h
+
+-- a part under two binders, as what it uses the outer one
+pub scoped_outer_used : (scope : ℕ → Option NameKind) (k j : NameKind) (x y : ℕ) (t : Term) → IsNew (with_name x k scope) (Some y)
+    → IsScoped (with_name y j (with_name x k scope)) t → IsUsedAs k x t
+scoped_outer_used scope k j x y t new h =
+    let there = with_name x k scope in
+    scoped_used x (with_name y j there) k t (under x there k j (Some y) (name_is x k scope) new) h
 
 pub scoped_binder_used : (scope : ℕ → Option NameKind) (k : NameKind) (x : Option ℕ) (t : Term) → IsScoped (with_named x k scope) t → IsBinderUsedAs k x t
 scoped_binder_used scope k None t h = tt

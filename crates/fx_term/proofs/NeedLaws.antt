@@ -1,17 +1,18 @@
 -- The fiber numbers that the terms of nodes can use.
-use Rattle.std.proofs.Common.{◌≡◌, ℕ, zero, suc, ◌+◌, ◌-◌, ◌*◌, ◌<◌, ◌≤◌, Option, Some, None, List, [], ◌∷◌, ◌++◌, length, map, take, get_or}
+use Rattle.std.proofs.Common.{◌≡◌, ℕ, zero, suc, ◌+◌, ◌-◌, ◌*◌, ◌<◌, ◌≤◌, Option, Some, None, List, [], ◌∷◌, ◌++◌, length, drop, get_or}
 use Rattle.std.proofs.Common.{refl, sym, ◌∙◌, ap, subst, inl, inr, arith}
 use Rattle.std.specs.Prelude.{All, Contains, slice_get, slice_index}
 use Rattle.std.proofs.lemmas.Bool.{cases_lt}
-use Rattle.std.proofs.lemmas.List.{map_push, length_push, get_or_append_left, get_or_push}
+use Rattle.std.proofs.lemmas.List.{length_push, get_or_append_left, get_or_push}
 use Rattle.std.proofs.lemmas.Option.{slice_get-get_or}
 use Rattle.std.proofs.lemmas.List.Elements.{All-head, All-tail, All-from_recursion, Contains-append_cases}
 use Rattle.fx_term.specs.declared.node.Node.{Node}
 use Rattle.fx_term.specs.declared.code.signature.Part.{Part}
 use Rattle.fx_term.specs.declared.code.signature.Running.{Running}
-use Rattle.fx_term.specs.declared.code.signature.Running.TheVariants.{EachPart, OnePart}
-use Rattle.fx_term.specs.Signature.{parts, running, present}
-use Rattle.fx_term.specs.Term.{Term, Let, Handle, If, For, Mask, Poll, OnCancel, Bracket, Start, Join, TryTake, Masked, Opened, InUse, InRelease, Loop}
+use Rattle.fx_term.specs.declared.code.signature.Running.TheVariants.{Beside, Instead}
+use Rattle.fx_term.specs.Signature.{parts, present}
+use Rattle.fx_term.specs.Term.{Term, Let, Handle, If, For, Mask, Poll, OnCancel, Bracket, BracketCase, Start, Join, TryTake, Masked, Opened}
+use Rattle.fx_term.specs.Term.{InUse, InUseCase, InRelease, Loop}
 use Rattle.fx_term.specs.Need.{need, most_need, NeedsFew}
 use Rattle.fx_term.specs.NodeNeed.{capped, in_all_turns, need_of_part, need_of_both, need_of_all, need_of_node, AreNeeds}
 use Rattle.fx_term.specs.Meaning.{term_of}
@@ -19,7 +20,7 @@ use Rattle.fx_term.specs.Tree.{children, all_children, ChildrenComeFirst, IsOneT
 use Rattle.fx_term.specs.Code.{IsCode}
 use Rattle.fx_term.proofs.AllParts.{all_map, all_from_map}
 use Rattle.fx_term.proofs.NodeTerms.{term_of_node, get_past}
-use Rattle.fx_term.proofs.PresentLaws.{present_push, present_skip}
+use Rattle.fx_term.proofs.PresentLaws.{present_from, absent_from}
 use Rattle.fx_term.proofs.SignatureLaws.{NeedsFewInside, few_of_node, need_is}
 
 -- a term whose parts can use few fiber numbers can use few itself
@@ -32,12 +33,14 @@ few_need (Mask p a) h = h.0
 few_need (Poll p a) h = h.0
 few_need (OnCancel a f) h = h.0
 few_need (Bracket x a u r) h = h.0
+few_need (BracketCase x a u y s z e d) h = h.0
 few_need (Start i a b) h = h.0
 few_need (Join f x a e b c) h = h.0
 few_need (TryTake q x a b) h = h.0
 few_need (Masked r a) h = h.0
 few_need (Opened r a) h = h.0
 few_need (InUse k a r) h = h.0
+few_need (InUseCase k u y s z e d) h = h.0
 few_need (InRelease k a v) h = h.0
 few_need (Loop i k n a) h = h.0
 few_need _ h = omega arith
@@ -55,8 +58,8 @@ few_from_capped n h = omega arith
 -- sums, greatest numbers and products of numbers above the most are such too
 module _ (n m : ℕ) where
   both_capped : (how : Running) (i j : ℕ) → capped n ≡ capped i → capped m ≡ capped j → capped (need_of_both how n m) ≡ capped (need_of_both how i j)
-  both_capped EachPart i j p q = omega arith
-  both_capped OnePart i j p q = omega arith
+  both_capped Beside i j p q = omega arith
+  both_capped Instead i j p q = omega arith
 
 times_capped : (count n m : ℕ) → capped n ≡ capped m → capped (count * n) ≡ capped (count * m)
 times_capped zero n m e = omega arith
@@ -71,38 +74,27 @@ module _ (f g : ℕ → ℕ) where
   part_capped : (p : Part) → capped (f p.node.0) ≡ capped (g p.node.0) → capped (need_of_part f p) ≡ capped (need_of_part g p)
   part_capped p e = let turns = turns_capped p.count (f p.node.0) (g p.node.0) e in omega arith
 
-  all_capped : (how : Running) (ps : List Part) → All (λ (p : Part). capped (f p.node.0) ≡ capped (g p.node.0)) ps
-      → capped (need_of_all how (map (need_of_part f) ps)) ≡ capped (need_of_all how (map (need_of_part g) ps))
-  all_capped how [] h = refl
-  all_capped how (p ∷ ps) h =
+  all_capped : (ps : List Part) → All (λ (p : Part). capped (f p.node.0) ≡ capped (g p.node.0)) ps → capped (need_of_all f ps) ≡ capped (need_of_all g ps)
+  all_capped [] h = refl
+  all_capped (p ∷ ps) h =
       let Same = λ (q : Part). capped (f q.node.0) ≡ capped (g q.node.0) in
-      both_capped (need_of_part f p) (need_of_all how (map (need_of_part f) ps)) how (need_of_part g p) (need_of_all how (map (need_of_part g) ps))
-      (part_capped p (All-head Same p ps h)) (all_capped how ps (All-tail Same p ps h))
+      both_capped (need_of_part f p) (need_of_all f ps) p.running (need_of_part g p) (need_of_all g ps)
+      (part_capped p (All-head Same p ps h)) (all_capped ps (All-tail Same p ps h))
 
--- the parts one after another
-all_push : (how : Running) (ns : List ℕ) (n : ℕ) → need_of_all how (ns ++ n ∷ []) ≡ need_of_both how (need_of_all how ns) n
-all_push EachPart [] n = omega arith
-all_push OnePart [] n = omega arith
-all_push EachPart (m ∷ ns) n = let rest = all_push EachPart ns n in omega arith
-all_push OnePart (m ∷ ns) n = let rest = all_push OnePart ns n in omega arith
+-- the needs of the parts from an entry on, as far as they are there
+abbrev pub need_from : (ℕ → ℕ) → List (Option Part) → ℕ → ℕ
+need_from needs entries i = capped (need_of_all needs (present (drop i entries)))
 
--- the needs of the parts before, as far as they are there
-abbrev pub need_so_far : (ℕ → ℕ) → Running → List (Option Part) → ℕ
-need_so_far needs how entries = capped (need_of_all how (map (need_of_part needs) (present entries)))
+pub need_of_entry : (needs : ℕ → ℕ) (entries : List (Option Part)) (i : ℕ) (d : Option Part) (p : Part) → i < length entries
+    → get_or entries i d ≡ Some p → (part after : ℕ) → part ≡ capped (need_of_part needs p) → after ≡ need_from needs entries (suc i)
+    → capped (need_of_both p.running part after) ≡ need_from needs entries i
+need_of_entry needs entries i d p lt e part after this rest =
+    both_capped part after p.running (need_of_part needs p) (need_of_all needs (present (drop (suc i) entries))) (omega arith) (omega arith)
+    ∙ ap (λ ps. capped (need_of_all needs ps)) (sym (present_from entries i d p lt e))
 
-pub need_of_entry : (needs : ℕ → ℕ) (how : Running) (entries : List (Option Part)) (i : ℕ) (d : Option Part) (p : Part) → i < length entries
-    → get_or entries i d ≡ Some p → (so_far part : ℕ) → so_far ≡ need_so_far needs how (take i entries) → part ≡ capped (need_of_part needs p)
-    → capped (need_of_both how so_far part) ≡ need_so_far needs how (take (i + 1) entries)
-need_of_entry needs how entries i d p lt e so_far part here this =
-    let before = map (need_of_part needs) (present (take i entries)) in
-    let whole = ap (map (need_of_part needs)) (present_push entries i d p lt e) ∙ map_push (need_of_part needs) (present (take i entries)) p in
-    both_capped so_far part how (need_of_all how before) (need_of_part needs p) (omega arith) (omega arith)
-    ∙ ap capped (sym (all_push how before (need_of_part needs p)) ∙ ap (need_of_all how) (sym whole))
-
-pub need_of_no_entry : (needs : ℕ → ℕ) (how : Running) (entries : List (Option Part)) (i : ℕ) (d : Option Part) → i < length entries
-    → get_or entries i d ≡ None → need_so_far needs how (take i entries) ≡ need_so_far needs how (take (i + 1) entries)
-need_of_no_entry needs how entries i d lt e =
-    ap (λ ps. capped (need_of_all how (map (need_of_part needs) ps))) (sym (present_skip entries i d lt e))
+pub need_of_no_entry : (needs : ℕ → ℕ) (entries : List (Option Part)) (i : ℕ) (d : Option Part) → i < length entries
+    → get_or entries i d ≡ None → need_from needs entries (suc i) ≡ need_from needs entries i
+need_of_no_entry needs entries i d lt e = ap (λ ps. capped (need_of_all needs ps)) (sym (absent_from entries i d lt e))
 
 -- the needs of the first nodes, one after another
 pub needs_of_none : (nodes : List Node) (needs : List ℕ) → needs ≡ [] → AreNeeds nodes 0 needs
@@ -114,7 +106,7 @@ module _ (nodes : List Node) (tree : ChildrenComeFirst nodes) where
   next_need id n e needs are =
       let Same = λ (c : ℕ). capped (slice_index needs c) ≡ capped (need (term_of nodes c)) in
       let below : All Same (children n) = λ i d lt. let before = tree id n e i d lt in let here = are.need _ before in omega arith in
-      all_capped (λ i. slice_index needs i) (λ i. need (term_of nodes i)) (running n) (parts n) (all_from_map Same (λ (p : Part). p.node.0) (parts n) below)
+      all_capped (λ i. slice_index needs i) (λ i. need (term_of nodes i)) (parts n) (all_from_map Same (λ (p : Part). p.node.0) (parts n) below)
       ∙ ap capped (sym (need_is (term_of nodes) n) ∙ ap need (sym (term_of_node nodes tree id n e)))
 
   module _ (count : ℕ) (d : Node) (within : count < length nodes) (needs : List ℕ) (are : AreNeeds nodes count needs) where

@@ -1,9 +1,10 @@
 -- A node's term is in scope, and has few turns, exactly where the node is well placed and the terms of its parts are so where they stand.
-use Rattle.std.proofs.Common.{ℕ, ◌≤◌, Option, Some, None, List, length, get_or, sym, subst, arith}
+use Rattle.std.proofs.Common.{◌≡◌, ℕ, ◌≤◌, Option, Some, None, List, length, get_or, refl, sym, ◌∙◌, ap, subst, arith}
 use Rattle.std.specs.Prelude.{All, slice_get}
 use Rattle.std.proofs.lemmas.List.Elements.{All-nil, All-from_recursion, recursion_from_All}
 use Rattle.std.proofs.lemmas.Option.{slice_get_past}
 use Rattle.fx_term.specs.declared.name_kind.NameKind.{NameKind}
+use Rattle.fx_term.specs.declared.name_kind.NameKind.TheVariants as kind
 use Rattle.fx_term.specs.declared.node.Node.{Node}
 use Rattle.fx_term.specs.declared.code.signature.Part.{Part}
 use Rattle.fx_term.specs.Signature.{uses, queue_of, parts}
@@ -13,30 +14,77 @@ use Rattle.fx_term.specs.Scope.{IsBinderAt, IsNew, with_named, bound_under, HasL
 use Rattle.fx_term.specs.Meaning.{assemble}
 use Rattle.fx_term.specs.Need.{need, most_need, NeedsFew}
 use Rattle.fx_term.specs.Turns.{HasFewTurns}
-use Rattle.fx_term.specs.Walk.{Spot, kinds_inside, kinds_under, spot_of, spots_below}
+use Rattle.fx_term.specs.Walk.{Spot, kinds_inside, kinds_under, kinds_of_part, spot_of, spots_below}
 use Rattle.fx_term.specs.WellPlaced.{IsUseBelow, IsUseOf, IsNextBinder, IsQueueBelow, HasRightSlots, HasRightKinds, HasRightTurns}
 use Rattle.fx_term.proofs.AllParts.{all_map, all_from_map}
-use Rattle.fx_term.proofs.ScopeLaws.{levels_under, scoped_under, in_scope_under}
+use Rattle.fx_term.proofs.ScopeLaws.{scope_under, length_suc}
 use Rattle.fx_term.proofs.SeenLaws.{length_inside, scope_of_inside}
 use Rattle.fx_term.proofs.SignatureLaws.{scope_inside, HasPartLevels, node_levels, levels_of_node, IsPartScoped, node_scoped, scoped_of_node}
 use Rattle.fx_term.proofs.SignatureLaws.{HasPartFewTurns, node_turns, turns_of_node, NeedsFewInside, node_needs_few, few_of_node}
 use Rattle.fx_term.proofs.SignatureLaws.{NamesBelowInside, node_names_below, names_of_node}
 
 -- what is in scope under a binder that may have no name
-named_levels : (x : Option ℕ) (k : NameKind) (kinds : List NameKind) (t : Term) → IsBinderAt (length kinds) x → IsInScope (kinds_under x k kinds) t
-    → HasLevels (bound_under (length kinds) x) t
-named_levels None k kinds t next h = h.levels
-named_levels (Some x) k kinds t next h = levels_under kinds k x next t h
+module _ (x : Option ℕ) (k : NameKind) (kinds : List NameKind) where
+  -- one more name is in scope there, if it has one
+  length_under : length (kinds_under x k kinds) ≡ bound_under (length kinds) x
+  length_under = by_name x
+    where
+      by_name : (y : Option ℕ) → length (kinds_under y k kinds) ≡ bound_under (length kinds) y
+      by_name None = refl
+      by_name (Some y) = length_suc kinds k
 
-named_scoped : (x : Option ℕ) (k : NameKind) (kinds : List NameKind) (t : Term) → IsBinderAt (length kinds) x → IsInScope (kinds_under x k kinds) t
-    → IsNew (λ y. slice_get kinds y) x × IsScoped (with_named x k (λ y. slice_get kinds y)) t
-named_scoped None k kinds t next h = (tt, h.scoped)
-named_scoped (Some x) k kinds t next h = (slice_get_past kinds x (omega arith), scoped_under kinds k x next t h)
+  module _ (next : IsBinderAt (length kinds) x) where
+    scope_of_under : (λ (y : ℕ). slice_get (kinds_under x k kinds) y) ≡ with_named x k (λ y. slice_get kinds y)
+    scope_of_under = by_name x next
+      where
+        by_name : (y : Option ℕ) → IsBinderAt (length kinds) y
+            → (λ (z : ℕ). slice_get (kinds_under y k kinds) z) ≡ with_named y k (λ z. slice_get kinds z)
+        by_name None at = refl
+        by_name (Some y) at = scope_under kinds k y at
 
-named_in_scope : (x : Option ℕ) (k : NameKind) (kinds : List NameKind) (t : Term) → IsBinderAt (length kinds) x → HasLevels (bound_under (length kinds) x) t
-    → IsScoped (with_named x k (λ y. slice_get kinds y)) t → IsInScope (kinds_under x k kinds) t
-named_in_scope None k kinds t next levels scoped = record { levels = levels; scoped = scoped }
-named_in_scope (Some x) k kinds t next levels scoped = in_scope_under kinds k x next t levels scoped
+    new_there : IsNew (λ y. slice_get kinds y) x
+    new_there = by_name x next
+      where
+        by_name : (y : Option ℕ) → IsBinderAt (length kinds) y → IsNew (λ z. slice_get kinds z) y
+        by_name None at = tt
+        by_name (Some y) at = slice_get_past kinds y (omega arith)
+
+-- what is in scope under two binders, the second inside of the first
+module _ (x : Option ℕ) (k : NameKind) (y : Option ℕ) (kinds : List NameKind) (t : Term)
+    (first : IsBinderAt (length kinds) x) (then : IsBinderAt (bound_under (length kinds) x) y) where
+  abbrev outer : List NameKind
+  outer = kinds_under x k kinds
+
+  abbrev both : List NameKind
+  both = kinds_under y kind.Value outer
+
+  abbrev scope_of_outer : ℕ → Option NameKind
+  scope_of_outer = with_named x k (λ z. slice_get kinds z)
+
+  then_there : IsBinderAt (length outer) y
+  then_there = subst (λ n. IsBinderAt n y) (sym (length_under x k kinds)) then
+
+  length_both : length both ≡ bound_under (bound_under (length kinds) x) y
+  length_both = length_under y kind.Value outer ∙ ap (λ n. bound_under n y) (length_under x k kinds)
+
+  scope_of_both : (λ (z : ℕ). slice_get both z) ≡ with_named y kind.Value scope_of_outer
+  scope_of_both = scope_of_under y kind.Value outer then_there ∙ ap (with_named y kind.Value) (scope_of_under x k kinds first)
+
+  levels_there : IsInScope both t → HasLevels (bound_under (bound_under (length kinds) x) y) t
+  levels_there h = subst (λ n. HasLevels n t) length_both h.levels
+
+  scoped_there : IsInScope both t → IsNew (λ z. slice_get kinds z) x × IsNew scope_of_outer y × IsScoped (with_named y kind.Value scope_of_outer) t
+  scoped_there h = (
+    new_there x k kinds first,
+    subst (λ (s : ℕ → Option NameKind). IsNew s y) (scope_of_under x k kinds first) (new_there y kind.Value outer then_there),
+    subst (λ (s : ℕ → Option NameKind). IsScoped s t) scope_of_both h.scoped,
+  )
+
+  in_scope_there : HasLevels (bound_under (bound_under (length kinds) x) y) t → IsScoped (with_named y kind.Value scope_of_outer) t → IsInScope both t
+  in_scope_there levels scoped = record {
+    levels = subst (λ n. HasLevels n t) (sym length_both) levels;
+    scoped = subst (λ (s : ℕ → Option NameKind). IsScoped s t) (sym scope_of_both) scoped;
+  }
 
 -- what is in scope in a part
 module _ (kinds : List NameKind) (p : Part) (t : Term) (next : IsNextBinder (length kinds) p) where
@@ -46,24 +94,28 @@ module _ (kinds : List NameKind) (p : Part) (t : Term) (next : IsNextBinder (len
   abbrev scope_there : ℕ → Option NameKind
   scope_there = scope_inside p.elsewhere (λ y. slice_get kinds y)
 
-  next_inside : IsBinderAt (length inside) p.binder
-  next_inside = subst (λ n. IsBinderAt n p.binder) (sym (length_inside p.elsewhere kinds)) next
+  next_inside : IsNextBinder (length inside) p
+  next_inside = subst (λ n. IsNextBinder n p) (sym (length_inside p.elsewhere kinds)) next
 
-  part_levels : IsInScope (kinds_under p.binder p.kind inside) t → HasLevels (bound_under (length kinds) p.binder) t
+  part_levels : IsInScope (kinds_of_part p kinds) t → HasLevels (bound_under (bound_under (length kinds) p.binder) p.inner) t
   part_levels h =
-      subst (λ n. HasLevels (bound_under n p.binder) t) (length_inside p.elsewhere kinds) (named_levels p.binder p.kind inside t next_inside h)
+      subst (λ n. HasLevels (bound_under (bound_under n p.binder) p.inner) t) (length_inside p.elsewhere kinds)
+      (levels_there p.binder p.kind p.inner inside t next_inside.0 next_inside.1 h)
 
-  part_scoped : IsInScope (kinds_under p.binder p.kind inside) t → IsNew scope_there p.binder × IsScoped (with_named p.binder p.kind scope_there) t
+  part_scoped : IsInScope (kinds_of_part p kinds) t → IsNew scope_there p.binder × IsNew (with_named p.binder p.kind scope_there) p.inner
+      × IsScoped (with_named p.inner kind.Value (with_named p.binder p.kind scope_there)) t
   part_scoped h =
-      subst (λ (s : ℕ → Option NameKind). IsNew s p.binder × IsScoped (with_named p.binder p.kind s) t) (scope_of_inside p.elsewhere kinds)
-      (named_scoped p.binder p.kind inside t next_inside h)
+      subst (λ (s : ℕ → Option NameKind).
+      IsNew s p.binder × IsNew (with_named p.binder p.kind s) p.inner × IsScoped (with_named p.inner kind.Value (with_named p.binder p.kind s)) t)
+      (scope_of_inside p.elsewhere kinds) (scoped_there p.binder p.kind p.inner inside t next_inside.0 next_inside.1 h)
 
-  part_in_scope : HasLevels (bound_under (length kinds) p.binder) t → IsScoped (with_named p.binder p.kind scope_there) t
-      → IsInScope (kinds_under p.binder p.kind inside) t
+  part_in_scope : HasLevels (bound_under (bound_under (length kinds) p.binder) p.inner) t
+      → IsScoped (with_named p.inner kind.Value (with_named p.binder p.kind scope_there)) t → IsInScope (kinds_of_part p kinds) t
   part_in_scope levels scoped =
-      named_in_scope p.binder p.kind inside t next_inside
-      (subst (λ n. HasLevels (bound_under n p.binder) t) (sym (length_inside p.elsewhere kinds)) levels)
-      (subst (λ (s : ℕ → Option NameKind). IsScoped (with_named p.binder p.kind s) t) (sym (scope_of_inside p.elsewhere kinds)) scoped)
+      in_scope_there p.binder p.kind p.inner inside t next_inside.0 next_inside.1
+      (subst (λ n. HasLevels (bound_under (bound_under n p.binder) p.inner) t) (sym (length_inside p.elsewhere kinds)) levels)
+      (subst (λ (s : ℕ → Option NameKind). IsScoped (with_named p.inner kind.Value (with_named p.binder p.kind s)) t)
+      (sym (scope_of_inside p.elsewhere kinds)) scoped)
 
 -- the part's term is in scope where it stands
 abbrev pub IsPartInScope : (ℕ → Term) → Spot → Type 0
@@ -125,7 +177,7 @@ module _ (kinds : List NameKind) (turns : ℕ) (term : ℕ → Term) where
       let levels = All-from_recursion HasLevelsThere (parts n) (levels_of_node term (length kinds) n h.levels).1 in
       let scoped = All-from_recursion IsScopedThere (parts n) (scoped_of_node term scope n h.scoped).1 in
       all_map (IsPartInScope term) (spot_of kinds turns) (parts n)
-      (λ i d lt. part_in_scope kinds (get_or (parts n) i d) _ (levels i d lt).0 (levels i d lt).1 (scoped i d lt).1)
+      (λ i d lt. part_in_scope kinds (get_or (parts n) i d) _ (levels i d lt).0 (levels i d lt).1 (scoped i d lt).2)
 
   -- a node's term has few turns where its counts are right and the terms of its parts have few
   pub few_turns_node : (o : Option Node) → HasRightTurns turns o → All (HasSpotFewTurns term) (spots_below o kinds turns) → HasFewTurns turns (assemble o term)

@@ -1,39 +1,44 @@
 -- Pending nodes as spots, and a stack of them that grows by the parts of a node.
 use Rattle.std.proofs.Common.{◌≡◌, ℕ, suc, ◌<◌, ◌≤◌, Bool, true, false, if◌then◌else◌}
-use Rattle.std.proofs.Common.{Option, Some, None, get_or, drop, List, [], ◌∷◌, ◌++◌, length, map, take, reverse}
-use Rattle.std.proofs.Common.{refl, sym, ◌∙◌, ap, subst, arith, append_assoc}
+use Rattle.std.proofs.Common.{Option, Some, None, get_or, drop, List, [], ◌∷◌, ◌++◌, length, map, take, reverse, refl, sym, ◌∙◌, ap, subst, arith, append_assoc}
 use Rattle.std.proofs.lemmas.List.{append-nil, map_push, length_push, reverse-append, take_all, take-take, take-append-le, length-take-le}
 use Rattle.fx_term.specs.declared.code.signature.Part.{Part}
 use Rattle.fx_term.specs.declared.name_kind.NameKind.{NameKind}
+use Rattle.fx_term.specs.declared.name_kind.NameKind.TheVariants as kind
 use Rattle.fx_term.specs.declared.code.walk.Pending.{Pending}
 use Rattle.fx_term.specs.Signature.{present}
 use Rattle.fx_term.specs.Turns.{turns_inside}
 use Rattle.fx_term.specs.Walk.{Spot, kinds_inside, kinds_under, spot_of}
-use Rattle.fx_term.specs.Pending.{with_own, path_to, seen_past, spot_at, AreNested, own_of, under, ArePushed}
+use Rattle.fx_term.specs.Pending.{with_own, path_to, seen_past, spot_at, AreNested, own_of, inner_of, under, ArePushed}
 use Rattle.fx_term.proofs.PresentLaws.{present_from}
 use Rattle.fx_term.proofs.SeenLaws.{seen_under, seen_all}
 
-path_under : (path : List NameKind) (parent : Pending) (p : Part) → path_to path (under path parent p) ≡ with_own (own_of p) path
-path_under path parent p = ap (with_own (own_of p)) (take_all (length path) path (omega arith))
+path_under : (path : List NameKind) (parent : Pending) (p : Part) → path_to path (under path parent p) ≡ with_own (inner_of p) (with_own (own_of p) path)
+path_under path parent p = ap (λ ks. with_own (inner_of p) (with_own (own_of p) ks)) (take_all (length path) path (omega arith))
+
+-- names that are bound stand behind those that are there
+own_longer : (own : Option NameKind) (path : List NameKind) → length path ≤ length (with_own own path)
+own_longer None path = omega arith
+own_longer (Some k) path = omega (arith, length_push path k)
+
+take_own : (n : ℕ) (own : Option NameKind) (path : List NameKind) → n ≤ length path → take n (with_own own path) ≡ take n path
+take_own n None path within = refl
+take_own n (Some k) path within = take-append-le n path (k ∷ []) within
 
 -- a pending node keeps its path as scopes below it are left and entered
 pub path_kept : (path : List NameKind) (p q : Pending) → q.outer ≤ p.outer → p.outer ≤ length path → path_to (path_to path p) q ≡ path_to path q
-path_kept path p q below within = ap (with_own q.own) (by_own p.own)
-  where
-    cut : take q.outer (take p.outer path) ≡ take q.outer path
-    cut = take-take q.outer p.outer path below
-
-    by_own : (own : Option NameKind) → take q.outer (with_own own (take p.outer path)) ≡ take q.outer path
-    by_own None = cut
-    by_own (Some k) = take-append-le q.outer (take p.outer path) (k ∷ []) (omega (arith, length-take-le p.outer path within)) ∙ cut
+path_kept path p q below within =
+    let round = take p.outer path in
+    let near : q.outer ≤ length round = omega (arith, length-take-le p.outer path within) in
+    let nearer : q.outer ≤ length (with_own p.own round) = omega (arith, own_longer p.own round) in
+    ap (λ ks. with_own q.inner (with_own q.own ks))
+    (take_own q.outer p.inner (with_own p.own round) nearer ∙ take_own q.outer p.own round near ∙ take-take q.outer p.outer path below)
 
 -- all names round a pending node are on the path to it
 pub path_reaches : (path : List NameKind) (p : Pending) → p.outer ≤ length path → p.outer ≤ length (path_to path p)
-path_reaches path p within = by_own p.own
-  where
-    by_own : (own : Option NameKind) → p.outer ≤ length (with_own own (take p.outer path))
-    by_own None = omega (arith, length-take-le p.outer path within)
-    by_own (Some k) = omega (arith, length-take-le p.outer path within, length_push (take p.outer path) k)
+path_reaches path p within =
+    let round = take p.outer path in
+    omega (arith, length-take-le p.outer path within, own_longer p.own round, own_longer p.inner (with_own p.own round))
 
 -- nested ones
 pub nested_push : (least : ℕ) (stack : List Pending) (p : Pending) (most : ℕ) → AreNested least stack most → p.outer ≡ most
@@ -79,20 +84,27 @@ module _ (path : List NameKind) (parent : Pending) (near : parent.foreign ≤ le
   seen_here = seen_past parent.foreign path
 
   module _ (p : Part) where
-    kinds_of_part : (e : Bool)
+    foreign_near : (e : Bool) → (if e then length path else parent.foreign) ≤ length path
+    foreign_near true = omega arith
+    foreign_near false = near
+
+    kinds_outside : (e : Bool)
         → seen_past (if e then length path else parent.foreign) (with_own (own_of p) path) ≡ kinds_under p.binder p.kind (kinds_inside e seen_here)
-    kinds_of_part true =
+    kinds_outside true =
         seen_under (length path) path p.kind p.binder (omega arith) ∙ ap (kinds_under p.binder p.kind) (seen_all parent.foreign path)
-    kinds_of_part false = seen_under parent.foreign path p.kind p.binder near
+    kinds_outside false = seen_under parent.foreign path p.kind p.binder near
+
+    kinds_there : (e : Bool) → seen_past (if e then length path else parent.foreign) (with_own (inner_of p) (with_own (own_of p) path))
+        ≡ kinds_under p.inner kind.Value (kinds_under p.binder p.kind (kinds_inside e seen_here))
+    kinds_there e =
+        let foreign = if e then length path else parent.foreign in
+        seen_under foreign (with_own (own_of p) path) kind.Value p.inner (omega (arith, foreign_near e, own_longer (own_of p) path))
+        ∙ ap (kinds_under p.inner kind.Value) (kinds_outside e)
 
     spot_is : spot_at path (under path parent p) ≡ spot_of seen_here parent.turns p
     spot_is =
         ap (λ (ks : List NameKind). record { id = p.node.0; kinds = ks; turns = turns_inside parent.turns p.count })
-        (ap (seen_past (if p.elsewhere then length path else parent.foreign)) (path_under path parent p) ∙ kinds_of_part p.elsewhere)
-
-    foreign_near : (e : Bool) → (if e then length path else parent.foreign) ≤ length path
-    foreign_near true = omega arith
-    foreign_near false = near
+        (ap (seen_past (if p.elsewhere then length path else parent.foreign)) (path_under path parent p) ∙ kinds_there p.elsewhere)
 
     pub pushed_more : (ps : List Spot) (old mid new : List Pending) → ArePushed path ps old mid → new ≡ mid ++ under path parent p ∷ []
         → ArePushed path (spot_of seen_here parent.turns p ∷ ps) old new

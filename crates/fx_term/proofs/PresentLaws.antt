@@ -23,6 +23,10 @@ module _ {X : Type 0} where
       → present (drop i entries) ≡ x ∷ present (drop (suc i) entries)
   present_from entries i d x lt e = ap present (drop-cons entries i d lt) ∙ ap (λ o. present (o ∷ drop (suc i) entries)) e
 
+  pub absent_from : (entries : List (Option X)) (i : ℕ) (d : Option X) → i < length entries → get_or entries i d ≡ None
+      → present (drop i entries) ≡ present (drop (suc i) entries)
+  absent_from entries i d lt e = ap present (drop-cons entries i d lt) ∙ ap (λ o. present (o ∷ drop (suc i) entries)) e
+
   module _ (P : X → Type 0) where
     -- what holds of each entry that is there holds of each item
     pub all_present : (entries : List (Option X)) → All (λ entry. IfSome entry P) entries → All P (present entries)

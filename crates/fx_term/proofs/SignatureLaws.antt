@@ -2,6 +2,7 @@
 use Rattle.std.proofs.Common.{◌≡◌, ℕ, ◌≤◌, Bool, true, false, Option, Some, refl, arith}
 use Rattle.std.specs.List.{AllByRecursion}
 use Rattle.fx_term.specs.declared.name_kind.NameKind.{NameKind}
+use Rattle.fx_term.specs.declared.name_kind.NameKind.TheVariants as kind
 use Rattle.fx_term.specs.declared.node.Node.{Node}
 use Rattle.fx_term.specs.declared.node.Node.TheVariants as node
 use Rattle.fx_term.specs.declared.code.signature.Part.{Part}
@@ -24,7 +25,7 @@ module _ (term : ℕ → Term) where
   -- each binder has the number of binders in whose scope it stands, and each name is below the bound
   module _ (bound : ℕ) where
     abbrev pub HasPartLevels : Part → Type 0
-    HasPartLevels p = IsNextBinder bound p × HasLevels (bound_under bound p.binder) (term p.node.0)
+    HasPartLevels p = IsNextBinder bound p × HasLevels (bound_under (bound_under bound p.binder) p.inner) (term p.node.0)
 
     pub node_levels : (n : Node) → AllByRecursion (IsUseBelow bound) (uses n) → AllByRecursion HasPartLevels (parts n)
         → HasLevels bound (assemble (Some n) term)
@@ -40,7 +41,8 @@ module _ (term : ℕ → Term) where
   module _ (scope : ℕ → Option NameKind) where
     abbrev pub IsPartScoped : Part → Type 0
     IsPartScoped p =
-        IsNew (scope_inside p.elsewhere scope) p.binder × IsScoped (with_named p.binder p.kind (scope_inside p.elsewhere scope)) (term p.node.0)
+        let there = with_named p.binder p.kind (scope_inside p.elsewhere scope) in
+        IsNew (scope_inside p.elsewhere scope) p.binder × IsNew there p.inner × IsScoped (with_named p.inner kind.Value there) (term p.node.0)
 
     pub node_scoped : (n : Node) → AllByRecursion (IsUseOf scope) (uses n) → AllByRecursion IsPartScoped (parts n)
         → IsScoped scope (assemble (Some n) term)

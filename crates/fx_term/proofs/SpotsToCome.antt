@@ -43,7 +43,7 @@ pub record IsWalked (queues : ℕ) (nodes : List Node) (path : List NameKind) (s
 
 -- where the walk begins
 unfoldable pub root_pending : List Node → Pending
-root_pending nodes = record { node = record { 0 = length nodes - 1 }; outer = 0; foreign = 0; own = None; turns = 1 }
+root_pending nodes = record { node = record { 0 = length nodes - 1 }; outer = 0; foreign = 0; own = None; inner = None; turns = 1 }
 
 come_pop : (nodes : List Node) (path : List NameKind) (rest : List Pending) (p : Pending)
     → spots_to_come nodes path (rest ++ p ∷ []) ≡ spots_from nodes (spot_at path p) ++ spots_to_come nodes path rest

@@ -6,7 +6,8 @@ use Rattle.std.proofs.lemmas.List.Elements.{All-nil, All-append, All-weaker}
 use Rattle.std.proofs.lemmas.List.Sums.{sum_by-append}
 use Rattle.fx_term.specs.declared.node.Node.{Node}
 use Rattle.fx_term.specs.declared.node.Node.TheVariants as node
-use Rattle.fx_term.specs.Term.{Term, Let, Handle, If, For, Mask, Poll, OnCancel, Bracket, Start, Join, TryTake, Masked, Opened, InUse, InRelease, Loop}
+use Rattle.fx_term.specs.Term.{Term, Let, Handle, If, For, Mask, Poll, OnCancel, Bracket, BracketCase, Start, Join, TryTake, Masked, Opened, InUse}
+use Rattle.fx_term.specs.Term.{InUseCase, InRelease, Loop}
 use Rattle.fx_term.specs.Meaning.{assemble, term_of, root_term}
 use Rattle.fx_term.specs.Tree.{children, all_children, IsForest}
 use Rattle.fx_term.proofs.NodeTerms.{term_of_node, get_past}
@@ -21,12 +22,14 @@ size (Mask p a) = 1 + size a
 size (Poll p a) = 1 + size a
 size (OnCancel a f) = 1 + size a + size f
 size (Bracket x a u r) = 1 + size a + size u + size r
+size (BracketCase x a u y s z e d) = 1 + size a + size u + size s + size e + size d
 size (Start h a b) = 1 + size a + size b
 size (Join f x a e b c) = 1 + size a + size b + size c
 size (TryTake q x a b) = 1 + size a + size b
 size (Masked r a) = 1 + size a
 size (Opened r a) = 1 + size a
 size (InUse k a r) = 1 + size a + size r
+size (InUseCase k u y s z e d) = 1 + size u + size s + size e + size d
 size (InRelease k a v) = 1 + size a
 size (Loop i k n a) = 1 + size a
 size _ = 1

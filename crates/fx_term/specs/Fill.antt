@@ -2,8 +2,8 @@
 use Rattle.std.specs.Prelude.{◌≡◌, ℕ, ◌<◌, if◌then◌else◌, nat_lt, Option, Some, None, List, slice_index}
 use Rattle.fx_term.specs.declared.node.Arg.{Arg}
 use Rattle.fx_term.specs.declared.node.Arg.TheVariants.{Number, Slot}
-use Rattle.fx_term.specs.Term.{Term, Pure, Raise, Canceled, Never, Cede, Let, Handle, If, For, Mask, Poll, OnCancel, Bracket, Start, Join}
-use Rattle.fx_term.specs.Term.{Cancel, First, Offer, TryOffer, Take, TryTake, Finished, Masked, Opened, InUse, InRelease, Loop, Await}
+use Rattle.fx_term.specs.Term.{Term, Pure, Raise, Canceled, Never, Cede, Let, Handle, If, For, Mask, Poll, OnCancel, Bracket, BracketCase, Start, Join}
+use Rattle.fx_term.specs.Term.{Cancel, First, Offer, TryOffer, Take, TryTake, Finished, Masked, Opened, InUse, InUseCase, InRelease, Loop, Await}
 
 -- the argument with the numbers of a list for the names below the bound
 abbrev pub fill_arg : ℕ → List ℕ → Arg → Arg
@@ -33,6 +33,9 @@ fill b ns (Mask p t) = Mask p (fill (lower b p) ns t)
 fill b ns (Poll p t) = Poll (fill_arg b ns p) (fill b ns t)
 fill b ns (OnCancel t f) = OnCancel (fill b ns t) (fill b ns f)
 fill b ns (Bracket x t u r) = Bracket x (fill b ns t) (fill (lower_named b x) ns u) (fill (lower_named b x) ns r)
+fill b ns (BracketCase x t u y v z w o) =
+    let under = lower b x in
+    BracketCase x (fill b ns t) (fill under ns u) y (fill (lower under y) ns v) z (fill (lower under z) ns w) (fill under ns o)
 fill b ns (Start h t u) = Start h (fill b ns t) (fill (lower b h) ns u)
 fill b ns (Join f x t e u v) = Join (fill_arg b ns f) x (fill (lower b x) ns t) e (fill (lower b e) ns u) (fill b ns v)
 fill b ns (Cancel f) = Cancel (fill_arg b ns f)
@@ -45,6 +48,7 @@ fill b ns (Finished v) = Finished v
 fill b ns (Masked r t) = Masked r (fill b ns t)
 fill b ns (Opened r t) = Opened r (fill b ns t)
 fill b ns (InUse k t r) = InUse k (fill b ns t) (fill b ns r)
+fill b ns (InUseCase k t y u z v w) = InUseCase k (fill b ns t) y (fill (lower b y) ns u) z (fill (lower b z) ns v) (fill b ns w)
 fill b ns (InRelease k t v) = InRelease k (fill b ns t) v
 fill b ns (Loop i k c t) = Loop i k c (fill (lower b i) ns t)
 fill b ns (Await f) = Await f

@@ -3,8 +3,8 @@ use Rattle.std.specs.Prelude.{ℕ, zero, suc, ◌-◌, Option, Some, None, List,
 use Rattle.fx_term.specs.declared.node.Arg.TheVariants.{Slot}
 use Rattle.fx_term.specs.declared.node.Node.{Node}
 use Rattle.fx_term.specs.declared.node.Node.TheVariants as node
-use Rattle.fx_term.specs.Term.{Term, Pure, Raise, Canceled, Never, Cede, Let, Handle, If, For, Mask, Poll, OnCancel, Bracket, Start, Join, Cancel, First}
-use Rattle.fx_term.specs.Term.{Offer, TryOffer, Take, TryTake}
+use Rattle.fx_term.specs.Term.{Term, Pure, Raise, Canceled, Never, Cede, Let, Handle, If, For, Mask, Poll, OnCancel, Bracket, BracketCase, Start, Join}
+use Rattle.fx_term.specs.Term.{Cancel, First, Offer, TryOffer, Take, TryTake}
 
 -- a node's term, from the terms of its children
 abbrev pub assemble : Option Node → (ℕ → Term) → Term
@@ -22,6 +22,7 @@ assemble (Some (node.Mask p a)) child = Mask p (child a.0)
 assemble (Some (node.Poll p a)) child = Poll (Slot p) (child a.0)
 assemble (Some (node.OnCancel a f)) child = OnCancel (child a.0) (child f.0)
 assemble (Some (node.Bracket x a u r)) child = Bracket x (child a.0) (child u.0) (child r.0)
+assemble (Some (node.BracketCase x a u y s z e d)) child = BracketCase x (child a.0) (child u.0) y (child s.0) z (child e.0) (child d.0)
 assemble (Some (node.Start h a b)) child = Start h (child a.0) (child b.0)
 assemble (Some (node.Join f x a e b c)) child = Join (Slot f) x (child a.0) e (child b.0) (child c.0)
 assemble (Some (node.Cancel f)) child = Cancel (Slot f)

@@ -1,10 +1,10 @@
 -- The fiber numbers that a node can use, from those that its parts can use.
-use Rattle.std.specs.Prelude.{◌≡◌, ℕ, suc, ◌+◌, ◌*◌, ◌<◌, min, max, Bool, true, false, Option, Some, None, List, [], ◌∷◌, length, map, slice_index}
+use Rattle.std.specs.Prelude.{◌≡◌, ℕ, suc, ◌+◌, ◌*◌, ◌<◌, min, max, Bool, true, false, Option, Some, None, List, [], ◌∷◌, length, slice_index}
 use Rattle.fx_term.specs.declared.node.Node.{Node}
 use Rattle.fx_term.specs.declared.code.signature.Part.{Part}
 use Rattle.fx_term.specs.declared.code.signature.Running.{Running}
-use Rattle.fx_term.specs.declared.code.signature.Running.TheVariants.{EachPart, OnePart}
-use Rattle.fx_term.specs.Signature.{parts, running}
+use Rattle.fx_term.specs.declared.code.signature.Running.TheVariants.{Beside, Instead}
+use Rattle.fx_term.specs.Signature.{parts}
 use Rattle.fx_term.specs.Need.{need, most_need}
 use Rattle.fx_term.specs.Meaning.{term_of}
 
@@ -25,17 +25,17 @@ own_number false = 0
 abbrev pub need_of_part : (ℕ → ℕ) → Part → ℕ
 need_of_part needs p = own_number p.elsewhere + in_all_turns p.count (needs p.node.0)
 
--- those of two parts, where each is run, or one of them
+-- those of a part and of what comes after it, where the part is run beside that, or instead of it
 abbrev pub need_of_both : Running → ℕ → ℕ → ℕ
-need_of_both EachPart n m = n + m
-need_of_both OnePart n m = max n m
+need_of_both Beside n m = n + m
+need_of_both Instead n m = max n m
 
-abbrev pub need_of_all : Running → List ℕ → ℕ
-need_of_all how [] = 0
-need_of_all how (n ∷ ns) = need_of_both how n (need_of_all how ns)
+abbrev pub need_of_all : (ℕ → ℕ) → List Part → ℕ
+need_of_all needs [] = 0
+need_of_all needs (p ∷ ps) = need_of_both p.running (need_of_part needs p) (need_of_all needs ps)
 
 abbrev pub need_of_node : (ℕ → ℕ) → Node → ℕ
-need_of_node needs n = need_of_all (running n) (map (need_of_part needs) (parts n))
+need_of_node needs n = need_of_all needs (parts n)
 
 -- the needs of the terms of the first nodes, in order
 pub record AreNeeds (nodes : List Node) (count : ℕ) (needs : List ℕ) : Type 0 where

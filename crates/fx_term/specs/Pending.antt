@@ -1,6 +1,7 @@
 -- The nodes that a walk has still to look at, as spots.
 use Rattle.std.specs.Prelude.{◌≡◌, ℕ, ◌≤◌, if◌then◌else◌, Option, Some, None, option_map, List, [], ◌∷◌, ◌++◌, length, map, take, drop, reverse}
 use Rattle.fx_term.specs.declared.name_kind.NameKind.{NameKind}
+use Rattle.fx_term.specs.declared.name_kind.NameKind.TheVariants as kind
 use Rattle.fx_term.specs.declared.code.signature.Part.{Part}
 use Rattle.fx_term.specs.declared.code.walk.Pending.{Pending}
 use Rattle.fx_term.specs.Scope.{kind_elsewhere}
@@ -14,7 +15,7 @@ with_own (Some k) path = path ++ k ∷ []
 
 -- the kinds of the names in scope at a pending node, where those round it begin this list
 abbrev pub path_to : List NameKind → Pending → List NameKind
-path_to path p = with_own p.own (take p.outer path)
+path_to path p = with_own p.inner (with_own p.own (take p.outer path))
 
 -- the kinds as a fiber sees them, where so many of the names, the outermost ones, are in scope outside of it
 abbrev pub seen_past : ℕ → List NameKind → List NameKind
@@ -33,6 +34,10 @@ AreNested least (p ∷ stack) most = (least ≤ p.outer) × (p.foreign ≤ p.out
 abbrev pub own_of : Part → Option NameKind
 own_of p = option_map (λ x. p.kind) p.binder
 
+-- the kind of the name that is bound in it inside of that one, if one is
+abbrev pub inner_of : Part → Option NameKind
+inner_of p = option_map (λ x. kind.Value) p.inner
+
 -- a part of a node as a pending one, where names of these kinds are in scope at the node: they are all outside of a fiber that the node starts for the part
 abbrev pub under : List NameKind → Pending → Part → Pending
 under path parent p = record {
@@ -40,6 +45,7 @@ under path parent p = record {
   outer = length path;
   foreign = if p.elsewhere then length path else parent.foreign;
   own = own_of p;
+  inner = inner_of p;
   turns = turns_inside parent.turns p.count;
 }
 

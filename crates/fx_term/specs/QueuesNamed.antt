@@ -2,8 +2,8 @@
 use Rattle.std.specs.Prelude.{ℕ, ◌<◌}
 use Rattle.fx_term.specs.declared.event.Event.{Event}
 use Rattle.fx_term.specs.declared.event.Event.TheVariants as event
-use Rattle.fx_term.specs.Term.{Term, Let, Handle, If, For, Mask, Poll, OnCancel, Bracket, Start, Join, Offer, TryOffer, Take, TryTake, Masked, Opened, InUse}
-use Rattle.fx_term.specs.Term.{InRelease, Loop}
+use Rattle.fx_term.specs.Term.{Term, Let, Handle, If, For, Mask, Poll, OnCancel, Bracket, BracketCase, Start, Join, Offer, TryOffer, Take, TryTake, Masked}
+use Rattle.fx_term.specs.Term.{Opened, InUse, InUseCase, InRelease, Loop}
 
 -- each queue that the term names has a number below this
 abbrev pub NamesQueuesBelow : ℕ → Term → Type 0
@@ -15,6 +15,8 @@ NamesQueuesBelow n (Mask p a) = NamesQueuesBelow n a
 NamesQueuesBelow n (Poll p a) = NamesQueuesBelow n a
 NamesQueuesBelow n (OnCancel a f) = NamesQueuesBelow n a × NamesQueuesBelow n f
 NamesQueuesBelow n (Bracket x a u r) = NamesQueuesBelow n a × NamesQueuesBelow n u × NamesQueuesBelow n r
+NamesQueuesBelow n (BracketCase x a u y s z e d) =
+    NamesQueuesBelow n a × NamesQueuesBelow n u × NamesQueuesBelow n s × NamesQueuesBelow n e × NamesQueuesBelow n d
 NamesQueuesBelow n (Start h a b) = NamesQueuesBelow n a × NamesQueuesBelow n b
 NamesQueuesBelow n (Join f x a e b c) = NamesQueuesBelow n a × NamesQueuesBelow n b × NamesQueuesBelow n c
 NamesQueuesBelow n (Offer q v) = q < n
@@ -24,6 +26,7 @@ NamesQueuesBelow n (TryTake q x a b) = (q < n) × NamesQueuesBelow n a × NamesQ
 NamesQueuesBelow n (Masked r a) = NamesQueuesBelow n a
 NamesQueuesBelow n (Opened r a) = NamesQueuesBelow n a
 NamesQueuesBelow n (InUse k a r) = NamesQueuesBelow n a × NamesQueuesBelow n r
+NamesQueuesBelow n (InUseCase k u y s z e d) = NamesQueuesBelow n u × NamesQueuesBelow n s × NamesQueuesBelow n e × NamesQueuesBelow n d
 NamesQueuesBelow n (InRelease k a v) = NamesQueuesBelow n a
 NamesQueuesBelow n (Loop i k c a) = NamesQueuesBelow n a
 NamesQueuesBelow n _ = Unit {0}

@@ -21,6 +21,7 @@ pub data Term : Type 0 where
   Poll : Arg → Term → Term
   OnCancel : Term → Term → Term
   Bracket : Option ℕ → Term → Term → Term → Term
+  BracketCase : ℕ → Term → Term → ℕ → Term → ℕ → Term → Term → Term
   Start : ℕ → Term → Term → Term
   Join : Arg → ℕ → Term → ℕ → Term → Term → Term
   Cancel : Arg → Term
@@ -33,6 +34,7 @@ pub data Term : Type 0 where
   Masked : ℕ → Term → Term
   Opened : ℕ → Term → Term
   InUse : ℕ → Term → Term → Term
+  InUseCase : ℕ → Term → ℕ → Term → ℕ → Term → Term → Term
   InRelease : ℕ → Term → Done → Term
   Loop : ℕ → ℕ → ℕ → Term → Term
   Await : ℕ → Term
@@ -57,6 +59,7 @@ put x n (Mask y a) = Mask y (put x n a)
 put x n (Poll p a) = Poll (put_arg x n p) (put x n a)
 put x n (OnCancel a f) = OnCancel (put x n a) (put x n f)
 put x n (Bracket y a u r) = Bracket y (put x n a) (put x n u) (put x n r)
+put x n (BracketCase y a u z s w e d) = BracketCase y (put x n a) (put x n u) z (put x n s) w (put x n e) (put x n d)
 put x n (Start y a b) = Start y (put x n a) (put x n b)
 put x n (Join f y a z b c) = Join (put_arg x n f) y (put x n a) z (put x n b) (put x n c)
 put x n (Cancel f) = Cancel (put_arg x n f)
@@ -69,6 +72,7 @@ put x n (Finished v) = Finished v
 put x n (Masked r a) = Masked r (put x n a)
 put x n (Opened r a) = Opened r (put x n a)
 put x n (InUse k a r) = InUse k (put x n a) (put x n r)
+put x n (InUseCase k u y s z e d) = InUseCase k (put x n u) y (put x n s) z (put x n e) (put x n d)
 put x n (InRelease k a v) = InRelease k (put x n a) v
 put x n (Loop y i c a) = Loop y i c (put x n a)
 put x n (Await f) = Await f

@@ -1,6 +1,6 @@
 -- How often loops run what stands in them.
 use Rattle.std.specs.Prelude.{ℕ, ◌*◌, ◌≤◌, max, Option, None, Some}
-use Rattle.fx_term.specs.Term.{Term, Let, Handle, If, For, Mask, Poll, OnCancel, Bracket, Start, Join, TryTake}
+use Rattle.fx_term.specs.Term.{Term, Let, Handle, If, For, Mask, Poll, OnCancel, Bracket, BracketCase, Start, Join, TryTake}
 
 abbrev pub most_turns : ℕ
 most_turns = 1000000
@@ -29,6 +29,7 @@ HasFewTurns turns (Mask p a) = HasFewTurns turns a
 HasFewTurns turns (Poll p a) = HasFewTurns turns a
 HasFewTurns turns (OnCancel a f) = HasFewTurns turns a × HasFewTurns turns f
 HasFewTurns turns (Bracket x a u r) = HasFewTurns turns a × HasFewTurns turns u × HasFewTurns turns r
+HasFewTurns turns (BracketCase x a u y s z e d) = HasFewTurns turns a × HasFewTurns turns u × HasFewTurns turns s × HasFewTurns turns e × HasFewTurns turns d
 HasFewTurns turns (Start h a b) = HasFewTurns turns a × HasFewTurns turns b
 HasFewTurns turns (Join f x a e b c) = HasFewTurns turns a × HasFewTurns turns b × HasFewTurns turns c
 HasFewTurns turns (TryTake q x a b) = HasFewTurns turns a × HasFewTurns turns b

@@ -2,6 +2,7 @@
 use Rattle.std.specs.Prelude.{ℕ, zero, suc, ◌-◌, Bool, true, false, Option, Some, None, List, [], ◌∷◌, ◌++◌, length, map, slice_get}
 use Rattle.std.specs.List.{flat_map}
 use Rattle.fx_term.specs.declared.name_kind.NameKind.{NameKind}
+use Rattle.fx_term.specs.declared.name_kind.NameKind.TheVariants as kind
 use Rattle.fx_term.specs.declared.node.Node.{Node}
 use Rattle.fx_term.specs.declared.code.signature.Part.{Part}
 use Rattle.fx_term.specs.Scope.{kind_elsewhere}
@@ -24,10 +25,13 @@ abbrev pub kinds_under : Option ℕ → NameKind → List NameKind → List Name
 kinds_under None k kinds = kinds
 kinds_under (Some x) k kinds = kinds ++ k ∷ []
 
+-- the names in scope in a part: its own binders stand in the fiber that runs it
+abbrev pub kinds_of_part : Part → List NameKind → List NameKind
+kinds_of_part p kinds = kinds_under p.inner kind.Value (kinds_under p.binder p.kind (kinds_inside p.elsewhere kinds))
+
 -- a part of a node that stands there, and is run so many times
 abbrev pub spot_of : List NameKind → ℕ → Part → Spot
-spot_of kinds turns p =
-    record { id = p.node.0; kinds = kinds_under p.binder p.kind (kinds_inside p.elsewhere kinds); turns = turns_inside turns p.count }
+spot_of kinds turns p = record { id = p.node.0; kinds = kinds_of_part p kinds; turns = turns_inside turns p.count }
 
 -- the parts of a node in the order of the text, each where it stands
 abbrev pub spots_below : Option Node → List NameKind → ℕ → List Spot

@@ -6,7 +6,7 @@ use Rattle.fx_term.specs.declared.code.signature.Use.{Use}
 use Rattle.fx_term.specs.declared.code.signature.Part.{Part}
 use Rattle.fx_term.specs.Signature.{uses_of, queue_of, parts_of}
 use Rattle.fx_term.specs.Turns.{HasFewInside}
-use Rattle.fx_term.specs.Scope.{IsArgBelow, IsArgOf, IsBinderAt}
+use Rattle.fx_term.specs.Scope.{IsArgBelow, IsArgOf, IsBinderAt, bound_under}
 use Rattle.fx_term.specs.Need.{need, most_need}
 use Rattle.fx_term.specs.Meaning.{term_of}
 use Rattle.fx_term.specs.Walk.{Spot}
@@ -19,9 +19,9 @@ IsUseBelow bound u = IsArgBelow bound u.arg
 abbrev pub IsUseOf : (ℕ → Option NameKind) → Use → Type 0
 IsUseOf scope u = IsArgOf u.kind scope u.arg
 
--- the binder of a part that stands in the scope of that many binders
+-- the binders of a part that stands in the scope of that many binders
 abbrev pub IsNextBinder : ℕ → Part → Type 0
-IsNextBinder bound p = IsBinderAt bound p.binder
+IsNextBinder bound p = IsBinderAt bound p.binder × IsBinderAt (bound_under bound p.binder) p.inner
 
 -- a part of what is run so many times has few turns, if a loop repeats it
 abbrev pub HasFewTurnsInside : ℕ → Part → Type 0

@@ -39,10 +39,10 @@ pub enum CodeFault {
     /// stand, or that of a poll of another fiber.
     #[error("node {}: a slot that is that of a name of another kind", .0.0)]
     Kind(NodeId),
-    /// The need of this node, the number of fibers that it can start, is above 1,023; or, with this
+    /// The need of this node, the number of fibers that it can start, is above 4,095; or, with this
     /// loop's count, the product of the counts of the loops round its part, a count of 0 taken as 1,
     /// is above 1,000,000.
-    #[error("node {}: a need above 1023, or a count that takes the turns of a part above 1000000", .0.0)]
+    #[error("node {}: a need above 4095, or a count that takes the turns of a part above 1000000", .0.0)]
     Limit(NodeId),
     /// Memory ran out before a fault was found.
     #[error("out of memory")]

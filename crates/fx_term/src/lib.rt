@@ -10,7 +10,7 @@
 //! 4. From the root down, node by node: a binder has the number of names in whose scope it stands, and
 //!    a name that is used is in scope there, and a queue that is named is one of the script's; then, that name is of the kind that it is used as, a
 //!    value, a poll or a fiber, and a poll is none of another fiber: one whose mask stands outside of
-//!    the part that a start gives to a new fiber; then, the node can use at most 1,023 fiber
+//!    the part that a start gives to a new fiber; then, the node can use at most 4,095 fiber
 //!    numbers, and the counts of the loops round its part have a product of at most 1,000,000, a
 //!    count of 0 taken as 1.
 //!

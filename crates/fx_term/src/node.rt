@@ -41,6 +41,11 @@ pub enum Node {
     /// Acquires by the first part, whose value has this slot in the others; uses by the second part;
     /// releases by the third, once (`bracket`).
     Bracket(Option<u32>, NodeId, NodeId, NodeId),
+    /// Acquires by the first part, whose value has this slot in the others; uses by the second part;
+    /// releases, once: where the use succeeded, with its value, by the next slot, by the third part;
+    /// where it erred, with its error, by the last slot, by the fourth; where it was canceled, by the
+    /// fifth (`bracketCase`).
+    BracketCase(u32, NodeId, NodeId, u32, NodeId, u32, NodeId, NodeId),
     /// Starts a fiber that runs the first part; by this slot it is known in the second one (`start`).
     Start(u32, NodeId, NodeId),
     /// Waits until the fiber of the first slot has ended, and goes on by how it did: where it

@@ -52,6 +52,22 @@ macro_rules! bracket {
     };
 }
 
+/// A release for each outcome, in whose releases the value or error has the next slot.
+macro_rules! case {
+    ($slot:expr, $acquire:expr, $used:expr, $success:expr, $failure:expr, $canceled:expr) => {
+        Node::BracketCase(
+            $slot,
+            NodeId($acquire),
+            NodeId($used),
+            $slot + 1,
+            NodeId($success),
+            $slot + 1,
+            NodeId($failure),
+            NodeId($canceled),
+        )
+    };
+}
+
 macro_rules! start {
     ($slot:expr, $started:expr, $then:expr) => {
         Node::Start($slot, NodeId($started), NodeId($then))
@@ -170,7 +186,7 @@ fn refuses_what_is_no_tree(rt: HostRuntime) {
     assert_refused(&rt, rt.alloc(), &NO_TREES);
 }
 
-static WRONG_SLOTS: [Refused; 28] = [
+static WRONG_SLOTS: [Refused; 30] = [
     ("a name that nothing binds", &[name!(0)], slot!(0)),
     (
         "a poll that nothing binds",
@@ -291,6 +307,32 @@ static WRONG_SLOTS: [Refused; 28] = [
         "another name in the part that releases",
         &[ONE, CEDE, name!(1), bracket!(0, 0, 1, 2)],
         slot!(2),
+    ),
+    (
+        "the value of a use, with the slot of its resource, in the release for it",
+        &[
+            ONE,
+            ONE,
+            ONE,
+            ONE,
+            ONE,
+            Node::BracketCase(
+                0,
+                NodeId(0),
+                NodeId(1),
+                0,
+                NodeId(2),
+                1,
+                NodeId(3),
+                NodeId(4),
+            ),
+        ],
+        slot!(5),
+    ),
+    (
+        "the error of a use in the release after cancellation",
+        &[ONE, ONE, ONE, ONE, name!(1), case!(0, 0, 1, 2, 3, 4)],
+        slot!(4),
     ),
     (
         "the part that acquires before those that use and release",
@@ -543,7 +585,7 @@ fn takes_as_many_turns_as_allowed(rt: HostRuntime) {
     }
 }
 
-static CODES: [&[Node]; 12] = [
+static CODES: [&[Node]; 13] = [
     &[ONE],
     &[Node::Never],
     &[CEDE, Node::Never, choose!(Arg::Number(0), 0, 1)],
@@ -554,6 +596,14 @@ static CODES: [&[Node]; 12] = [
         repeat!(0, 2, 2),
     ],
     &[ONE, name!(0), name!(0), bracket!(0, 0, 1, 2)],
+    &[
+        ONE,
+        name!(0),
+        name!(1),
+        name!(1),
+        name!(0),
+        case!(0, 0, 1, 2, 3, 4),
+    ],
     &[
         ONE,
         CEDE,
@@ -642,7 +692,7 @@ fn says_what_is_wrong(rt: HostRuntime) -> Result<(), Fail> {
         (
             limit!(6),
             5,
-            "node 6: a need above 1023, or a count that takes the turns of a part above 1000000",
+            "node 6: a need above 4095, or a count that takes the turns of a part above 1000000",
         ),
     ];
     for (fault, number, text) in cases {

@@ -4,6 +4,7 @@ use Rattle.std.specs.Prelude.{Result}
 use Rattle.std.specs.Borrow.{Bor}
 use Rattle.std.proofs.lemmas.List.Sorted.{IsPermutation-refl}
 use Rattle.fx_term.specs.declared.node.Arg.TheVariants as arg
+use Rattle.fx_term.specs.declared.name_kind.NameKind.TheVariants as kind
 use Rattle.fx_term.specs.declared.node.NodeId.{NodeId}
 use Rattle.fx_term.specs.declared.node.Node.{Node}
 use Rattle.fx_term.specs.declared.node.Node.TheVariants as node
@@ -27,6 +28,9 @@ use Rattle.fx_text.specs.declared.reader.head.Ahead.{Ahead}
 use Rattle.fx_text.specs.declared.reader.head.Ahead.TheVariants as ahead
 use Rattle.fx_text.specs.declared.reader.head.Head.{Head}
 use Rattle.fx_text.specs.declared.reader.head.Head.TheVariants as head
+use Rattle.fx_text.specs.declared.reader.cases.CasePart.{CasePart}
+use Rattle.fx_text.specs.declared.reader.cases.CasePart.TheVariants as case_part
+use Rattle.fx_text.specs.declared.reader.cases.Case.{Case}
 use Rattle.fx_text.specs.declared.place.Place.{Place}
 use Rattle.fx_text.specs.Scope.{Scope}
 use Rattle.fx_text.specs.Group.{OfTerm}
@@ -38,7 +42,8 @@ use Rattle.fx_text.specs.Trees.{AllBelow, GrowsBy, Keeps}
 use Rattle.fx_text.specs.ReaderState.{scope_of, ids, IsReady, IsRead, ReadsTerm, Adds}
 use Rattle.fx_text.specs.Made.{CanMake}
 use Rattle.fx_text.specs.Head.{spared, part_of, part_at, ThenFits, HeadFits, AheadFits, parts_of_whole, parts_before, parts_of}
-use Rattle.fx_text.specs.Head.{spares_for, spares_before, spares_whole, spares_of, after_part, to_come, still, CanGoOn, WentOn, EndsWhole}
+use Rattle.fx_text.specs.Head.{spares_for, spares_before, spares_whole, spares_of, after_part, after_case, parts_before_case, to_come, still}
+use Rattle.fx_text.specs.Head.{CanGoOn, WentOn, EndsWhole}
 use Rattle.fx_text.proofs.ReaderLaws.{grows_none, grows_append}
 use Rattle.fx_text.proofs.ReadLaws.{same_scope, below_push}
 use Rattle.fx_text.proofs.ReadyLaws.{ready_made, ready_spared}
@@ -98,6 +103,34 @@ module _ (r : Reader) (t : Then) (a : NodeId) (bytes : List ℕ) (can : CanGoOn 
 
   pub went_third_of_three : (f : Triple) (b c : NodeId) → t ≡ then.ThirdOfThree f b c → WentOn r r t a bytes (ahead.End (whole.Three f b c a)) bytes
   went_third_of_three f b c is = went_same (then.ThirdOfThree f b c) _ is refl (omega arith) (λ fits. tt) refl
+
+  -- a `bracketcase` at this part
+  went_case : (k : Case) (at : CasePart) (h : Ahead) → t ≡ then.Case k → k.part ≡ at → parts_of h ≡ parts_before_case at ++ a ∷ [] → spares_of h ≡ 0
+      → AheadFits r.place.turns h
+      → after_case r.nodes.items k at (term_of r.nodes.items a.0) (scope_of r) ≡ to_come r.nodes.items h (scope_of r) → WentOn r r t a bytes h bytes
+  went_case k at h is here same free fits means =
+      went_same (then.Case (record k { part = at })) h (is ∙ ap (λ (c : CasePart). then.Case (record k { part = c })) here) same
+      (omega (arith, free)) (λ _. fits) means
+
+  pub went_acquire : (k : Case) → t ≡ then.Case k → k.part ≡ case_part.Acquire
+      → WentOn r r t a bytes (ahead.Part (inner.Name kind.Value k.name) (then.Case (record k { part = case_part.Use a }))) bytes
+  went_acquire k is here = went_case k _ _ is here refl refl (tt, tt) refl
+
+  pub went_use : (k : Case) (b : NodeId) → t ≡ then.Case k → k.part ≡ case_part.Use b
+      → WentOn r r t a bytes (ahead.Part (inner.OutcomeUnder k.name) (then.Case (record k { part = case_part.Success b a }))) bytes
+  went_use k b is here = went_case k _ _ is here refl refl (tt, tt) refl
+
+  pub went_success : (k : Case) (b c : NodeId) → t ≡ then.Case k → k.part ≡ case_part.Success b c
+      → WentOn r r t a bytes (ahead.Part (inner.OutcomeUnder k.name) (then.Case (record k { part = case_part.Failure b c a }))) bytes
+  went_success k b c is here = went_case k _ _ is here refl refl (tt, tt) refl
+
+  pub went_failure : (k : Case) (b c d : NodeId) → t ≡ then.Case k → k.part ≡ case_part.Failure b c d
+      → WentOn r r t a bytes (ahead.Part (inner.Name kind.Value k.name) (then.Case (record k { part = case_part.Cancellation b c d a }))) bytes
+  went_failure k b c d is here = went_case k _ _ is here refl refl (tt, tt) refl
+
+  pub went_cancellation : (k : Case) (b c d e : NodeId) → t ≡ then.Case k → k.part ≡ case_part.Cancellation b c d e
+      → WentOn r r t a bytes (ahead.End (whole.Case k.slots (record { acquire = b; used = c; success = d; failure = e; cancellation = a }))) bytes
+  went_cancellation k b c d e is here = went_case k _ _ is here refl refl tt refl
 
 -- the first part of a `forcer`, with the two nodes that are made of it
 pub forcer_went : (old one new : Reader) (a z h : NodeId) (bytes : List ℕ) → CanGoOn old then.Forcer a → Adds old one (node.Pure (arg.Number 0)) z.0
@@ -173,8 +206,19 @@ part_then room inner.RaceLeft p go bytes = refl
 part_then room inner.RaceRight p go bytes = refl
 part_then room (inner.Loop n x) p go bytes = refl
 part_then room inner.Outcome p go bytes = refl
+part_then room (inner.OutcomeUnder x) p go bytes = refl
 
 -- the terms of the parts before stay
+case_kept : (old new : List Node) (c : Case) (at : CasePart) (a : Term) (p : Scope) → Keeps old new → AllBelow (length old) (ids (parts_before_case at))
+    → after_case old c at a p ≡ after_case new c at a p
+case_kept old new c case_part.Acquire t p k below = refl
+case_kept old new c (case_part.Use a) t p k below = let f = k.same a.0 below.0 in rw f refl
+case_kept old new c (case_part.Success a u) t p k below = let f = k.same a.0 below.0 in let g = k.same u.0 below.1.0 in rw (f, g) refl
+case_kept old new c (case_part.Failure a u s) t p k below = let f = k.same a.0 below.0 in let g = k.same u.0 below.1.0 in
+    let h = k.same s.0 below.1.1.0 in rw (f, g, h) refl
+case_kept old new c (case_part.Cancellation a u s e) t p k below = let f = k.same a.0 below.0 in let g = k.same u.0 below.1.0 in
+    let h = k.same s.0 below.1.1.0 in let i = k.same e.0 below.1.1.1.0 in rw (f, g, h, i) refl
+
 after_kept : (old new : List Node) (t : Then) (a : Term) (p : Scope) → Keeps old new → AllBelow (length old) (ids (parts_before t))
     → after_part old t a p ≡ after_part new t a p
 after_kept old new (then.One f) a p k below = refl
@@ -183,6 +227,7 @@ after_kept old new (then.SecondOfTwo f b) a p k below = let e = k.same b.0 below
 after_kept old new (then.Three i j f) a p k below = refl
 after_kept old new (then.SecondOfThree j f b) a p k below = let e = k.same b.0 below.0 in rw e refl
 after_kept old new (then.ThirdOfThree f b c) a p k below = let e = k.same b.0 below.0 in let g = k.same c.0 below.1.0 in rw (e, g) refl
+after_kept old new (then.Case c) a p k below = case_kept old new c c.part a p k below
 after_kept old new then.Handle a p k below = refl
 after_kept old new then.Forcer a p k below = refl
 

@@ -1,8 +1,9 @@
 -- A part of a form, up to the first part of its own, and after its last.
-use Rattle.std.proofs.Common.{◌≡◌, ℕ, ◌+◌, ◌-◌, ◌<◌, ◌≤◌, Ok, Err, List, [], ◌∷◌, ◌++◌, length, take, refl, sym, ◌∙◌, ap, subst, arith}
-use Rattle.std.proofs.lemmas.List.{length-append}
+use Rattle.std.proofs.Common.{◌≡◌, ℕ, zero, suc, ◌+◌, ◌-◌, ◌<◌, ◌≤◌, Ok, Err, List, [], ◌∷◌, ◌++◌, length, take, refl, sym, ◌∙◌, ap, subst, arith}
+use Rattle.std.proofs.lemmas.List.{length-append, length-take}
 use Rattle.std.proofs.Math.Seq.{take-append_seam}
 use Rattle.std.specs.Prelude.{Result}
+use Rattle.std.specs.Borrow.{Bor}
 use Rattle.fx_term.specs.Term.{Term}
 use Rattle.fx_term.specs.Meaning.{term_of}
 use Rattle.fx_term.specs.declared.name_kind.NameKind.TheVariants as kind
@@ -52,20 +53,22 @@ fails_as e r s same h = subst (λ x. Fails e x) (sym same) h
 -- ---- into a part
 
 -- a part that is no outcome is its term
-part_is_term : (i : Inner) → (i ≡ inner.Outcome → ⊥) → (room : ℕ) (p : Scope) (bytes : List ℕ)
+part_is_term : (i : Inner) → (i ≡ inner.Outcome → ⊥) → ((x : Bor (List ℕ)) → i ≡ inner.OutcomeUnder x → ⊥) → (room : ℕ) (p : Scope) (bytes : List ℕ)
     → part_at room i p bytes ≡ (term_at room (scope_in i p) bytes >>= ended i)
-part_is_term inner.Same not room p bytes = bind_nothing _
-part_is_term (inner.Name k x) not room p bytes = bind_nothing _
-part_is_term inner.Elsewhere not room p bytes = bind_nothing _
-part_is_term inner.RaceLeft not room p bytes = bind_nothing _
-part_is_term inner.RaceRight not room p bytes = bind_nothing _
-part_is_term (inner.Loop n x) not room p bytes = bind_nothing _
-part_is_term inner.Outcome not room p bytes = absurd (not refl)
+part_is_term inner.Same not nor room p bytes = bind_nothing _
+part_is_term (inner.Name k x) not nor room p bytes = bind_nothing _
+part_is_term inner.Elsewhere not nor room p bytes = bind_nothing _
+part_is_term inner.RaceLeft not nor room p bytes = bind_nothing _
+part_is_term inner.RaceRight not nor room p bytes = bind_nothing _
+part_is_term (inner.Loop n x) not nor room p bytes = bind_nothing _
+part_is_term inner.Outcome not nor room p bytes = absurd (not refl)
+part_is_term (inner.OutcomeUnder x) not nor room p bytes = absurd (nor x refl)
 
-pub went_in_scope : (i : Inner) (room : ℕ) (old new : Reader) (bytes : List ℕ) → (i ≡ inner.Outcome → ⊥) → IsReady (spared i) old bytes → Enters i old new
+pub went_in_scope : (i : Inner) (room : ℕ) (old new : Reader) (bytes : List ℕ) → (i ≡ inner.Outcome → ⊥)
+    → ((x : Bor (List ℕ)) → i ≡ inner.OutcomeUnder x → ⊥) → IsReady (spared i) old bytes → Enters i old new
     → WentIn i room old new bytes room bytes
-went_in_scope i room old new bytes not ready e = record {
-  read = part_is_term i not room (scope_of old) bytes ∙ ap (λ (p : Scope). term_at room p bytes >>= ended i) (sym e.scope);
+went_in_scope i room old new bytes not nor ready e = record {
+  read = part_is_term i not nor room (scope_of old) bytes ∙ ap (λ (p : Scope). term_at room p bytes >>= ended i) (sym e.scope);
   names = e.names;
   nodes = e.nodes;
   ready = ready_in i old new bytes ready e;
@@ -100,6 +103,26 @@ went_in_outcome room old new b bytes level rest ready named below shorter value 
       less = omega arith;
       shorter = omega arith;
     }
+
+take_less : {A : Type 0} (n m : ℕ) (l : List A) → n ≤ m → take n (take m l) ≡ take n l
+take_less zero m l le = refl
+take_less (suc n) zero l le = absurd (omega arith)
+take_less (suc n) (suc m) [] le = refl
+take_less (suc n) (suc m) (x ∷ l) le = ap (λ (t : List _). x ∷ t) (take_less n m l (omega arith))
+
+-- the same in the scope of a name more
+pub went_in_under : (x : Bor (List ℕ)) (room : ℕ) (old one new : Reader) (bytes : List ℕ) (level : ℕ) (rest : List ℕ) → Enters (inner.OutcomeUnder x) old one
+    → WentIn inner.Outcome room one new bytes level rest → WentIn (inner.OutcomeUnder x) room old new bytes level rest
+went_in_under x room old one new bytes level rest e w = record {
+  read = ap (λ (p : Scope). group_at room OfOutcome p bytes) (sym e.scope) ∙ w.read;
+  names = sym (take_less (length old.names.items) (length one.names.items) new.names.items
+      (omega (arith, ap length e.names, length-take (length old.names.items) one.names.items)))
+      ∙ ap (take (length old.names.items)) w.names ∙ e.names;
+  nodes = w.nodes ∙ e.nodes;
+  ready = w.ready;
+  less = w.less;
+  shorter = w.shorter;
+}
 
 pub no_outcome : (room : ℕ) (p : Scope) (bytes : List ℕ) (e : ReadError) → Fails e (named_at room p bytes) → Fails e (group_at room OfOutcome p bytes)
 no_outcome room p bytes e h = fails_as e _ _ (outcome_is p bytes room) (fails_first e _ _ h)

@@ -38,6 +38,7 @@ ready_spared i r bytes ready = ready_more 2 (spared i) r bytes bytes ready (let 
     spared_few inner.RaceRight = omega arith
     spared_few (inner.Loop n x) = omega arith
     spared_few inner.Outcome = omega arith
+    spared_few (inner.OutcomeUnder x) = omega arith
 
 -- nodes were made since, which the bytes that were read pay for
 pub ready_made : (spared more : ℕ) (old new : Reader) (bytes rest : List ℕ) → IsReady spared old bytes → new.names.items ≡ old.names.items

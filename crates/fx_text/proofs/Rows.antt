@@ -33,7 +33,8 @@ use Rattle.std.specs.List.{concat}
 use Rattle.std.proofs.lemmas.Bool.{lt-ltb, le-ltb}
 use Rattle.std.proofs.lemmas.List.{length-append, length-replicate}
 use Rattle.fx_term.specs.declared.node.Arg.TheVariants.{Number, Slot}
-use Rattle.fx_term.specs.Term.{Term, Pure, Raise, Canceled, Never, Cede, Let, Handle, If, For, Mask, Poll, OnCancel, Bracket, Start, Join, Cancel, First}
+use Rattle.fx_term.specs.Term.{Term, Pure, Raise, Canceled, Never, Cede, Let, Handle, If, For, Mask, Poll, OnCancel, Bracket, BracketCase, Start, Join, Cancel}
+use Rattle.fx_term.specs.Term.{First}
 use Rattle.fx_text.specs.declared.fault.TextFault.{TextFault}
 use Rattle.fx_text.specs.declared.fault.TextKind.{TextKind}
 use Rattle.fx_text.specs.declared.fault.TextKind.TheVariants as kind
@@ -144,13 +145,29 @@ unfolding next opening_at closing_at value_at count_at name_at binder_at form_at
 foreign_name_row = refl
 
 -- the first form to close that can start too many fibers, at its `(`
-many_fibers_row : reading (codes "(main (for i 2000 (start h (pure i) (pure 0))))") ≡ fault kind.Need 6
+many_fibers_row : reading (codes "(main (for i 4096 (start h (pure i) (pure 0))))") ≡ fault kind.Need 6
 unfolding next opening_at closing_at value_at count_at name_at binder_at form_at top_form_at groups_within group_at top_opening_at queues_within script_at
 many_fibers_row = refl
 
-many_fibers_inside_row : reading (codes "(main (seq (cede) (for i 1024 (start h (cede) (cede))) (foo)))") ≡ fault kind.Need 18
+many_fibers_inside_row : reading (codes "(main (seq (cede) (for i 4096 (start h (cede) (cede))) (foo)))") ≡ fault kind.Need 18
 unfolding next opening_at closing_at value_at count_at name_at binder_at form_at top_form_at groups_within group_at top_opening_at queues_within script_at
 many_fibers_inside_row = refl
+
+most_fibers_row : reading (codes "(main (for i 4095 (start h (pure i) (pure 0))))") ≡ means (For 0 4095 (Start 1 (Pure (Slot 0)) (Pure (Number 0))))
+unfolding next opening_at closing_at value_at count_at name_at binder_at form_at top_form_at groups_within group_at top_opening_at queues_within script_at
+most_fibers_row = refl
+
+-- of its releases the one that can start the most fibers counts
+case_many_fibers_row : reading (codes "(main (bracketcase x (cede) (for i 4000 (start h (cede) (cede))) (y (for j 95 (start h (cede) (cede))))"
+    ++ codes " (z (for j 96 (start h (cede) (cede)))) (cede)))") ≡ fault kind.Need 6
+unfolding next opening_at closing_at value_at count_at name_at binder_at form_at top_form_at groups_within group_at top_opening_at queues_within script_at
+case_many_fibers_row = refl
+
+case_most_fibers_row : reading (codes "(main (bracketcase x (cede) (for i 4000 (start h (cede) (cede))) (y (for j 95 (start h (cede) (cede))))"
+    ++ codes " (z (for j 95 (start h (cede) (cede)))) (cede)))")
+    ≡ means (BracketCase 0 Cede (For 1 4000 (Start 2 Cede Cede)) 1 (For 2 95 (Start 3 Cede Cede)) 1 (For 2 95 (Start 3 Cede Cede)) Cede)
+unfolding next opening_at closing_at value_at count_at name_at binder_at form_at top_form_at groups_within group_at top_opening_at queues_within script_at
+case_most_fibers_row = refl
 
 -- a race is what stands for it, whose names are new ones
 race_row : reading (codes "(main (let y (pure 7) (race (pure y) (let z (raise y) (pure z)))))")
@@ -195,6 +212,17 @@ no_turn_row = refl
 bracket_row : reading (codes "(main (bracket x (pure 1) (pure x) (raise x)))") ≡ means (Bracket (Some 0) (Pure (Number 1)) (Pure (Slot 0)) (Raise (Slot 0)))
 unfolding next opening_at closing_at value_at count_at name_at binder_at form_at top_form_at groups_within group_at top_opening_at queues_within script_at
 bracket_row = refl
+
+bracket_case_row : reading (codes "(main (bracketcase x (pure 1) (pure x) (y (pure y)) (z (raise z)) (pure x)))")
+    ≡ means (BracketCase 0 (Pure (Number 1)) (Pure (Slot 0)) 1 (Pure (Slot 1)) 1 (Raise (Slot 1)) (Pure (Slot 0)))
+unfolding next opening_at closing_at value_at count_at name_at binder_at form_at top_form_at groups_within group_at top_opening_at queues_within script_at
+bracket_case_row = refl
+
+-- the names of the groups of a `bracketcase` may be equal, since neither is in scope of the other
+bracket_case_same_names_row : reading (codes "(main (let w (pure 1) (bracketcase x (pure w) (pure x) (y (raise x)) (y (pure y)) (cede))))")
+    ≡ means (Let (Some 0) (Pure (Number 1)) (BracketCase 1 (Pure (Slot 0)) (Pure (Slot 1)) 2 (Raise (Slot 1)) 2 (Pure (Slot 2)) Cede))
+unfolding next opening_at closing_at value_at count_at name_at binder_at form_at top_form_at groups_within group_at top_opening_at queues_within script_at
+bracket_case_same_names_row = refl
 
 guarantee_row : reading (codes "(main (guarantee (pure 1) (raise 2)))") ≡ means (Bracket None (Pure (Number 0)) (Pure (Number 1)) (Raise (Number 2)))
 unfolding next opening_at closing_at value_at count_at name_at binder_at form_at top_form_at groups_within group_at top_opening_at queues_within script_at
@@ -262,6 +290,31 @@ no_part_row = refl
 own_acquire_row : reading (codes "(main (bracket x (pure x) (pure x) (pure x)))") ≡ fault kind.Unknown 23
 unfolding next opening_at closing_at value_at count_at name_at binder_at form_at top_form_at groups_within group_at top_opening_at queues_within script_at
 own_acquire_row = refl
+
+case_own_acquire_row : reading (codes "(main (bracketcase x (pure x) (pure 2) (y (pure y)) (z (pure z)) (pure x)))") ≡ fault kind.Unknown 27
+unfolding next opening_at closing_at value_at count_at name_at binder_at form_at top_form_at groups_within group_at top_opening_at queues_within script_at
+case_own_acquire_row = refl
+
+-- the value of the use is known in its own group alone
+case_other_group_row : reading (codes "(main (bracketcase x (pure 1) (pure 2) (y (pure y)) (z (pure y)) (pure x)))") ≡ fault kind.Unknown 61
+unfolding next opening_at closing_at value_at count_at name_at binder_at form_at top_form_at groups_within group_at top_opening_at queues_within script_at
+case_other_group_row = refl
+
+case_after_groups_row : reading (codes "(main (bracketcase x (pure 1) (pure 2) (y (pure y)) (z (pure z)) (pure y)))") ≡ fault kind.Unknown 71
+unfolding next opening_at closing_at value_at count_at name_at binder_at form_at top_form_at groups_within group_at top_opening_at queues_within script_at
+case_after_groups_row = refl
+
+case_taken_row : reading (codes "(main (bracketcase x (pure 1) (pure 2) (x (pure x)) (z (pure z)) (pure x)))") ≡ fault kind.Taken 40
+unfolding next opening_at closing_at value_at count_at name_at binder_at form_at top_form_at groups_within group_at top_opening_at queues_within script_at
+case_taken_row = refl
+
+case_second_taken_row : reading (codes "(main (bracketcase x (pure 1) (pure 2) (y (pure y)) (x (pure x)) (pure x)))") ≡ fault kind.Taken 53
+unfolding next opening_at closing_at value_at count_at name_at binder_at form_at top_form_at groups_within group_at top_opening_at queues_within script_at
+case_second_taken_row = refl
+
+case_missing_group_row : reading (codes "(main (bracketcase x (pure 1) (pure 2) (y (pure y)) (pure x)))") ≡ fault kind.Unwanted 58
+unfolding next opening_at closing_at value_at count_at name_at binder_at form_at top_form_at groups_within group_at top_opening_at queues_within script_at
+case_missing_group_row = refl
 
 resource_own_acquire_row : reading (codes "(main (using ((x (pure x) (pure x))) (pure x)))") ≡ fault kind.Unknown 23
 unfolding next opening_at closing_at value_at count_at name_at binder_at form_at top_form_at groups_within group_at top_opening_at queues_within script_at

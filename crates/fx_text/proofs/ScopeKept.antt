@@ -40,7 +40,7 @@ use Rattle.std.proofs.lemmas.List.Quantifiers.{position-Some}
 use Rattle.std.proofs.lemmas.Option.{slice_get_past}
 use Rattle.fx_term.specs.declared.node.Arg.{Arg}
 use Rattle.fx_term.specs.declared.node.Arg.TheVariants as arg
-use Rattle.fx_term.specs.Term.{Term, Pure, Raise, Let, Handle, If, For, Mask, Poll, OnCancel, Bracket, Start, Join, Cancel, First, TryTake}
+use Rattle.fx_term.specs.Term.{Term, Pure, Raise, Let, Handle, If, For, Mask, Poll, OnCancel, Bracket, BracketCase, Start, Join, Cancel, First, TryTake}
 use Rattle.fx_term.specs.Turns.{most_turns, turns_of_loop, HasFewTurns}
 use Rattle.fx_term.specs.QueuesNamed.{NamesQueuesBelow}
 use Rattle.fx_term.specs.declared.name_kind.NameKind.{NameKind}
@@ -266,6 +266,49 @@ module _ (p : Scope) (x : List ℕ) (a : Term) (first : StandsAt p a) where
         turns = (first.turns, used.turns, released.turns);
         named = (first.named, used.named, released.named);
       }
+
+bracket_case_stands : (p : Scope) (x : List ℕ) (a : Term) → StandsAt p a → (u : Term) → StandsAt (under kind.Value x p) u
+    → (s : Term) → StandsAt (under kind.Value [] (under kind.Value x p)) s → (e : Term) → StandsAt (under kind.Value [] (under kind.Value x p)) e
+    → (d : Term) → StandsAt (under kind.Value x p) d
+    → StandsAt p (BracketCase (slot p) a u (slot (under kind.Value x p)) s (slot (under kind.Value x p)) e d)
+bracket_case_stands p x a first u used s success e failure d cancellation =
+    let at = slot_is p in
+    let q = under kind.Value x p in
+    let succeeded = let_stands q [] u used s success in
+    let errored = let_stands q [] u used e failure in
+    let left = inner_scope kind.Value x p (Let (Some (slot q)) u s) succeeded.scope in
+    let right = inner_scope kind.Value x p (Let (Some (slot q)) u e) errored.scope in
+    let last = inner_scope kind.Value x p d cancellation.scope in
+    let left_levels = levels_under (kinds_at p) kind.Value (slot p) (Let (Some (slot q)) u s) at left in
+    let right_levels = levels_under (kinds_at p) kind.Value (slot p) (Let (Some (slot q)) u e) at right in
+    let left_scoped = scoped_under (kinds_at p) kind.Value (slot p) (Let (Some (slot q)) u s) at left in
+    let right_scoped = scoped_under (kinds_at p) kind.Value (slot p) (Let (Some (slot q)) u e) at right in
+    record {
+      scope = record {
+        levels = (
+          first.scope.levels,
+          at,
+          left_levels.0,
+          left_levels.1,
+          left_levels.2,
+          right_levels.1,
+          right_levels.2,
+          levels_under (kinds_at p) kind.Value (slot p) d at last,
+        );
+        scoped = (
+          first.scope.scoped,
+          new_under (kinds_at p) kind.Value (slot p) d at last,
+          left_scoped.0,
+          left_scoped.1,
+          left_scoped.2,
+          right_scoped.1,
+          right_scoped.2,
+          scoped_under (kinds_at p) kind.Value (slot p) d at last,
+        );
+      };
+      turns = (first.turns, used.turns, success.turns, failure.turns, cancellation.turns);
+      named = (first.named, used.named, success.named, failure.named, cancellation.named);
+    }
 
 for_stands : (p : Scope) (x : List ℕ) (n : ℕ) (a : Term) → turns_of_loop p.turns n ≤ most_turns → StandsAt (repeated n (under kind.Value x p)) a
     → StandsAt p (For (slot p) n a)
@@ -578,6 +621,8 @@ shape_fits form.OnCancel p = λ a first f second. record {
   named = (first.named, second.named);
 }
 shape_fits form.Bracket p = λ x a first u used r released. bracket_stands p x a first (slot p) u r refl used released
+shape_fits form.BracketCase p = λ x a first u used s success e failure d cancellation.
+    bracket_case_stands p x a first u used s success e failure d cancellation
 shape_fits form.Guarantee p = λ a first f second. record {
   scope = record { levels = (tt, tt, first.scope.levels, second.scope.levels); scoped = (tt, tt, first.scope.scoped, second.scope.scoped) };
   turns = (tt, first.turns, second.turns);

@@ -10,7 +10,7 @@ pub data Group : Type 0 where
   OfTerm : Group  -- the word of a form and its parts
   OfResource : Group  -- a resource of `using`
   OfResources : Group  -- the list of these
-  OfOutcome : Group  -- what `join` does after an outcome that has a number: the name of the number, and a term
+  OfOutcome : Group  -- what `join` and `bracketcase` do after an outcome that has a number: the name of the number, and a term
 
 -- a resource: the name of its value, and the terms that acquire and release it
 pub record Resource : Type 0 where

@@ -4,7 +4,7 @@ use Rattle.std.specs.Borrow.{Bor}
 use Rattle.fx_term.specs.declared.node.NodeId.{NodeId}
 use Rattle.fx_term.specs.declared.node.Node.{Node}
 use Rattle.fx_term.specs.declared.node.Arg.TheVariants as arg
-use Rattle.fx_term.specs.Term.{Term, Never, Let, Handle, If, For, Mask, Poll, OnCancel, Bracket, Start, Join, TryTake}
+use Rattle.fx_term.specs.Term.{Term, Never, Let, Handle, If, For, Mask, Poll, OnCancel, Bracket, BracketCase, Start, Join, TryTake}
 use Rattle.fx_term.specs.Meaning.{assemble, term_of}
 use Rattle.fx_term.specs.Tree.{children}
 use Rattle.fx_term.specs.declared.name_kind.NameKind.TheVariants as kind
@@ -29,6 +29,11 @@ use Rattle.fx_text.specs.declared.reader.head.Ahead.{Ahead}
 use Rattle.fx_text.specs.declared.reader.head.Ahead.TheVariants as ahead
 use Rattle.fx_text.specs.declared.reader.head.Head.{Head}
 use Rattle.fx_text.specs.declared.reader.head.Head.TheVariants as head
+use Rattle.fx_text.specs.declared.reader.cases.CaseSlots.{CaseSlots}
+use Rattle.fx_text.specs.declared.reader.cases.CaseRoots.{CaseRoots}
+use Rattle.fx_text.specs.declared.reader.cases.CasePart.{CasePart}
+use Rattle.fx_text.specs.declared.reader.cases.CasePart.TheVariants as case_part
+use Rattle.fx_text.specs.declared.reader.cases.Case.{Case}
 use Rattle.fx_text.specs.declared.reader.opening.Outside.{Outside}
 use Rattle.fx_text.specs.declared.reader.opening.Opened.{Opened}
 use Rattle.fx_text.specs.Limits.{most_bytes, most_queues, term_spares}
@@ -55,15 +60,18 @@ scope_in inner.RaceLeft p = left_of_race p
 scope_in inner.RaceRight p = right_of_race p
 scope_in (inner.Loop n x) p = repeated n (under kind.Value x.now p)
 scope_in inner.Outcome p = p
+scope_in (inner.OutcomeUnder x) p = under kind.Value x.now p
 
 -- the part, and what comes after it
 abbrev pub part_of : Inner → Scope → (Term → Shape OfTerm) → Shape OfTerm
 part_of inner.Outcome p go = group OfOutcome p go
+part_of (inner.OutcomeUnder x) p go = group OfOutcome (under kind.Value x.now p) go
 part_of i p go = term (scope_in i p) go
 
 -- what is read of it
 abbrev pub part_at : ℕ → Inner → Scope → List ℕ → Read Term
 part_at room inner.Outcome p bytes = group_at room OfOutcome p bytes
+part_at room (inner.OutcomeUnder x) p bytes = group_at room OfOutcome (under kind.Value x.now p) bytes
 part_at room i p bytes = term_at room (scope_in i p) bytes
 
 -- no loop takes the turns above the most
@@ -99,6 +107,9 @@ named_at (suc room) p bytes = do
 -- what comes after the term of a part
 abbrev pub ended : Inner → Term × List ℕ → Read Term
 ended inner.Outcome x = do
+  (_, rest) ← closing_at x.1
+  Ok (x.0, rest)
+ended (inner.OutcomeUnder y) x = do
   (_, rest) ← closing_at x.1
   Ok (x.0, rest)
 ended i x = Ok x
@@ -156,16 +167,26 @@ abbrev pub triple_term : Triple → Term → Term → Term → Term
 triple_term (triple.Bracket x) a b c = Bracket (Some x) a b c
 triple_term (triple.Join f x) a b c = Join (arg.Slot f) x a x b c
 
+-- a `bracketcase` whose parts are these nodes
+abbrev pub case_parts : CaseRoots → List NodeId
+case_parts r = r.acquire ∷ r.used ∷ r.success ∷ r.failure ∷ r.cancellation ∷ []
+
+abbrev pub case_term : List Node → CaseSlots → CaseRoots → Term
+case_term ns s r = BracketCase s.value (term_of ns r.acquire.0) (term_of ns r.used.0) s.outcome (term_of ns r.success.0)
+    s.outcome (term_of ns r.failure.0) (term_of ns r.cancellation.0)
+
 -- a form whose parts are these nodes
 abbrev pub whole_term : List Node → Whole → Term
 whole_term ns (whole.One f a) = single_term f (term_of ns a.0)
 whole_term ns (whole.Two f a b) = double_term f (term_of ns a.0) (term_of ns b.0)
 whole_term ns (whole.Three f a b c) = triple_term f (term_of ns a.0) (term_of ns b.0) (term_of ns c.0)
+whole_term ns (whole.Case s r) = case_term ns s r
 
 abbrev pub parts_of_whole : Whole → List NodeId
 parts_of_whole (whole.One f a) = a ∷ []
 parts_of_whole (whole.Two f a b) = a ∷ b ∷ []
 parts_of_whole (whole.Three f a b c) = a ∷ b ∷ c ∷ []
+parts_of_whole (whole.Case s r) = case_parts r
 
 -- a race and a `guarantee` make more nodes than their `)` pays for: of those that the bytes of each part pay for, so many are left over for them
 abbrev pub spares_for : Double → ℕ
@@ -189,6 +210,22 @@ EndsWhole old new w bytes (Err e) = Fails e (closing_at bytes)
 
 -- ---- what is still to come
 
+-- after the acquire part of a `bracketcase`, and after each part of it
+abbrev pub after_acquire : Case → Term → Scope → Shape OfTerm
+after_acquire k a p = part_of (inner.Name kind.Value k.name) p λ u. part_of (inner.OutcomeUnder k.name) p λ s. part_of (inner.OutcomeUnder k.name) p λ e.
+    part_of (inner.Name kind.Value k.name) p λ d. ends (BracketCase k.slots.value a u k.slots.outcome s k.slots.outcome e d)
+
+abbrev pub after_case : List Node → Case → CasePart → Term → Scope → Shape OfTerm
+after_case ns k case_part.Acquire a p = after_acquire k a p
+after_case ns k (case_part.Use a) u p = part_of (inner.OutcomeUnder k.name) p λ s. part_of (inner.OutcomeUnder k.name) p λ e.
+    part_of (inner.Name kind.Value k.name) p λ d. ends (BracketCase k.slots.value (term_of ns a.0) u k.slots.outcome s k.slots.outcome e d)
+after_case ns k (case_part.Success a u) s p = part_of (inner.OutcomeUnder k.name) p λ e. part_of (inner.Name kind.Value k.name) p λ d.
+    ends (BracketCase k.slots.value (term_of ns a.0) (term_of ns u.0) k.slots.outcome s k.slots.outcome e d)
+after_case ns k (case_part.Failure a u s) e p = part_of (inner.Name kind.Value k.name) p λ d.
+    ends (BracketCase k.slots.value (term_of ns a.0) (term_of ns u.0) k.slots.outcome (term_of ns s.0) k.slots.outcome e d)
+after_case ns k (case_part.Cancellation a u s e) d p =
+    ends (BracketCase k.slots.value (term_of ns a.0) (term_of ns u.0) k.slots.outcome (term_of ns s.0) k.slots.outcome (term_of ns e.0) d)
+
 -- after a part with this term, of a form whose parts before it are these nodes
 abbrev pub after_part : List Node → Then → Term → Scope → Shape OfTerm
 after_part ns (then.One f) a p = ends (single_term f a)
@@ -197,6 +234,7 @@ after_part ns (then.SecondOfTwo f a) b p = ends (double_term f (term_of ns a.0) 
 after_part ns (then.Three i j f) a p = part_of i p λ b. part_of j p λ c. ends (triple_term f a b c)
 after_part ns (then.SecondOfThree j f a) b p = part_of j p λ c. ends (triple_term f (term_of ns a.0) b c)
 after_part ns (then.ThirdOfThree f a b) c p = ends (triple_term f (term_of ns a.0) (term_of ns b.0) c)
+after_part ns (then.Case k) a p = after_case ns k k.part a p
 after_part ns then.Handle a p = binder p λ x. term (under kind.Value x p) λ b. ends (Handle a (Some (slot p)) b)
 after_part ns then.Forcer a p = term p λ b. ends (Let None (Handle a None pure_zero) b)
 
@@ -212,11 +250,20 @@ still ns (head.Part i t) p = part_of i p λ a. after_part ns t a p
 still ns head.Seq p = shape form.Seq p
 still ns head.Using p = shape form.Using p
 
+-- the parts of a `bracketcase` before one
+abbrev pub parts_before_case : CasePart → List NodeId
+parts_before_case case_part.Acquire = []
+parts_before_case (case_part.Use a) = a ∷ []
+parts_before_case (case_part.Success a u) = a ∷ u ∷ []
+parts_before_case (case_part.Failure a u s) = a ∷ u ∷ s ∷ []
+parts_before_case (case_part.Cancellation a u s e) = a ∷ u ∷ s ∷ e ∷ []
+
 -- the parts that were read, in the order of the text
 abbrev pub parts_before : Then → List NodeId
 parts_before (then.SecondOfTwo f a) = a ∷ []
 parts_before (then.SecondOfThree j f a) = a ∷ []
 parts_before (then.ThirdOfThree f a b) = a ∷ b ∷ []
+parts_before (then.Case k) = parts_before_case k.part
 parts_before _ = []
 
 abbrev pub parts_of : Ahead → List NodeId

@@ -2,8 +2,8 @@
 use Rattle.std.specs.Prelude.{ℕ, Some, None, List, [], ◌∷◌, codes}
 use Rattle.fx_term.specs.declared.node.Arg.{Arg}
 use Rattle.fx_term.specs.declared.node.Arg.TheVariants as arg
-use Rattle.fx_term.specs.Term.{Term, Pure, Raise, Canceled, Never, Cede, Let, Handle, If, For, Mask, Poll, OnCancel, Bracket, Start, Join, Cancel, First}
-use Rattle.fx_term.specs.Term.{Offer, TryOffer, Take, TryTake}
+use Rattle.fx_term.specs.Term.{Term, Pure, Raise, Canceled, Never, Cede, Let, Handle, If, For, Mask, Poll, OnCancel, Bracket, BracketCase, Start, Join, Cancel}
+use Rattle.fx_term.specs.Term.{First, Offer, TryOffer, Take, TryTake}
 use Rattle.fx_term.specs.declared.name_kind.NameKind.{NameKind}
 use Rattle.fx_term.specs.declared.name_kind.NameKind.TheVariants as kind
 use Rattle.fx_text.specs.declared.form.Form.{Form}
@@ -36,8 +36,8 @@ terms p go = groups OfTerm p go
 -- all forms
 abbrev pub forms : List Form
 forms = form.Pure ∷ form.Raise ∷ form.Canceled ∷ form.Never ∷ form.Cede ∷ form.Seq ∷ form.Let ∷ form.Handle ∷ form.If ∷ form.For ∷ form.Mask ∷ form.Poll ∷
-    form.OnCancel ∷ form.Bracket ∷ form.Guarantee ∷ form.Forcer ∷ form.Using ∷ form.Start ∷ form.Join ∷ form.Cancel ∷ form.First ∷ form.Race ∷
-    form.Offer ∷ form.Take ∷ form.TryOffer ∷ form.TryTake ∷ []
+    form.OnCancel ∷ form.Bracket ∷ form.BracketCase ∷ form.Guarantee ∷ form.Forcer ∷ form.Using ∷ form.Start ∷ form.Join ∷ form.Cancel ∷ form.First ∷
+    form.Race ∷ form.Offer ∷ form.Take ∷ form.TryOffer ∷ form.TryTake ∷ []
 
 abbrev pub word_of : Form → List ℕ
 word_of form.Pure = codes "pure"
@@ -54,6 +54,7 @@ word_of form.Mask = codes "mask"
 word_of form.Poll = codes "poll"
 word_of form.OnCancel = codes "oncancel"
 word_of form.Bracket = codes "bracket"
+word_of form.BracketCase = codes "bracketcase"
 word_of form.Guarantee = codes "guarantee"
 word_of form.Forcer = codes "forcer"
 word_of form.Using = codes "using"
@@ -97,6 +98,9 @@ shape form.Mask p = binder p λ x. term (under kind.Poll x p) λ a. ends (Mask (
 shape form.Poll p = name kind.Poll p λ x. term p λ a. ends (Poll (arg.Slot x) a)
 shape form.OnCancel p = term p λ a. term p λ f. ends (OnCancel a f)
 shape form.Bracket p = binder p λ x. term p λ a. term (under kind.Value x p) λ u. term (under kind.Value x p) λ r. ends (Bracket (Some (slot p)) a u r)
+shape form.BracketCase p = binder p λ x. term p λ a. term (under kind.Value x p) λ u. group OfOutcome (under kind.Value x p) λ s.
+    group OfOutcome (under kind.Value x p) λ e. term (under kind.Value x p) λ d.
+    ends (BracketCase (slot p) a u (slot (under kind.Value x p)) s (slot (under kind.Value x p)) e d)
 shape form.Guarantee p = term p λ a. term p λ f. ends (Bracket None pure_zero a f)
 shape form.Forcer p = term p λ a. term p λ b. ends (Let None (Handle a None pure_zero) b)
 shape form.Using p = group OfResources p λ rs. term (under_all rs p) λ t. ends (using rs t)

@@ -34,7 +34,7 @@ pub enum TextKind {
     Queues,
     /// A `(` where 100 are open.
     Depth,
-    /// A form that can start more than 1,023 fibers.
+    /// A form that can start more than 4,095 fibers.
     Need,
     /// The text ends before `main`, or goes on after it.
     Main,
@@ -80,7 +80,7 @@ impl TextKind {
                 "a capacity, turns of a loop or words of a schedule outside of their limits",
             TextKind::Queues => "16 queues are declared already",
             TextKind::Depth => "100 parentheses are open already",
-            TextKind::Need => "a form that can start more than 1,023 fibers",
+            TextKind::Need => "a form that can start more than 4,095 fibers",
             TextKind::Main => "a script has one main, and nothing after it",
             TextKind::Memory => "out of memory",
         }

@@ -17,6 +17,7 @@ pub(crate) enum Form {
     Poll,
     OnCancel,
     Bracket,
+    BracketCase,
     Guarantee,
     Forcer,
     Using,
@@ -35,7 +36,7 @@ impl Form {
     ghost use Rattle.std.specs.Prelude.{◌≡◌, bytes_eq, find};
     ghost use Rattle.fx_text.specs.Shape.{forms, word_of};
 
-    const ALL: [Form; 26] = [
+    const ALL: [Form; 27] = [
         Form::Pure,
         Form::Raise,
         Form::Canceled,
@@ -50,6 +51,7 @@ impl Form {
         Form::Poll,
         Form::OnCancel,
         Form::Bracket,
+        Form::BracketCase,
         Form::Guarantee,
         Form::Forcer,
         Form::Using,
@@ -82,6 +84,7 @@ impl Form {
             Form::Poll => b"poll",
             Form::OnCancel => b"oncancel",
             Form::Bracket => b"bracket",
+            Form::BracketCase => b"bracketcase",
             Form::Guarantee => b"guarantee",
             Form::Forcer => b"forcer",
             Form::Using => b"using",

@@ -9,6 +9,7 @@ ghost use Rattle.fx_text.specs.ReaderState.{scope_of, IsReady, ReadsTerm, Adds};
 ghost use Rattle.fx_text.specs.Head.{spared, TurnsFit, HeadFits, part_at, still};
 
 mod binding;
+pub(crate) mod cases;
 mod fibers;
 pub(crate) mod head;
 mod leaves;

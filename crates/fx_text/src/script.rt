@@ -39,7 +39,7 @@ impl Script {
     ghost use Rattle.std.specs.Prelude.{◌+◌};
     ghost use Rattle.fx_term.specs.Need.{need, most_need};
 
-    /// How many fibers there can be, main included: at most 1,024. Their numbers are below it.
+    /// How many fibers there can be, main included: at most 4,096. Their numbers are below it.
     pub fn total(&self) -> u32
         ensures is { result ≡ 1 + need (meaning self.now).term }
         ensures few { result ≤ 1 + most_need }

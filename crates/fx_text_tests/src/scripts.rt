@@ -58,6 +58,44 @@ static REFUSED: [Refusal; 35] = [
     (b"(main (pure 5)) (main (pure 5))", 13, 16),
 ];
 
+static REFUSED_BRACKET_CASES: [Refusal; 7] = [
+    (
+        b"(main (bracketcase x (pure x) (cede) (y (cede)) (z (cede)) (cede)))",
+        7,
+        27,
+    ),
+    (
+        b"(main (bracketcase x (pure 1) (pure 2) (y (pure y)) (z (pure y)) (pure x)))",
+        7,
+        61,
+    ),
+    (
+        b"(main (bracketcase x (cede) (cede) (y (cede)) (z (cede)) (pure z)))",
+        7,
+        63,
+    ),
+    (
+        b"(main (bracketcase x (cede) (cede) (x (cede)) (z (cede)) (cede)))",
+        8,
+        36,
+    ),
+    (
+        b"(main (bracketcase x (cede) (cede) (y (cede)) (x (cede)) (cede)))",
+        8,
+        47,
+    ),
+    (
+        b"(main (bracketcase x (cede) (cede) (y (cede)) 5 (cede)))",
+        6,
+        46,
+    ),
+    (
+        b"(main (bracketcase x (cede) (cede) (y (cede)) (z (cede))))",
+        6,
+        56,
+    ),
+];
+
 static REFUSED_USING: [Refusal; 11] = [
     (b"(main (using x (pure 1)))", 6, 13),
     (b"(main (using () (pure 1)))", 6, 14),
@@ -179,6 +217,7 @@ fn assert_refused(rt: &impl Abort, alloc: Global, rows: &[Refusal]) {
 #[test]
 fn refuses_what_is_no_script(rt: HostRuntime) {
     assert_refused(&rt, rt.alloc(), &REFUSED);
+    assert_refused(&rt, rt.alloc(), &REFUSED_BRACKET_CASES);
     assert_refused(&rt, rt.alloc(), &REFUSED_USING);
     assert_refused(&rt, rt.alloc(), &FIRST_BYTES);
 }
@@ -297,7 +336,7 @@ fn reads_scripts(rt: HostRuntime) {
 /// A text, and the nodes of its code.
 type Nodes<'a> = (&'a [u8], &'a [Node]);
 
-static NODES: [Nodes; 12] = [
+static NODES: [Nodes; 13] = [
     (b"(main (seq (pure 1)))", &[Node::Pure(Arg::Number(1))]),
     (
         b"(main (seq (pure 1) (pure 2) (pure 3)))",
@@ -356,6 +395,26 @@ static NODES: [Nodes; 12] = [
             Node::Raise(Arg::Slot(0)),
             Node::Pure(Arg::Slot(0)),
             Node::Bracket(Some(0), NodeId(0), NodeId(1), NodeId(2)),
+        ],
+    ),
+    (
+        b"(main (bracketcase x (pure 1) (raise x) (y (pure y)) (y (raise y)) (pure x)))",
+        &[
+            Node::Pure(Arg::Number(1)),
+            Node::Raise(Arg::Slot(0)),
+            Node::Pure(Arg::Slot(1)),
+            Node::Raise(Arg::Slot(1)),
+            Node::Pure(Arg::Slot(0)),
+            Node::BracketCase(
+                0,
+                NodeId(0),
+                NodeId(1),
+                1,
+                NodeId(2),
+                1,
+                NodeId(3),
+                NodeId(4),
+            ),
         ],
     ),
     (

@@ -24,12 +24,12 @@ pub(crate) struct WordTable {
     table: Table<(), SeatView, u32, WordRule, Global>,
     fibers: u32,
     ghost sized: { (table.shared.key ≡ fibers) × (table.shared.table_id.words ≡ 2 * fibers)
-        × (table.shared.table_id.slots ≡ 0) × (0 < fibers) × (fibers ≤ 1024) },
+        × (table.shared.table_id.slots ≡ 0) × (0 < fibers) × (fibers ≤ 4096) },
 }
 
 impl WordTable {
     pub fn new(alloc: Global, fibers: u32) -> Result<(WordTable, TableSeat), Memory>
-        requires { (0 < fibers) × (fibers ≤ 1024) }
+        requires { (0 < fibers) × (fibers ≤ 4096) }
         ensures { IfOk result (λ r. (r.0.fibers ≡ fibers)
             × (r.1.seat.table_id ≡ r.0.table.shared.table_id) × (r.1.seat.me.0 ≡ first_view fibers)) }
     {

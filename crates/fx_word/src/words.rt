@@ -29,7 +29,7 @@ impl Model for Words {
 impl Words {
     /// Words of so many fibers, none of which is requested or has ended, and the seat of the fiber 0.
     pub fn new(alloc: Global, fibers: u32) -> Result<(Words, WordSeat), Memory>
-        requires { (0 < fibers) × (fibers ≤ 1024) }
+        requires { (0 < fibers) × (fibers ≤ 4096) }
         ensures { IfOk result
             (λ r. (r.0.fibers ≡ fibers) × IsOf r.1 r.0 × (r.1.view ≡ first_view fibers)) }
     {

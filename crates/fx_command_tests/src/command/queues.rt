@@ -52,7 +52,7 @@ fn cancellation_leaves_what_was_put_before_it(rt: HostRuntime) -> Result<(), Fai
     assert_runs(&rt, &MASKED)
 }
 
-static RELEASED: [Row; 3] = [
+static RELEASED: [Row; 7] = [
     (
         "replay F",
         "(queue q 4) (main (bracket x (pure 7) (raise 3) (offer q x)))",
@@ -73,6 +73,34 @@ static RELEASED: [Row; 3] = [
         "",
         ENDED,
         "0 acquired 0\n0 begin 0\n0 put q 7\n0 end 0\n0 ended errored 3\n",
+    ),
+    (
+        "replay F",
+        "(queue q 4) (main (bracketcase x (pure 7) (pure 5) (y (offer q y)) (z (offer q z)) (offer q x)))",
+        "",
+        ENDED,
+        "fiber 0 succeeded 5\nqueue q left 5\n",
+    ),
+    (
+        "replay F",
+        "(queue q 4) (main (bracketcase x (pure 7) (raise 3) (y (offer q 1)) (z (offer q z)) (offer q x)))",
+        "",
+        ENDED,
+        "fiber 0 errored 3\nqueue q left 3\n",
+    ),
+    (
+        "replay F",
+        "(queue q 4) (main (bracketcase x (pure 7) (canceled) (y (offer q 1)) (z (offer q z)) (offer q x)))",
+        "",
+        ENDED,
+        "fiber 0 canceled\nqueue q left 7\n",
+    ),
+    (
+        "trace F",
+        "(queue q 4) (main (bracketcase x (pure 7) (raise 3) (y (offer q 1)) (z (offer q z)) (offer q x)))",
+        "",
+        ENDED,
+        "0 acquired 0\n0 begin 0\n0 put q 3\n0 end 0\n0 ended errored 3\n",
     ),
 ];
 

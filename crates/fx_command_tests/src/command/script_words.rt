@@ -77,8 +77,8 @@ static KINDS: [Row; 21] = [
         "-:1:31: a fiber is wanted here, and no fiber `x` is in scope\n(main (let x (pure 1) (cancel x)))\n                              ^\n",
     ),
     (
-        "(main (for i 2000 (start h (pure i) (pure 0))))",
-        "-:1:7: the form that begins here can start more than 1023 fibers\n(main (for i 2000 (start h (pure i) (pure 0))))\n      ^\n",
+        "(main (for i 4096 (start h (pure i) (pure 0))))",
+        "-:1:7: the form that begins here can start more than 4095 fibers\n(main (for i 4096 (start h (pure i) (pure 0))))\n      ^\n",
     ),
     (
         "(queue q 0) (main (cede))",
@@ -111,7 +111,7 @@ fn each_kind_is_told_in_words(rt: HostRuntime) -> Result<(), Fail> {
     assert_explains(&rt, &KINDS)
 }
 
-static WANTED: [Row; 14] = [
+static WANTED: [Row; 17] = [
     (
         "(main (pure))",
         "-:1:12: a number or the name of a value is wanted here, and `)` stands here\n(main (pure))\n           ^\n",
@@ -152,6 +152,21 @@ static WANTED: [Row; 14] = [
         "(main (start h (pure 1) (join h (x (pure x) (pure 1)))))",
         "-:1:45: `)` is wanted here, and `(` stands here\n\
             (main (start h (pure 1) (join h (x (pure x) (pure 1)))))\n                                            ^\n",
+    ),
+    (
+        "(main (bracketcase x (cede) (cede) 5 (z (cede) (cede)) (cede)))",
+        "-:1:36: a group `(x T)` is wanted here, and `5` stands here\n\
+            (main (bracketcase x (cede) (cede) 5 (z (cede) (cede)) (cede)))\n                                   ^\n",
+    ),
+    (
+        "(main (bracketcase x (cede) (cede) (cede)))",
+        "-:1:41: a term is wanted here, and `)` stands here\n\
+            (main (bracketcase x (cede) (cede) (cede)))\n                                        ^\n",
+    ),
+    (
+        "(main (bracketcase x (cede) (cede) (y (cede)) (z (cede) (cede)) (cede)))",
+        "-:1:57: `)` is wanted here, and `(` stands here\n\
+            (main (bracketcase x (cede) (cede) (y (cede)) (z (cede) (cede)) (cede)))\n                                                        ^\n",
     ),
     (
         "(main (using ((x (cede) (cede)) (y)) (cede)))",

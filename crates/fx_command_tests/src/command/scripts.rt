@@ -323,7 +323,7 @@ fn short_forms_end_as_what_they_are_short_for(rt: HostRuntime) -> Result<(), Fai
     assert_prints(&rt, ENDED, &SHORT_FORMS)
 }
 
-static REFUSED_TEXTS: [Row; 30] = [
+static REFUSED_TEXTS: [Row; 31] = [
     ("(main (pure x))", "refused 7 at 12\n"),
     ("(main (pure 18446744073709551616))", "refused 3 at 12\n"),
     ("(main (foo))", "refused 5 at 7\n"),
@@ -353,6 +353,10 @@ static REFUSED_TEXTS: [Row; 30] = [
     (
         "(main (bracket x (pure x) (pure 1) (pure 2)))",
         "refused 7 at 23\n",
+    ),
+    (
+        "(main (bracketcase x (pure 1) (pure 2) (y (pure y)) (z (pure y)) (pure x)))",
+        "refused 7 at 61\n",
     ),
     (
         "(main (using ((x (pure 1) (pure 2)) (x (pure 3) (pure 4))) (pure 5)))",

@@ -2,7 +2,7 @@
 use super::fibers::{Row, assert_runs};
 use super::*;
 
-static TOUR: [Row; 8] = [
+static TOUR: [Row; 9] = [
     (
         "replay F",
         "(queue permits 1)\n(main (start worker (bracket p (pure 7) (never) (offer permits p))\n        (cancel worker)))",
@@ -23,6 +23,14 @@ static TOUR: [Row; 8] = [
         "",
         ENDED,
         "fiber 0 canceled\nqueue closed left 2 1\n",
+    ),
+    (
+        "replay F",
+        "(queue log 4)\n(main (bracketcase x (pure 7) (raise 3)\n        (y (offer log 1))\n        \
+            (z (offer log z))\n        (offer log x)))",
+        "",
+        ENDED,
+        "fiber 0 errored 3\nqueue log left 3\n",
     ),
     (
         "replay F",

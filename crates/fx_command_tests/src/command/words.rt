@@ -96,7 +96,7 @@ static REFUSALS: [Row; 7] = [
         "refused:1:8: `foo` is no word of a form\n(main (foo))\n       ^\n",
     ),
     (
-        "run refused 17",
+        "run refused 65",
         REFUSED,
         "refused 5 at 7\n",
         "refused:1:8: `foo` is no word of a form\n(main (foo))\n       ^\n",
@@ -164,21 +164,59 @@ fn standard_input_that_breaks_off_is_named_so(rt: HostRuntime) -> Result<(), Fai
     Ok(())
 }
 
-static WORKERS: [Row; 4] = [
+static WORKERS: [Row; 6] = [
     ("run script 0", FAULT, "", "fault workers\n"),
     ("run script 000", FAULT, "", "fault workers\n"),
-    ("run script 17", FAULT, "", "fault workers\n"),
+    ("run script 17", ENDED, "fiber 0 succeeded 5\n", ""),
+    ("run script 64", ENDED, "fiber 0 succeeded 5\n", ""),
+    ("run script 65", FAULT, "", "fault workers\n"),
     ("run script 4294967295", FAULT, "", "fault workers\n"),
 ];
 
 #[test]
-fn run_has_from_1_to_16_workers(rt: HostRuntime) -> Result<(), Fail> {
+fn run_has_from_1_to_64_workers(rt: HostRuntime) -> Result<(), Fail> {
     assert_answers(&rt, &WORKERS)
 }
 
 #[test]
 fn check_counts_fibers_and_queues(rt: HostRuntime) -> Result<(), Fail> {
     assert_answers(&rt, &[("check script", ENDED, "fibers 1 queues 0\n", "")])
+}
+
+/// Scripts with 2,001 and 4,096 fiber numbers, and one that would have 4,097.
+static STARTS: [(&str, Text<'static>); 3] = [
+    (
+        "many",
+        text!(b"(main (for i 2000 (start h (pure i) (pure 0))))"),
+    ),
+    (
+        "most",
+        text!(b"(main (for i 4095 (start h (pure i) (pure 0))))"),
+    ),
+    (
+        "more",
+        text!(b"(main (for i 4096 (start h (pure i) (pure 0))))"),
+    ),
+];
+
+/// The name of such a script, the status, and what a check of it prints.
+static CHECKED: [(&str, u8, &str); 3] = [
+    ("check many", ENDED, "fibers 2001 queues 0\n"),
+    ("check most", ENDED, "fibers 4096 queues 0\n"),
+    ("check more", REFUSED, "refused 12 at 6\n"),
+];
+
+#[test]
+fn a_script_may_use_4096_fiber_numbers(rt: HostRuntime) -> Result<(), Fail> {
+    for (words, status, printed) in &CHECKED {
+        let ran = run_of(&rt, words, &STARTS)?;
+        assert_eq!(rt;
+            (ran.status, ran.out.as_slice()),
+            (*status, printed.as_bytes()),
+            "{words}"
+        );
+    }
+    Ok(())
 }
 
 #[test]

@@ -94,6 +94,10 @@ impl Machine {
                 self.acquire_fails();
                 Ok(Made::Silent)
             }
+            (Some(&Frame::AcquireCase(_)), Done::Err(_)) => {
+                self.acquire_case_fails();
+                Ok(Made::Silent)
+            }
             (None, done) => Ok(self.end_rule(done)),
             (Some(_), _) => unreachable!(),
         }

@@ -16,6 +16,7 @@ pub(crate) fn entry_of(id: NodeId, node: &Node) -> Option<(Frame, NodeId)>
         Node::Handle(first, name, handler) => Some((Frame::Handle(name, handler), first)),
         Node::OnCancel(first, finalizer) => Some((Frame::OnCancel(finalizer), first)),
         Node::Bracket(_, acquire, _, _) => Some((Frame::Acquire(id), acquire)),
+        Node::BracketCase(_, acquire, ..) => Some((Frame::AcquireCase(id), acquire)),
         Node::Pure(_)
         | Node::Raise(_)
         | Node::Canceled

@@ -22,7 +22,7 @@ fn stays_open(frame: Frame, is_open: bool) -> bool
     ensures { result ≡ is_open_inside frame is_open }
 {
     match frame {
-        Frame::Acquire(_) => false,
+        Frame::Acquire(_) | Frame::AcquireCase(_) => false,
         _ => is_open,
     }
 }

@@ -1,5 +1,5 @@
-//! The rules of `bracket`, one method each, named as in the table; and the table of those that show what
-//! becomes of the resource, which a burst makes too.
+//! The rules of `bracket`, one method each, named as in the table; and the table of those, of `bracket` and
+//! `bracketcase`, that show what becomes of the resource, which a burst makes too.
 ghost use Rattle.std.specs.Prelude.{◌≡◌, ◌^◌, ◌<◌, false, Some, slice_get, is_some};
 ghost use Rattle.fx_model.specs.Row.{after_release};
 ghost use Rattle.fx_fiber.specs.Leaves.{is_of_bracket};
@@ -75,7 +75,7 @@ impl Machine {
         Ok(Event::Begin(resource))
     }
 
-    /// A release that has a result ends the bracket.
+    /// A release that has a result ends its `bracket` or `bracketcase`.
     pub fn released(&mut self, resource: u64, use_result: Done, done: Done) -> Event
         ghost nodes: { List Node }
         requires inside { ReturnsInto nodes self.old (Frame.Releasing resource use_result) done }
@@ -117,6 +117,12 @@ impl Machine {
         let event = match (self.frames.last(), done) {
             (Some(&Frame::Acquire(id)), Done::Val(n)) => self.acquire_rule(id, code.node(id), n)?,
             (Some(&Frame::Using(k, release)), done) => self.used(k, release, done)?,
+            (Some(&Frame::AcquireCase(id)), Done::Val(n)) => {
+                self.acquire_case_rule(id, code.node(id), n)?
+            }
+            (Some(&Frame::UsingCase(k, id, canceled)), done) => {
+                self.use_case_rule(k, id, canceled, code.node(id), done)?
+            }
             (Some(&Frame::Releasing(k, result)), done) => self.released(k, result, done),
             _ => return Ok(None),
         };

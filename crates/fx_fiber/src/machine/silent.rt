@@ -85,6 +85,7 @@ impl Machine {
             | Node::Handle(..)
             | Node::OnCancel(..)
             | Node::Bracket(..)
+            | Node::BracketCase(..)
             | Node::Start(..)
             | Node::Join(..)
             | Node::Cancel(_)
@@ -149,9 +150,17 @@ impl Machine {
             (Some(&Frame::Opened(r, took_off)), _) => self.opened_ends(r, took_off),
             (Some(&Frame::Loop(id, turn)), Done::Val(_)) => self.turn_value(id, turn),
             (Some(&Frame::Loop(..)), Done::Err(_)) => self.turn_error(),
-            (Some(&Frame::Acquire(_) | &Frame::Using(..) | &Frame::Releasing(..)) | None, _) => {
-                return Ok(false);
-            }
+            (
+                Some(
+                    &Frame::Acquire(_)
+                    | &Frame::Using(..)
+                    | &Frame::AcquireCase(_)
+                    | &Frame::UsingCase(..)
+                    | &Frame::Releasing(..),
+                )
+                | None,
+                _,
+            ) => return Ok(false),
         }
         Ok(true)
     }

@@ -40,21 +40,21 @@ fn the_one_listed_longest_is_next_and_listed_no_more(rt: HostRuntime) -> Result<
     Ok(())
 }
 
-/// All 1,024 fibers wait for room, the highest number first.
+/// All 4,096 fibers wait for room, the highest number first.
 fn all_wait<R: Wait>(rt: &R, queue: &FiberQueue)
-    requires { queue.now.fibers ≡ 1024 }
+    requires { queue.now.fibers ≡ 4096 }
 {
-    for fiber in 0..1024u32 {
-        queue.wait(rt, 1023 - fiber, Side::Room);
+    for fiber in 0..4096u32 {
+        queue.wait(rt, 4095 - fiber, Side::Room);
     }
 }
 
 /// Whether all fibers of an even number were listed, which leave.
 fn even_leave<R: Wait>(rt: &R, queue: &FiberQueue) -> bool
-    requires { queue.now.fibers ≡ 1024 }
+    requires { queue.now.fibers ≡ 4096 }
 {
     let mut left = true;
-    for fiber in 0..512u32 {
+    for fiber in 0..2048u32 {
         left = left && queue.unwait(rt, 2 * fiber, Side::Room);
     }
     left
@@ -63,15 +63,15 @@ fn even_leave<R: Wait>(rt: &R, queue: &FiberQueue) -> bool
 /// Whether the fibers of odd numbers come next, the highest number first, and then none.
 fn odd_come<R: Wait>(rt: &R, queue: &FiberQueue) -> bool {
     let mut ordered = true;
-    for turn in 0..512u32 {
-        ordered = ordered && queue.next_waiter(rt, Side::Room) == Some(1023 - 2 * turn);
+    for turn in 0..2048u32 {
+        ordered = ordered && queue.next_waiter(rt, Side::Room) == Some(4095 - 2 * turn);
     }
     ordered && queue.next_waiter(rt, Side::Room).is_none()
 }
 
 #[test]
 fn who_left_in_the_middle_is_passed_over(rt: HostRuntime) -> Result<(), Fail> {
-    let (queue, _pass) = FiberQueue::new(rt.alloc(), 1, 1024)?;
+    let (queue, _pass) = FiberQueue::new(rt.alloc(), 1, 4096)?;
     all_wait(&rt, &queue);
     assert!(rt; even_leave(&rt, &queue) && odd_come(&rt, &queue));
     Ok(())

@@ -1,9 +1,8 @@
 //! The masks and the contexts of a fiber.
 
-use crate::harness::{Answer, Call, Row, Trial, Wrong};
-use crate::refuser::Refuser;
 use fx_frames::{Frame, Frames};
 use fx_mask::{Masks, Region};
+use fx_refusing::{Answer, Call, Refuser, Row, Trial, Wrong};
 use fx_term::{Memory, NodeId};
 use std::alloc::Global;
 

@@ -1,15 +1,14 @@
 //! The fibers of one thread.
 ghost use Rattle.std.specs.Prelude.{◌≡◌};
 
-use crate::harness::{Answer, Call, Row, Trial, Wrong, whole_where};
-use crate::refuser::Refuser;
-use crate::rows::fibers::{Part, tried_from};
-use crate::rows::shown::{is_written, room};
-use crate::scripts::Worked;
 use fx_fiber::{Fiber, Report};
 use fx_plain::{
     ENDED, OutFault, PlainFault, PlainPort, PlainWorld, replay, replay_text, write_report,
     write_trace,
+};
+use fx_refusing::{
+    Answer, Call, Part, Refuser, Row, Trial, Worked, Wrong, is_written, room, tried_from,
+    whole_where,
 };
 use fx_sched::solo;
 use fx_term::{CodeBrand, Memory};
@@ -21,7 +20,7 @@ use std::random::RandomSource;
 #[derive(Clone, Copy)]
 pub struct Replay {
     pub alloc: Global,
-    pub worked: Worked,
+    pub worked: &'static Worked,
 }
 
 impl Call for Replay {
@@ -44,7 +43,7 @@ impl Call for Replay {
 #[derive(Clone, Copy)]
 pub struct ReplayText {
     pub alloc: Global,
-    pub worked: Worked,
+    pub worked: &'static Worked,
 }
 
 impl Call for ReplayText {
@@ -74,9 +73,8 @@ pub enum Text {
 #[derive(Clone, Copy)]
 pub struct Write {
     pub alloc: Global,
-    pub worked: Worked,
+    pub worked: &'static Worked,
     pub text: Text,
-    pub written: &'static str,
 }
 
 /// What a writer answers to the report of a script.
@@ -90,11 +88,20 @@ fn writes(alloc: Global, call: &Write, refuser: &Refuser) -> Result<Answer, Wron
         Text::Trace => write_trace(alloc, &script, &report, &mut written),
     };
     refuser.hold();
-    Ok(match answer {
+    Ok(came_to(answer, &written, call))
+}
+
+/// What a writer answered that has written this.
+fn came_to(answer: Result<(), OutFault>, written: &[u8], call: &Write) -> Answer {
+    let text = match call.text {
+        Text::Report => call.worked.report,
+        Text::Trace => call.worked.traces,
+    };
+    match answer {
         Err(OutFault::Memory) if written.is_empty() => Answer::Memory,
-        Ok(()) if written.as_slice() == call.written.as_bytes() => Answer::Whole,
-        _ => Answer::Other,
-    })
+        Ok(()) => whole_where(written == text.as_bytes()),
+        Err(_) => Answer::Other,
+    }
 }
 
 impl Call for Write {
@@ -106,7 +113,7 @@ impl Call for Write {
 #[derive(Clone, Copy)]
 pub struct OpenWorld {
     pub alloc: Global,
-    pub worked: Worked,
+    pub worked: &'static Worked,
 }
 
 /// What a new world answers, which has a place for each fiber of the script.
@@ -169,7 +176,7 @@ impl Call for NewFiber {
 #[derive_where(Clone, Copy)]
 pub struct PlainSteps<'a, R> {
     pub rt: &'a R,
-    pub worked: Worked,
+    pub worked: &'static Worked,
     pub part: Part,
 }
 

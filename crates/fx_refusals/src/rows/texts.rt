@@ -1,9 +1,6 @@
 //! The texts of scripts and of schedules, and the code of a script.
 
-use crate::harness::{Answer, Call};
-use crate::refuser::Refuser;
-use crate::rows::shown::is_replayed;
-use crate::scripts::Worked;
+use fx_refusing::{Answer, Call, Refuser, Worked, is_replayed};
 use fx_term::{Arg, Code, CodeFault, Node, NodeId};
 use fx_text::{Pick, TextFault, TextKind, parse, schedule};
 use std::alloc::Global;
@@ -19,7 +16,7 @@ fn answer_of(fault: TextFault) -> Answer {
 #[derive(Clone, Copy)]
 pub struct Parse {
     pub alloc: Global,
-    pub worked: Worked,
+    pub worked: &'static Worked,
 }
 
 impl Call for Parse {

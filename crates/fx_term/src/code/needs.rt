@@ -11,7 +11,7 @@ use crate::node::Node;
 use std::alloc::Global;
 
 /// How many fiber numbers a script can use at most, besides that of its main fiber.
-pub const MOST_NEED: u32 = 1_023;
+pub const MOST_NEED: u32 = 4_095;
 
 /// All needs above [`MOST_NEED`] are taken for this one, so that no sum of needs is large.
 const TOO_MANY: u32 = MOST_NEED + 1;
@@ -30,13 +30,13 @@ fn need_of_part(part: Part, needs: &[u32]) -> u32
     in_all_turns.saturating_add(own).min(TOO_MANY)
 }
 
-/// The need of two parts.
-fn need_of_both(running: Running, first: u32, then: u32) -> u32
-    ensures { result ≡ capped (need_of_both running first then) }
+/// The need of a part and of those after it.
+fn need_of_both(running: Running, part: u32, after: u32) -> u32
+    ensures { result ≡ capped (need_of_both running part after) }
 {
     let need = match running {
-        Running::EachPart => first.saturating_add(then),
-        Running::OnePart => first.max(then),
+        Running::Beside => part.saturating_add(after),
+        Running::Instead => part.max(after),
     };
     need.min(TOO_MANY)
 }
@@ -47,12 +47,11 @@ pub fn need_of_node(node: Node, needs: &[u32]) -> u32
     requires { All (λ c. c < length needs.now) (children node) }
     ensures { result ≡ capped (need_of_node (λ id. slice_index needs.now id) node) }
 {
-    let running = node.running();
+    let parts = node.parts();
     let mut need = 0;
-    for entry in node.parts() {
-        if let Some(part) = entry {
-            need = need_of_both(running, need, need_of_part(part, needs));
-        }
+    for index in (0..parts.len()).rev() {
+        let Some(part) = parts[index] else { continue };
+        need = need_of_both(part.running, need_of_part(part, needs), need);
     }
     need
 }

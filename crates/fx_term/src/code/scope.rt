@@ -1,10 +1,10 @@
 //! Which names are right at a node: which are in scope there, and what they stand for.
 ghost use Rattle.std.specs.Prelude.{◌≡◌, ◌↔◌, Some, slice_get, IsTrue};
-ghost use Rattle.fx_term.specs.Scope.{IsArgBelow, IsArgOf, IsBinderAt};
+ghost use Rattle.fx_term.specs.Scope.{IsArgBelow, IsArgOf, IsBinderAt, bound_under};
 ghost use Rattle.fx_term.specs.Pending.{seen_past};
-ghost use Rattle.fx_term.specs.WellPlaced.{IsQueueBelow, HasRightSlots, HasRightNumbers, HasRightKinds};
+ghost use Rattle.fx_term.specs.WellPlaced.{IsNextBinder, IsQueueBelow, HasRightSlots, HasRightNumbers, HasRightKinds};
 
-use crate::code::signature::Use;
+use crate::code::signature::{Part, Use};
 use crate::name_kind::NameKind;
 use crate::node::{Arg, Node};
 
@@ -26,6 +26,24 @@ fn is_next(binder: Option<u32>, names: usize) -> bool
         None => true,
         Some(slot) => slot as usize == names,
     }
+}
+
+/// Has the binder no name, or the next slot inside of the other binder?
+fn is_next_inside(outer: Option<u32>, binder: Option<u32>, names: usize) -> bool
+    ensures { IsTrue result ↔ IsBinderAt (bound_under names outer) binder }
+{
+    match (outer, binder) {
+        (_, None) => true,
+        (None, Some(slot)) => slot as usize == names,
+        (Some(_), Some(slot)) => slot > 0 && slot as usize - 1 == names,
+    }
+}
+
+/// Has each binder of the part no name, or the next slot?
+fn has_next_slots(part: Part, names: usize) -> bool
+    ensures { IsTrue result ↔ IsNextBinder names part }
+{
+    is_next(part.binder, names) && is_next_inside(part.binder, part.inner, names)
 }
 
 /// Does it name no queue, or one of so many?
@@ -53,7 +71,7 @@ fn has_right_slots(node: Node, names: usize) -> bool
     let uses = node.uses();
     let parts = node.parts();
     uses.iter().all(|entry| entry.is_none_or(|used| is_in_scope(used.arg, names)))
-        && parts.iter().all(|entry| entry.is_none_or(|part| is_next(part.binder, names)))
+        && parts.iter().all(|entry| entry.is_none_or(|part| has_next_slots(part, names)))
 }
 
 /// What the name of this slot stands for in a fiber, where names of these kinds are in scope, so

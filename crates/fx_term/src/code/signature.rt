@@ -1,9 +1,9 @@
-//! The signature of each form: the names that a node uses; the queue that it names; its parts in the
-//! order of the text, each with what is bound in it; and how many of them it runs. Every test of a code
-//! goes over these tables.
-ghost use Rattle.std.specs.Prelude.{◌≡◌, Some};
-ghost use Rattle.fx_term.specs.Signature.{uses, queue_named, parts, running, present, use_as, slot_as, plain};
-ghost use Rattle.fx_term.specs.Signature.{part_under, repeated, started};
+//! The signature of each form: the names that a node uses; the queue that it names; and its parts in
+//! the order of the text, each with what is bound in it and how it goes with the parts after it. Every
+//! test of a code goes over these tables.
+ghost use Rattle.std.specs.Prelude.{◌≡◌, Some, [], ◌∷◌};
+ghost use Rattle.fx_term.specs.Signature.{uses, queue_named, parts, present, use_as, slot_as, plain};
+ghost use Rattle.fx_term.specs.Signature.{part_under, repeated, started, or_next, case_under};
 
 use crate::name_kind::NameKind;
 use crate::node::{Arg, Node, NodeId};
@@ -24,19 +24,23 @@ pub(crate) struct Part {
     pub binder: Option<u32>,
     /// What that name stands for.
     pub kind: NameKind,
+    /// The slot of the value's name that is bound in it inside of that one, if one is.
+    pub inner: Option<u32>,
     /// The count of the loop that repeats it, if one does.
     pub count: Option<u32>,
     /// Does it run in another fiber than its node?
     pub elsewhere: bool,
+    /// How it goes with the parts after it.
+    pub running: Running,
 }
 
-/// Which of its parts a node runs.
+/// How a part of a node goes with those after it.
 #[derive(Clone, Copy)]
 pub(crate) enum Running {
-    /// Each of them may be run.
-    EachPart,
-    /// One of them is.
-    OnePart,
+    /// It may be run, and those after it too.
+    Beside,
+    /// It is run, or one of those after it is.
+    Instead,
 }
 
 /// A number, or a name that is to stand for this.
@@ -53,50 +57,91 @@ fn slot_as(kind: NameKind, slot: u32) -> Option<Use>
     use_as(kind, Arg::Slot(slot))
 }
 
+/// A part in the scope of a binder.
+fn part_under(binder: Option<u32>, kind: NameKind, node: NodeId) -> Part
+    ensures { result ≡ part_under binder kind node }
+{
+    Part {
+        node,
+        binder,
+        kind,
+        inner: None,
+        count: None,
+        elsewhere: false,
+        running: Running::Beside,
+    }
+}
+
+/// A part in the scope of a value's name.
+fn valued(slot: u32, node: NodeId) -> Part
+    ensures { result ≡ part_under (Some slot) NameKind.Value node }
+{
+    part_under(Some(slot), NameKind::Value, node)
+}
+
 /// A part in which nothing is bound.
-fn plain(node: NodeId) -> Option<Part>
-    ensures { result ≡ Some (plain node) }
+fn plain(node: NodeId) -> Part
+    ensures { result ≡ plain node }
 {
     part_under(None, NameKind::Value, node)
 }
 
-/// A part in the scope of a binder.
-fn part_under(binder: Option<u32>, kind: NameKind, node: NodeId) -> Option<Part>
-    ensures { result ≡ Some (part_under binder kind node) }
-{
-    Some(Part {
-        node,
-        binder,
-        kind,
-        count: None,
-        elsewhere: false,
-    })
-}
-
 /// A part that is repeated in the scope of a binder of its turn's number.
-fn repeated(slot: u32, count: u32, node: NodeId) -> Option<Part>
-    ensures { result ≡ Some (repeated slot count node) }
+fn repeated(slot: u32, count: u32, node: NodeId) -> Part
+    ensures { result ≡ repeated slot count node }
 {
-    Some(Part {
-        node,
-        binder: Some(slot),
-        kind: NameKind::Value,
+    Part {
         count: Some(count),
-        elsewhere: false,
-    })
+        ..valued(slot, node)
+    }
 }
 
 /// A part that runs in another fiber.
-fn started(node: NodeId) -> Option<Part>
-    ensures { result ≡ Some (started node) }
+fn started(node: NodeId) -> Part
+    ensures { result ≡ started node }
 {
-    Some(Part {
-        node,
-        binder: None,
-        kind: NameKind::Value,
-        count: None,
+    Part {
         elsewhere: true,
-    })
+        ..plain(node)
+    }
+}
+
+/// The part, which is run, or one of those after it is.
+fn or_next(part: Part) -> Part
+    ensures { result ≡ or_next part }
+{
+    Part {
+        running: Running::Instead,
+        ..part
+    }
+}
+
+/// A part in the scope of two values' names, which is run, or one of those after it is.
+fn case_under(outer: u32, inner: u32, node: NodeId) -> Part
+    ensures { result ≡ case_under outer inner node }
+{
+    Part {
+        inner: Some(inner),
+        ..or_next(valued(outer, node))
+    }
+}
+
+fn one_part(part: Part) -> [Option<Part>; 5]
+    ensures { present result ≡ part ∷ [] }
+{
+    [Some(part), None, None, None, None]
+}
+
+fn two_parts(first: Part, then: Part) -> [Option<Part>; 5]
+    ensures { present result ≡ first ∷ then ∷ [] }
+{
+    [Some(first), Some(then), None, None, None]
+}
+
+fn three_parts(first: Part, then: Part, last: Part) -> [Option<Part>; 5]
+    ensures { present result ≡ first ∷ then ∷ last ∷ [] }
+{
+    [Some(first), Some(then), Some(last), None, None]
 }
 
 impl Node {
@@ -122,6 +167,7 @@ impl Node {
             | Node::Mask(..)
             | Node::OnCancel(..)
             | Node::Bracket(..)
+            | Node::BracketCase(..)
             | Node::Start(..)
             | Node::Take(_)
             | Node::TryTake(..) => [None, None],
@@ -142,7 +188,7 @@ impl Node {
     }
 
     /// Its parts in the order of the text.
-    pub(crate) fn parts(self) -> [Option<Part>; 3]
+    pub(crate) fn parts(self) -> [Option<Part>; 5]
         ensures { present result ≡ parts self }
     {
         match self {
@@ -155,55 +201,32 @@ impl Node {
             | Node::First(..)
             | Node::Offer(..)
             | Node::TryOffer(..)
-            | Node::Take(_) => [None, None, None],
+            | Node::Take(_) => [None, None, None, None, None],
+            Node::For(i, count, a) => one_part(repeated(i, count, a)),
+            Node::Mask(p, a) => one_part(part_under(Some(p), NameKind::Poll, a)),
+            Node::Poll(_, a) => one_part(plain(a)),
             Node::Let(x, a, b) | Node::Handle(a, x, b) => {
-                [plain(a), part_under(x, NameKind::Value, b), None]
+                two_parts(plain(a), part_under(x, NameKind::Value, b))
             }
-            Node::If(_, a, b) | Node::OnCancel(a, b) => [plain(a), plain(b), None],
-            Node::For(i, count, a) => [repeated(i, count, a), None, None],
-            Node::Mask(p, a) => [part_under(Some(p), NameKind::Poll, a), None, None],
-            Node::Poll(_, a) => [plain(a), None, None],
-            Node::Bracket(x, acquire, used, release) => [
+            Node::If(_, a, b) => two_parts(or_next(plain(a)), plain(b)),
+            Node::OnCancel(a, b) => two_parts(plain(a), plain(b)),
+            Node::Start(h, a, b) => two_parts(started(a), part_under(Some(h), NameKind::Fiber, b)),
+            Node::TryTake(_, x, a, b) => two_parts(or_next(valued(x, a)), plain(b)),
+            Node::Bracket(x, acquire, used, release) => three_parts(
                 plain(acquire),
                 part_under(x, NameKind::Value, used),
                 part_under(x, NameKind::Value, release),
-            ],
-            Node::Start(h, a, b) => [started(a), part_under(Some(h), NameKind::Fiber, b), None],
-            Node::Join(_, x, a, e, b, c) => [
-                part_under(Some(x), NameKind::Value, a),
-                part_under(Some(e), NameKind::Value, b),
-                plain(c),
-            ],
-            Node::TryTake(_, x, a, b) => {
-                [part_under(Some(x), NameKind::Value, a), plain(b), None]
+            ),
+            Node::Join(_, x, a, e, b, c) => {
+                three_parts(or_next(valued(x, a)), or_next(valued(e, b)), plain(c))
             }
-        }
-    }
-
-    /// Which of its parts it runs.
-    pub(crate) fn running(self) -> Running
-        ensures { result ≡ running self }
-    {
-        match self {
-            Node::If(..) | Node::Join(..) | Node::TryTake(..) => Running::OnePart,
-            Node::Pure(_)
-            | Node::Raise(_)
-            | Node::Canceled
-            | Node::Never
-            | Node::Cede
-            | Node::Let(..)
-            | Node::Handle(..)
-            | Node::For(..)
-            | Node::Mask(..)
-            | Node::Poll(..)
-            | Node::OnCancel(..)
-            | Node::Bracket(..)
-            | Node::Start(..)
-            | Node::Cancel(_)
-            | Node::First(..)
-            | Node::Offer(..)
-            | Node::TryOffer(..)
-            | Node::Take(_) => Running::EachPart,
+            Node::BracketCase(x, acquire, used, y, success, z, failure, canceled) => [
+                Some(plain(acquire)),
+                Some(valued(x, used)),
+                Some(case_under(x, y, success)),
+                Some(case_under(x, z, failure)),
+                Some(valued(x, canceled)),
+            ],
         }
     }
 }

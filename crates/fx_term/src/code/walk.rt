@@ -5,7 +5,7 @@ ghost use Rattle.fx_term.specs.Turns.{HasFewInside};
 ghost use Rattle.fx_term.specs.Walk.{spots, spots_below};
 ghost use Rattle.fx_term.specs.WellPlaced.{HasRightTurns, IsWellPlaced};
 ghost use Rattle.fx_term.specs.NodeNeed.{AreNeeds};
-ghost use Rattle.fx_term.specs.Pending.{path_to, seen_past, under, ArePushed};
+ghost use Rattle.fx_term.specs.Pending.{with_own, path_to, seen_past, under, ArePushed};
 ghost use Rattle.fx_term.specs.Code.{IsRefusal};
 
 use crate::code::CodeFault;
@@ -18,15 +18,27 @@ use crate::node::{Node, NodeId};
 use std::alloc::Global;
 
 /// A node that is still to be looked at, how many names are in scope where its parent stands, how
-/// many of these outside of the fiber that runs the node, the kind of the name that the parent binds
-/// for it, and how often the loops round it run it.
+/// many of these outside of the fiber that runs the node, the kinds of the names that the parent binds
+/// for it, the inner one last, and how often the loops round it run it.
 #[derive(Clone, Copy)]
 pub(crate) struct Pending {
     node: NodeId,
     outer: usize,
     foreign: usize,
     own: Option<NameKind>,
+    inner: Option<NameKind>,
     turns: u32,
+}
+
+/// Enters the scope of a name of this kind, if there is one.
+fn push_name(path: &mut Vec<NameKind>, own: Option<NameKind>) -> Result<(), CodeFault>
+    ensures entered { OnOk result (path.new.items ≡ with_own own path.old.items) }
+    ensures memory { IfErr result (λ fault. fault ≡ CodeFault.Memory) }
+{
+    if let Some(kind) = own {
+        path.push(kind)?;
+    }
+    Ok(())
 }
 
 /// Leaves the scopes that are not round this node, and enters its own.
@@ -35,10 +47,8 @@ fn enter(path: &mut Vec<NameKind>, pending: Pending) -> Result<(), CodeFault>
     ensures memory { IfErr result (λ fault. fault ≡ CodeFault.Memory) }
 {
     path.truncate(pending.outer);
-    if let Some(kind) = pending.own {
-        path.push(kind)?;
-    }
-    Ok(())
+    push_name(path, pending.own)?;
+    push_name(path, pending.inner)
 }
 
 /// Pushes a part of this parent, where names of these kinds are in scope.
@@ -62,6 +72,7 @@ fn push_part(
             parent.foreign
         },
         own: part.binder.map(|_| part.kind),
+        inner: part.inner.map(|_| NameKind::Value),
         turns: turns_inside(parent.turns, part.count),
     })?;
     Ok(())
@@ -111,6 +122,7 @@ pub(crate) fn check_names(
         outer: 0,
         foreign: 0,
         own: None,
+        inner: None,
         turns: 1,
     })?;
     while let Some(pending) = stack.pop() {

@@ -3,7 +3,7 @@
 use super::*;
 
 /// Codes: what they are, and how many fiber numbers their roots need.
-static NEEDS: [(&str, &[Node], u32); 14] = [
+static NEEDS: [(&str, &[Node], u32); 15] = [
     ("no start", &[ONE, CEDE, seq!(0, 1)], 0),
     ("a start", &[ONE, CEDE, start!(0, 0, 1)], 1),
     (
@@ -72,6 +72,26 @@ static NEEDS: [(&str, &[Node], u32); 14] = [
         3,
     ),
     (
+        "the parts of a bracketcase that acquire and use, and the greatest of its releases",
+        &[
+            ONE,
+            ONE,
+            start!(0, 0, 1),
+            ONE,
+            ONE,
+            start!(1, 3, 4),
+            ONE,
+            ONE,
+            ONE,
+            ONE,
+            start!(3, 8, 9),
+            start!(2, 7, 10),
+            ONE,
+            case!(0, 2, 5, 6, 11, 12),
+        ],
+        4,
+    ),
+    (
         "the greater part of an if, which is the second",
         &[
             ONE,
@@ -121,8 +141,8 @@ static NEEDS: [(&str, &[Node], u32); 14] = [
     ),
     (
         "the most",
-        &[ONE, ONE, start!(1, 0, 1), repeat!(0, 1_023, 2)],
-        1_023,
+        &[ONE, ONE, start!(1, 0, 1), repeat!(0, 4_095, 2)],
+        4_095,
     ),
 ];
 
@@ -155,18 +175,18 @@ fn knows_the_need_of_each_node(rt: HostRuntime) -> Result<(), Fail> {
 static TOO_LARGE: [Refused; 8] = [
     (
         "one fiber too many",
-        &[ONE, ONE, start!(1, 0, 1), repeat!(0, 1_024, 2)],
+        &[ONE, ONE, start!(1, 0, 1), repeat!(0, 4_096, 2)],
         limit!(3),
     ),
     (
-        "two fibers in each of 1000 turns",
+        "two fibers in each of 3000 turns",
         &[
             ONE,
             ONE,
             start!(1, 0, 1),
             ONE,
             start!(1, 2, 3),
-            repeat!(0, 1_000, 4),
+            repeat!(0, 3_000, 4),
         ],
         limit!(5),
     ),
@@ -176,7 +196,7 @@ static TOO_LARGE: [Refused; 8] = [
             ONE,
             ONE,
             start!(2, 0, 1),
-            repeat!(1, 2_000, 2),
+            repeat!(1, 5_000, 2),
             repeat!(0, 0, 3),
         ],
         limit!(3),
@@ -187,7 +207,7 @@ static TOO_LARGE: [Refused; 8] = [
             ONE,
             ONE,
             start!(2, 0, 1),
-            repeat!(1, 2_000, 2),
+            repeat!(1, 5_000, 2),
             mask!(0, 3),
             ONE,
             seq!(4, 5),
@@ -207,7 +227,7 @@ static TOO_LARGE: [Refused; 8] = [
     ),
     (
         "a node's slot before its need",
-        &[ONE, ONE, start!(2, 0, 1), repeat!(1, 1_024, 2)],
+        &[ONE, ONE, start!(2, 0, 1), repeat!(1, 4_096, 2)],
         slot!(3),
     ),
     (
@@ -216,7 +236,7 @@ static TOO_LARGE: [Refused; 8] = [
             ONE,
             ONE,
             start!(2, 0, 1),
-            repeat!(1, 1_024, 2),
+            repeat!(1, 4_096, 2),
             poll!(0, 3),
             repeat!(0, 0, 4),
         ],
@@ -224,7 +244,7 @@ static TOO_LARGE: [Refused; 8] = [
     ),
     (
         "a parent's need before its part's slot",
-        &[ONE, ONE, start!(7, 0, 1), repeat!(0, 1_024, 2)],
+        &[ONE, ONE, start!(7, 0, 1), repeat!(0, 4_096, 2)],
         limit!(3),
     ),
 ];
@@ -247,9 +267,9 @@ fn starts_inside(alloc: Global, starts: u32) -> Result<Vec<Node>, Fail> {
 
 #[test]
 fn takes_starts_as_deep_as_there_are_numbers(rt: HostRuntime) -> Result<(), Fail> {
-    let code = Code::build(rt.alloc(), starts_inside(rt.alloc(), 1_023)?, 0)?;
-    assert_eq!(rt; code.need(code.root()), 1_023);
-    let more = Code::build(rt.alloc(), starts_inside(rt.alloc(), 1_024)?, 0);
-    assert_eq!(rt; more.err(), Some(limit!(2_048)));
+    let code = Code::build(rt.alloc(), starts_inside(rt.alloc(), 4_095)?, 0)?;
+    assert_eq!(rt; code.need(code.root()), 4_095);
+    let more = Code::build(rt.alloc(), starts_inside(rt.alloc(), 4_096)?, 0);
+    assert_eq!(rt; more.err(), Some(limit!(8_192)));
     Ok(())
 }

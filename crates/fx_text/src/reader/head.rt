@@ -17,6 +17,7 @@ use crate::fault::ReadError;
 use crate::form::Form;
 use crate::part::closing;
 use crate::reader::Reader;
+use crate::reader::cases::{Case, CaseRoots, CaseSlots};
 use crate::reader::races::RaceSlots;
 use fx_term::{Arg, NameKind, Node, NodeId};
 use std::alloc::AllocError;
@@ -39,6 +40,8 @@ pub(crate) enum Inner<'a> {
     /// What comes after an outcome that has a number: in parentheses the name of the number, and a
     /// term.
     Outcome,
+    /// The same, with the name of a value more.
+    OutcomeUnder(&'a [u8]),
 }
 
 /// A form of one such part, with what stands before it.
@@ -86,6 +89,8 @@ pub(crate) enum Then<'a> {
     SecondOfThree(Inner<'a>, Triple, NodeId),
     /// Nothing, since it was the third of three.
     ThirdOfThree(Triple, NodeId, NodeId),
+    /// The parts of a `bracketcase` after this one.
+    Case(Case<'a>),
     /// The name of an error, and a term.
     Handle,
     /// What is done after its value or its error.
@@ -98,6 +103,7 @@ pub(crate) enum Whole {
     One(Single, NodeId),
     Two(Double, NodeId, NodeId),
     Three(Triple, NodeId, NodeId, NodeId),
+    Case(CaseSlots, CaseRoots),
 }
 
 /// What is still to come of a form that has parts.
@@ -148,6 +154,7 @@ impl<'a> Reader<'a> {
                 bytes,
             )),
             Form::Bracket => self.bracket_head(bytes),
+            Form::BracketCase => self.bracket_case_head(bytes),
             Form::Guarantee => Ok((
                 Head::Part(Inner::Same, Then::Two(Inner::Same, Double::Guarantee)),
                 bytes,
@@ -268,6 +275,7 @@ impl<'a> Reader<'a> {
             Whole::Three(form, first, second, third) => {
                 self.triple_node(form, first, second, third)
             }
+            Whole::Case(slots, roots) => self.case_node(slots, roots),
         }
     }
 
@@ -313,6 +321,7 @@ impl<'a> Reader<'a> {
             Then::ThirdOfThree(form, first, second) => {
                 Ok((Ahead::End(Whole::Three(form, first, second, part)), bytes))
             }
+            Then::Case(case) => Ok((case.after(part), bytes)),
             Then::Handle => self.handle(part, bytes),
             Then::Forcer => self.forcer(part, bytes),
         }

@@ -82,6 +82,10 @@ impl<'a> Reader<'a> {
         match inner {
             Inner::Same | Inner::Outcome => Ok(()),
             Inner::Name(kind, name) => Ok(self.names.push(Bound { name, kind })?),
+            Inner::OutcomeUnder(name) => {
+                let kind = NameKind::Value;
+                Ok(self.names.push(Bound { name, kind })?)
+            }
             Inner::Elsewhere => {
                 self.place.foreign = self.names.len();
                 Ok(())
@@ -106,6 +110,17 @@ impl<'a> Reader<'a> {
         }
     }
 
+    /// Goes into what comes after an outcome, up to its term.
+    fn outcome(&mut self, room: usize, bytes: &'a [u8]) -> Result<(usize, &'a [u8]), ReadError>
+        requires { IsReady 0 self.old bytes.now }
+        ensures { GoesIn Inner.Outcome room self.old self.new bytes.now result }
+    {
+        let (name, room, rest) = self.named(room, bytes)?;
+        let kind = NameKind::Value;
+        self.names.push(Bound { name, kind })?;
+        Ok((room, rest))
+    }
+
     /// Goes into a part, up to its term.
     fn go_in(
         &mut self,
@@ -118,11 +133,10 @@ impl<'a> Reader<'a> {
         ensures { GoesIn inner.entry room self.old self.new bytes.now result }
     {
         match inner {
-            Inner::Outcome => {
-                let (name, room, rest) = self.named(room, bytes)?;
-                let kind = NameKind::Value;
-                self.names.push(Bound { name, kind })?;
-                Ok((room, rest))
+            Inner::Outcome => self.outcome(room, bytes),
+            Inner::OutcomeUnder(_) => {
+                self.enter(inner)?;
+                self.outcome(room, bytes)
             }
             _ => {
                 self.enter(inner)?;
@@ -201,7 +215,7 @@ impl<'a> Reader<'a> {
         self.few_fibers(root, inside)?;
         self.leave(outside);
         match inner {
-            Inner::Outcome => closing(bytes),
+            Inner::Outcome | Inner::OutcomeUnder(_) => closing(bytes),
             _ => Ok(bytes),
         }
     }

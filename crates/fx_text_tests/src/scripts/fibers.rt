@@ -51,31 +51,31 @@ static REFUSED_FIBERS: [Refusal; 18] = [
     (b"(main (start h (pure 1) (cancel h) (join h)))", 6, 35),
 ];
 
-/// Forms that can start more than 1,023 fibers, and a fault that comes before their `)`.
+/// Forms that can start more than 4,095 fibers, and a fault that comes before their `)`.
 static REFUSED_NEEDS: [Refusal; 7] = [
-    (b"(main (for i 2000 (start h (pure i) (pure 0))))", 12, 6),
-    (b"(main (for i 1024 (start h (cede) (cede))))", 12, 6),
+    (b"(main (for i 5000 (start h (pure i) (pure 0))))", 12, 6),
+    (b"(main (for i 4096 (start h (cede) (cede))))", 12, 6),
     (
-        b"(main (seq (cede) (for i 1024 (start h (cede) (cede))) (foo)))",
+        b"(main (seq (cede) (for i 4096 (start h (cede) (cede))) (foo)))",
         12,
         18,
     ),
     (
-        b"(main (seq (for i 1000 (start h (cede) (cede))) (for i 24 (start h (cede) (cede)))))",
+        b"(main (seq (for i 4000 (start h (cede) (cede))) (for i 96 (start h (cede) (cede)))))",
         12,
         6,
     ),
     (
-        b"(main (start h (for i 1023 (start k (cede) (cede))) (cede)))",
+        b"(main (start h (for i 4095 (start k (cede) (cede))) (cede)))",
         12,
         6,
     ),
     (
-        b"(main (if 0 (for i 1023 (start h (cede) (cede))) (for i 1024 (start h (cede) (cede)))))",
+        b"(main (if 0 (for i 4095 (start h (cede) (cede))) (for i 4096 (start h (cede) (cede)))))",
         12,
         49,
     ),
-    (b"(main (for i 1024 (start h (cede) (cede)) (cede)))", 6, 42),
+    (b"(main (for i 4096 (start h (cede) (cede)) (cede)))", 6, 42),
 ];
 
 #[test]
@@ -97,14 +97,14 @@ static TOTALS: [(&[u8], u32); 9] = [
         b"(main (mask p (start h (mask r (poll r (pure 1))) (poll p (pure 2)))))",
         2,
     ),
-    (b"(main (for i 1023 (start h (pure i) (pure 0))))", 1024),
+    (b"(main (for i 4095 (start h (pure i) (pure 0))))", 4096),
     (
-        b"(main (if 0 (for i 1023 (start h (cede) (cede))) (for i 1023 (start h (cede) (cede)))))",
-        1024,
+        b"(main (if 0 (for i 4095 (start h (cede) (cede))) (for i 4095 (start h (cede) (cede)))))",
+        4096,
     ),
     (
-        b"(main (seq (for i 1000 (start h (cede) (cede))) (for i 23 (start h (cede) (cede)))))",
-        1024,
+        b"(main (seq (for i 4000 (start h (cede) (cede))) (for i 95 (start h (cede) (cede)))))",
+        4096,
     ),
     (
         b"(main (start h (start k (cede) (cede)) (join h (x (start k (cede) (cede))) (e (start k (cede) (start l (cede) (cede)))) (cede))))",
@@ -126,14 +126,20 @@ fn counts_the_fibers(rt: HostRuntime) {
     }
 }
 
-/// So many starts one after another, and the groups of a `join`, which have a parenthesis each.
+/// So many starts one after another, in two turns, and the groups of a `join`, which have a parenthesis each.
 static REPEATED_FIBERS: [Repeated; 4] = [
-    (b"(main (seq", b"(start h (cede) (cede))", 1023, b"))", None),
     (
-        b"(main (seq",
+        b"(main (for i 2 (seq",
         b"(start h (cede) (cede))",
-        1024,
-        b"))",
+        2047,
+        b")))",
+        None,
+    ),
+    (
+        b"(main (for i 2 (seq",
+        b"(start h (cede) (cede))",
+        2048,
+        b")))",
         Some((12, 6)),
     ),
     (
@@ -205,7 +211,7 @@ static REFUSED_RACES: [Refusal; 8] = [
     (b"(main (race (cede) (cede) (cede)))", 6, 26),
     (b"(main (race (pure l) (cede)))", 7, 18),
     (b"(main (race (cede) (cancel l)))", 7, 27),
-    (b"(main (for i 512 (race (cede) (cede))))", 12, 6),
+    (b"(main (for i 2048 (race (cede) (cede))))", 12, 6),
 ];
 
 /// Races, and how many fibers there can be.
@@ -219,7 +225,7 @@ static RACE_TOTALS: [(&[u8], u32); 4] = [
         b"(main (race (mask p (poll p (cede))) (let l (pure 2) (pure l))))",
         3,
     ),
-    (b"(main (for i 511 (race (cede) (cede))))", 1023),
+    (b"(main (for i 2047 (race (cede) (cede))))", 4095),
 ];
 
 #[test]

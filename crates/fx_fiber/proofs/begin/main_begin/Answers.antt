@@ -7,4 +7,4 @@ returns-clause-begin c =
     rw (c.new.ensures, c.need.ensures.need, ← last) refl
 
 pub returns-clause-word : goal.returns-clause-word
-returns-clause-word c = let few : c.need.result ≤ 1023 = c.need.ensures.few in omega arith
+returns-clause-word c = let few : c.need.result ≤ 4095 = c.need.ensures.few in omega arith

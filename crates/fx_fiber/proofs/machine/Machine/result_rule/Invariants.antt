@@ -11,3 +11,6 @@ ghost-acquire_fails g a = g.nodes
 
 abbrev pub ghost-end_rule : goal.ghost-end_rule
 ghost-end_rule g a = g.nodes
+
+abbrev pub ghost-acquire_case_fails : goal.ghost-acquire_case_fails
+ghost-acquire_case_fails g a = g.nodes

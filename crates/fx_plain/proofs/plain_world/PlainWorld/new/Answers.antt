@@ -8,7 +8,7 @@ use Rattle.fx_plain.proofs.Capacities.{empty_by_capacity}
 use Rattle.fx_plain.proofs.plain_world.PlainWorld.new.Goals as goal
 
 pub opening-requires-clause-few : goal.opening-requires-clause-few
-opening-requires-clause-few g c = let few : c.main_begin-begin.result.end ≤ 1 + 1023 = c.main_begin-begin.ensures.few in omega arith
+opening-requires-clause-few g c = let few : c.main_begin-begin.result.end ≤ 1 + 4095 = c.main_begin-begin.ensures.few in omega arith
 
 pub returns-clause-world : goal.returns-clause-world
 returns-clause-world g c =

@@ -1,8 +1,8 @@
--- The need of the parts before.
-use Rattle.std.proofs.Common.{◌≡◌, take}
+-- The need of the parts from here on.
+use Rattle.std.proofs.Common.{◌≡◌}
 use Rattle.std.specs.Prelude.{slice_index}
-use Rattle.fx_term.proofs.NeedLaws.{need_so_far}
+use Rattle.fx_term.proofs.NeedLaws.{need_from}
 use Rattle.fx_term.proofs.code.needs.need_of_node.Given as goal
 
-abbrev pub invariant-loop-entry : goal.invariant-loop-entry
-invariant-loop-entry l = l.need ≡ need_so_far (λ id. slice_index l.needs id) l.running (take l.entry-index l.entry-items)
+abbrev pub invariant-loop-index : goal.invariant-loop-index
+invariant-loop-index l = l.need ≡ need_from (λ id. slice_index l.needs id) l.parts l.index
