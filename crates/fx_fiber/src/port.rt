@@ -1,6 +1,6 @@
 //! What a fiber reaches of the outside.
 ghost use Rattle.std.specs.Prelude.{◌≡◌, ℕ, ◌<◌, ◌^◌, Bool, true, false, List, ◌++◌, ◌∷◌, []};
-ghost use Rattle.std.specs.Prelude.{IfSome, IfOk, IfNone, OnErr};
+ghost use Rattle.std.specs.Prelude.{IfSome, IfOk, IfNone, OnOk, OnErr};
 ghost use Rattle.std.specs.Bool.{OnTrue, OnFalse};
 ghost use Rattle.fx_term.specs.declared.node.Node.{Node};
 ghost use Rattle.fx_fiber.specs.Deed.{Deed, Started, Requested, Saw, Got, FoundEmpty, FoundEnded, Ended};
@@ -51,7 +51,8 @@ use fx_term::{Begin, Memory, Offered, Outcome};
 /// | `take` | `Got`, or `FoundEmpty` | nothing has changed where there is no element |
 /// | `start` | `Started` | a new port for the child; `rest` begins after the child's range; nothing has changed where memory ran out |
 /// | `finish` | `Ended` | `has_finished` |
-/// | `outside`, `wait_on` | none | `agrees` holds of the deeds as before |
+/// | `outside` | none | `agrees` holds of the deeds as before; nothing has changed where memory ran out |
+/// | `wait_on` | none | `agrees` holds of the deeds as before |
 /// | `woken` | none, since it is no fiber's | its answer is below `total` |
 ///
 /// A new port, the child's or the main fiber's, has the first facts of the number and the beginning that are
@@ -191,11 +192,12 @@ pub trait Port: Sized {
 
     /// Requests the cancellation of a fiber from outside, whatever its number is. It is no deed of this
     /// port's fiber.
-    fn outside(&mut self, shared: &mut Self::Shared, id: u32)
+    fn outside(&mut self, shared: &mut Self::Shared, id: u32) -> Result<(), Memory>
         requires may { may id ≡ true }
-        ensures told { calls.outsides self.old shared.old id self.new shared.new }
+        ensures told { OnOk result (calls.outsides self.old shared.old id self.new shared.new) }
         ensures facts { facts self.new ≡ facts self.old }
-        ensures deed { (deeds : List Deed) → agrees self.old deeds → agrees self.new deeds };
+        ensures deed { (deeds : List Deed) → agrees self.old deeds → agrees self.new deeds }
+        ensures unchanged { OnErr result ((self.new ≡ self.old) × (shared.new ≡ shared.old)) };
 
     /// Registers the fiber with what it waits for, so that it is woken once that may have come. It is no
     /// deed.

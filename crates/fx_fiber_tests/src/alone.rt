@@ -95,7 +95,9 @@ impl<J: CodeBrand> Port for Alone<J> {
         self.has_ended = true;
     }
 
-    fn outside(&mut self, _alloc: &mut Global, _id: u32) {}
+    fn outside(&mut self, _alloc: &mut Global, _id: u32) -> Result<(), Memory> {
+        Ok(())
+    }
 
     fn wait_on(&mut self, _alloc: &mut Global, _source: Source) {}
 

@@ -122,8 +122,9 @@ impl<J: CodeBrand> Port for PlainPort<J> {
         world.finish(self.id, outcome);
     }
 
-    fn outside(&mut self, world: &mut PlainWorld, id: u32) {
+    fn outside(&mut self, world: &mut PlainWorld, id: u32) -> Result<(), Memory> {
         world.request_from_outside(id);
+        Ok(())
     }
 
     fn wait_on(&mut self, _world: &mut PlainWorld, _source: Source) {

@@ -1,7 +1,7 @@
 -- Marks, and the numbers that are marked.
 use Rattle.std.proofs.Common.{◌≡◌, ◌≢◌, ℕ, ◌+◌, ◌<◌, ◌≤◌, Bool, true, false, List, [], ◌∷◌, ◌++◌, ◌⊎◌}
 use Rattle.std.proofs.Common.{inl, inr, ⊎_elim, ◌||◌, length, get_or, set, take, replicate, zero, suc, refl, sym, ◌∙◌, ap, subst, arith, add-one}
-use Rattle.std.proofs.lemmas.List.{get_or-set_same, get_or-set_other, length-replicate, set_past, take_all, replicate-append-replicate}
+use Rattle.std.proofs.lemmas.List.{get_or-set_same, get_or-set_other, length-replicate, take_all}
 use mathlib.Core.Logic.{dite}
 use native.Mathlib.Decide.{ℕ_discrete}
 use Rattle.fx_term.specs.Lists.{Among}
@@ -30,20 +30,6 @@ laid_long n (m ∷ row) (inr e) = e
 pub laid_read : (n : ℕ) (row : List Bool) (f : ℕ) → is_marked (laid_marks n row) f ≡ is_marked row f
 laid_read n [] f = unmarked n f
 laid_read n (m ∷ row) f = refl
-
--- to take a mark off changes nothing where none is
-unmark_none : (n f : ℕ) → set (replicate n false) f false ≡ replicate n false
-unmark_none zero f = refl
-unmark_none (suc n) zero = refl
-unmark_none (suc n) (suc f) = ap (λ l. false ∷ l) (unmark_none n f)
-
-pub unmark_past : (n : ℕ) (row : List Bool) (f : ℕ) → length row ≤ f → laid_marks n row ≡ set (laid_marks n row) f false
-unmark_past n [] f le = sym (unmark_none n f)
-unmark_past n (m ∷ row) f le = sym (set_past (m ∷ row) f false le)
-
--- a row is laid mark by mark
-pub laid_more : (k : ℕ) → replicate k false ++ false ∷ [] ≡ replicate (k + 1) false
-laid_more k = replicate-append-replicate k 1 false
 
 pub marked_within : (marks : List Bool) (f : ℕ) → is_marked marks f ≡ true → f < length marks
 marked_within [] f e = no_mark e

@@ -2,7 +2,6 @@
 ghost use Rattle.std.specs.Prelude.{◌≡◌, ◌<◌, true, false, replicate, slice_set, IfOk, IfSome};
 ghost use Rattle.fx_port.specs.Marks.{KeepsMarks, TakesMark};
 
-use crate::marks::Marks;
 use crate::run_brand::RunBrand;
 use fx_term::Memory;
 use std::alloc::Global;
@@ -12,7 +11,8 @@ use std::marker::{Model, PhantomData};
 /// once. Contracts see a mark for each number. Its room is had when it is made.
 #[derive(Drop)]
 pub struct Notes<N: RunBrand> {
-    marks: Marks,
+    /// By number.
+    marks: Vec<bool>,
     /// Those that are marked.
     numbers: Vec<u32>,
     fibers: u32,
@@ -25,10 +25,10 @@ impl<N: RunBrand> Model for Notes<N> {
 
     ghost Value = { List Bool };
 
-    ghost view = { λ n. n.marks };
+    ghost view = { λ n. n.marks.items };
 
-    ghost invariant = { λ n. AreListed n.marks n.numbers.items
-        × (length n.marks ≡ n.fibers) × (n.fibers ≤ vec_capacity n.numbers)
+    ghost invariant = { λ n. AreListed n.marks.items n.numbers.items
+        × (length n.marks.items ≡ n.fibers) × (n.fibers ≤ vec_capacity n.numbers)
         × (n.fibers ≡ N.words.fibers) };
 }
 
@@ -38,7 +38,7 @@ impl<N: RunBrand> Notes<N> {
         requires { fibers ≡ N.words.fibers }
         ensures { IfOk result (λ notes. notes ≡ replicate fibers false) }
     {
-        let marks = Marks::new(alloc, fibers)?;
+        let marks = vec![in alloc; false; fibers as usize]?;
         let mut numbers = Vec::new(alloc);
         numbers.reserve(fibers as usize)?;
         Ok(Notes {
@@ -54,8 +54,8 @@ impl<N: RunBrand> Notes<N> {
         ensures same { self.new ≡ slice_set self.old id true }
         ensures kept { KeepsMarks self.old self.new }
     {
-        if id < self.fibers && !self.marks.is_marked(id) {
-            self.marks.mark(id);
+        if id < self.fibers && !self.marks[id as usize] {
+            self.marks[id as usize] = true;
             self.numbers.push_reserved(id);
         }
     }
@@ -67,7 +67,7 @@ impl<N: RunBrand> Notes<N> {
     {
         match self.numbers.pop() {
             Some(id) => {
-                self.marks.unmark(id);
+                self.marks[id as usize] = false;
                 Some(id)
             }
             None => None,

@@ -1,7 +1,7 @@
 //! A turn of a fiber at a gate.
 ghost use Rattle.std.specs.Prelude.{◌≡◌, ℕ, true};
 ghost use Rattle.fx_fiber.specs.Turns.{Turns, come_to};
-ghost use Rattle.fx_sched.specs.GatedTurns.{HasGatedTurn, RequestsNamed};
+ghost use Rattle.fx_sched.specs.GatedTurns.{HasGatedTurn, RequestsNamed, TurnsAsNamed};
 
 use crate::gate::Gate;
 use futures::Future;
@@ -16,7 +16,8 @@ pub fn solo<R: RandomSource + AllocGlobal>(rt: &R) -> Result<Solo, Memory> {
     Solo::new(rt, Doorbell::spinning()).map_err(|_| Memory)
 }
 
-/// Asks the gate, requests from outside what it names, and then lets the fiber have its turn.
+/// Asks the gate, requests from outside what it names, and then lets the fiber have its turn. Where there is
+/// no memory for the request, the fiber has no turn, and nothing has changed.
 pub fn gated_turn<P: Port, G: Gate>(
     solo: &Solo,
     gate: &G,
@@ -57,7 +58,9 @@ pub(crate) fn turn_in<P: Port, G: Gate>(
         (come_to result) fiber.new shared.new }
 {
     if let Some(id) = gate.turn(worker, fiber.id()) {
-        fiber.outside(shared, id);
+        let Ok(()) = fiber.outside(shared, id) else {
+            return Poll::Ready(Turned::Memory);
+        };
     }
     one_turn(fiber, code, shared, cx)
 }

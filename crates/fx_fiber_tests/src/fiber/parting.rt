@@ -55,7 +55,7 @@ fn part<J: CodeBrand>(alloc: Global, code: &Code, request: Request) -> Result<Pa
     let port: TestPort<J> = TestPort::new(alloc, 0, main_begin(alloc, code));
     let mut fiber = Fiber::new(alloc, code, port)?;
     step(&mut fiber, code, &mut looks, before)?;
-    fiber.outside(&mut looks, id);
+    fiber.outside(&mut looks, id)?;
     step(&mut fiber, code, &mut looks, after)?;
     let (bare, port) = fiber.part(code);
     Ok(Parted {

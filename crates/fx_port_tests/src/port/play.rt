@@ -88,7 +88,7 @@ fn play_as<N: RunBrand + Send + Sync, R: Threads + Wait + Sync>(
 {
     let mine = Notes::<N>::new(alloc, words.fibers())?;
     let theirs = Notes::<N>::new(alloc, words.fibers())?;
-    let port = ThreadPort::<R, N>::new(rt, alloc, words, queues, sources, seat, passes)?;
+    let port = ThreadPort::<R, N>::new(rt, alloc, words, queues, sources, seat, passes);
     let main = Fiber::new(alloc, code, port)?;
     match plan {
         Plan::Moves(moves) => by_moves(alloc, code, main, mine, moves),
@@ -137,7 +137,7 @@ fn make<P: Port + Drop>(
         }
         Move::Request(id) => {
             if let Some(main) = fibers.first_mut() {
-                main.outside(shared, id);
+                main.outside(shared, id)?;
             }
         }
     }

@@ -90,7 +90,7 @@ pub fn begun<'a, N: RunBrand, R: Wait>(
     requires seat { IsOf seat N.words × (seat.view ≡ first_view N.words.fibers) }
     requires passes { AreFirst N.words.fibers N.queues passes }
 {
-    let port = ThreadPort::<R, N>::new(rt, alloc, words, queues, sources, seat, passes)?;
+    let port = ThreadPort::<R, N>::new(rt, alloc, words, queues, sources, seat, passes);
     let main = Fiber::new(alloc, code, port)?;
     let notes = Notes::<N>::new(alloc, words.fibers())?;
     Ok((main, notes))

@@ -1,7 +1,7 @@
 use Rattle.std.proofs.Common.{◌≡◌, ◌∙◌, true, sym, ap, take, set, length, ℕ, add-one, arith}
 use Rattle.fx_port.specs.Marks.{is_marked, joined_marks}
 use Rattle.fx_port.proofs.MarkLaws.{mark_read, laid_read, joined_none, joined_marked, joined_unmarked, joined_whole}
-use Rattle.fx_port.proofs.marks.Marks.join.Goals.{then-index, else-index}
+use Rattle.fx_port.proofs.marks.Marks.join.Goals.{then-index+in_ok-mark_at, else-index}
 use Rattle.fx_port.proofs.marks.Marks.join.Goals as goal
 
 pub loop-place-init : goal.loop-place-init
@@ -19,7 +19,7 @@ loop-place-preserved c =
     ∙ laid_read c.other.inside.numbers c.other.inside.row.items k
     ∙ mark_read c.other.inside.row.items k c.index.result.now (omega (arith, here, count, long)) c.index.ensures in
     elim c.if-index.branch [
-      | then-index w ↦ (w.self-is ∙ (w.mark_at.ensures ∙ (ap (λ l. set l k true) c.loop-place.invariant
+      | then-index+in_ok-mark_at w ↦ (w.self-is ∙ (w.in_ok-mark_at.ensures.marked ∙ (ap (λ l. set l k true) c.loop-place.invariant
           ∙ (joined_marked c.args.self.now c.args.other.now k (read ∙ w.if-index.true) ∙ more))))
       | else-index w ↦ (w.self-is ∙ (c.loop-place.invariant ∙ (joined_unmarked c.args.self.now c.args.other.now k (read ∙ w.if-index.false) ∙ more)))
     ]
