@@ -1,5 +1,6 @@
-//! Refuses each request for memory in turn, of public calls of the crates of several threads that can answer want
-//! of memory. `fx_refusing` says what is done with a call, and `rows` has the calls, a line each.
+//! Refuses each request for memory or for a thread in turn, of public calls of the crates of several threads, and
+//! of the program, that can answer want of memory. `fx_refusing` says what is done with a call, and `rows` has the
+//! calls, a line each.
 //!
 //! Where nobody refuses memory the program says so, and makes no call.
 #![tactic(auto)]

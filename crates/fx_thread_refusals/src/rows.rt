@@ -1,24 +1,38 @@
 //! The rows, a line each.
 
 mod alone;
+mod commands;
 mod lots;
 mod opened;
+mod reports;
+mod runs;
 mod steps;
 mod tasks;
 mod threads;
+mod whole;
 
+use commands::{FAULTS, Said};
 use fx_refusing::{Anew, Part, Tally, WORKED, Worked};
 use std::alloc::AllocGlobal;
 use std::random::RandomSource;
 use std::sync::Wait;
+use std::thread::Threads;
+use whole::{Whole, requests};
 
 /// Tries all rows.
-pub fn all<R: Print + Wait + RandomSource + AllocGlobal + Drop>(rt: &R, tally: &mut Tally<R>) {
+pub fn all<R: Print + Wait + Threads + Sync + RandomSource + AllocGlobal + Drop>(
+    rt: &R,
+    tally: &mut Tally<R>,
+) {
     shared(rt, tally);
     hands(rt, tally);
     for worked in &WORKED {
         fibers(rt, tally, worked);
+        reported(rt, tally, worked);
+        run(rt, tally, worked);
+        words(rt, tally, worked);
     }
+    faults(rt, tally);
 }
 
 /// Those of what the threads share.
@@ -76,4 +90,62 @@ fn fibers<R: Print + Wait + RandomSource + AllocGlobal>(
         &steps::ThreadSteps { rt, worked, part },
     );
     tally.row("work", name, &Anew(alone::WorkAlone { rt, worked }));
+}
+
+/// Those that go from the fibers of a script to a report.
+fn reported<R: Print + AllocGlobal>(rt: &R, tally: &mut Tally<R>, worked: &'static Worked) {
+    let alloc = rt.alloc();
+    tally.row(
+        "report",
+        worked.name,
+        &Anew(reports::ReportOf { alloc, worked }),
+    );
+}
+
+/// Those of whole runs.
+fn run<R: Print + Wait + Threads + Sync + RandomSource + AllocGlobal>(
+    rt: &R,
+    tally: &mut Tally<R>,
+    worked: &'static Worked,
+) {
+    let by_one = requests(rt, rt.alloc(), &Whole::Run(worked, 1));
+    tally.tell("run by 1", worked.name, by_one);
+    let by_four = requests(rt, rt.alloc(), &Whole::Run(worked, 4));
+    tally.tell("run by 4", worked.name, by_four);
+}
+
+/// Those of calls of the program that print a report, a trace or counts.
+fn words<R: Print + Wait + Threads + Sync + RandomSource + AllocGlobal>(
+    rt: &R,
+    tally: &mut Tally<R>,
+    worked: &'static Worked,
+) {
+    for (words, out) in [
+        ("check F", worked.counts),
+        ("replay F S", worked.report),
+        ("trace F", worked.traces),
+        ("run F 1", worked.report),
+        ("run F 4", worked.report),
+    ] {
+        let said = Said {
+            words,
+            script: worked.text,
+            status: 0,
+            out,
+            err: "",
+        };
+        let count = requests(rt, rt.alloc(), &Whole::Command(said));
+        tally.tell(words, worked.name, count);
+    }
+}
+
+/// Those of calls of the program with words for people.
+fn faults<R: Print + Wait + Threads + Sync + RandomSource + AllocGlobal>(
+    rt: &R,
+    tally: &mut Tally<R>,
+) {
+    for (name, said) in FAULTS {
+        let count = requests(rt, rt.alloc(), &Whole::Command(said));
+        tally.tell(said.words, name, count);
+    }
 }

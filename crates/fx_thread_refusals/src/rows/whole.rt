@@ -1,0 +1,80 @@
+//! Whole calls that start threads. A method of a trait cannot hand a handle to threads, so these are no rows.
+
+use crate::rows::commands::{Said, commands};
+use crate::rows::runs::runs;
+use fx_refusing::{Answer, MOST_REQUESTS, Reach, Refuser, Trial, Worked, Wrong, some};
+use std::alloc::{AllocGlobal, Global};
+use std::random::RandomSource;
+use std::sync::Wait;
+use std::thread::Threads;
+
+/// A call that has all that it is made on in its arguments.
+#[derive(Clone, Copy)]
+pub enum Whole {
+    /// A run of the script by so many workers.
+    Run(&'static Worked, u32),
+    /// The program, called by words.
+    Command(Said),
+}
+
+/// What the call answers.
+fn made<R: Wait + Threads + Sync + RandomSource + AllocGlobal>(
+    rt: &R,
+    alloc: Global,
+    call: &Whole,
+    refuser: &Refuser,
+) -> Answer {
+    match call {
+        Whole::Run(worked, workers) => runs(rt, alloc, worked, *workers, refuser),
+        Whole::Command(said) => commands(rt, alloc, said, refuser).unwrap_or(Answer::Other),
+    }
+}
+
+/// Makes the call, and where it was refused memory again with ample memory: whether it was.
+fn told<R: Wait + Threads + Sync + RandomSource + AllocGlobal>(
+    rt: &R,
+    alloc: Global,
+    call: &Whole,
+    trial: &Trial,
+) -> Result<bool, Wrong> {
+    let mut has_told = false;
+    let mut answer = made(rt, alloc, call, trial.refuser());
+    if answer == Answer::Memory {
+        has_told = true;
+        trial.grant()?;
+        answer = made(rt, alloc, call, trial.refuser());
+    }
+    match answer {
+        Answer::Whole => Ok(has_told),
+        Answer::Memory => Err(Wrong::Again),
+        Answer::Goes | Answer::Other => Err(Wrong::Other),
+    }
+}
+
+/// Refuses the first request, the second and so on, until none is met.
+fn requests_at<R: Wait + Threads + Sync + RandomSource + AllocGlobal>(
+    rt: &R,
+    alloc: Global,
+    call: &Whole,
+    reach: Reach,
+) -> Result<u32, Wrong> {
+    for count in 0..MOST_REQUESTS {
+        let trial = Trial::new(alloc, reach, count + 1);
+        trial.begin();
+        if !trial.end(told(rt, alloc, call, &trial))? {
+            return Ok(count);
+        }
+    }
+    Err(Wrong::NoEnd)
+}
+
+/// How many requests the call makes, where each was refused in turn and all came as it is to come.
+pub fn requests<R: Wait + Threads + Sync + RandomSource + AllocGlobal>(
+    rt: &R,
+    alloc: Global,
+    call: &Whole,
+) -> Result<u32, Wrong> {
+    let count = requests_at(rt, alloc, call, Reach::Alone)?;
+    requests_at(rt, alloc, call, Reach::AllAfter)?;
+    some(count)
+}
