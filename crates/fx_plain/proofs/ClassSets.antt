@@ -1,7 +1,7 @@
 -- Lists of classes, and the sets that stand for them, as one fiber comes into another class.
-use Rattle.std.proofs.Common.{◌≡◌, ℕ, ◌<◌, List, length, map, replicate, refl, sym, ◌∙◌, ap, inl, inr, arith}
+use Rattle.std.proofs.Common.{◌≡◌, ◌≢◌, ℕ, ◌<◌, Bool, true, false, List, length, map, replicate, refl, sym, subst, ◌∙◌, ap, inl, inr, arith}
 use Rattle.std.proofs.Common.{get_or-set_same, get_or-set_other, length-set}
-use Rattle.std.specs.Prelude.{slice_set}
+use Rattle.std.specs.Prelude.{slice_set, if◌then◌else◌}
 use Rattle.std.proofs.Math.ListN.{get_or-map}
 use Rattle.std.proofs.lemmas.Bool.{cases_eq, cases_lt}
 use Rattle.std.proofs.lemmas.List.{get_or_past, get_or-replicate, length-map, length-replicate}
@@ -9,7 +9,7 @@ use Rattle.fx_plain.specs.declared.class.Class.{Class}
 use Rattle.fx_plain.specs.declared.class.Class.TheVariants.{Unstarted, Over}
 use Rattle.fx_term.specs.Maps.{with_at}
 use Rattle.fx_plain.specs.Classes.{class_requested, class_at_end, requested_classes, ended_classes}
-use Rattle.fx_plain.specs.ClassSets.{ClassesView, class_at, with_request, with_end}
+use Rattle.fx_plain.specs.ClassSets.{ClassesView, SetsView, Kind, class_at, with_request, with_end, passes, members, IsKept, AreWith, AreSets}
 use Rattle.fx_term.proofs.MapLaws.{at_that, at_other}
 
 -- before any start each is unstarted
@@ -52,6 +52,50 @@ module _ (classes : List Class) (f : ℕ) where
           get_or-set_other (map (class_at_end f) classes) f g Over Unstarted apart ∙ get_or-map (class_at_end f) classes g Unstarted
           ∙ sym (at_other f Over (λ h. class_at_end f (class_at classes h)) g apart)
     ]
+
+-- of who leaves one class for another
+left_and_come : (left come : Bool) → (if come then true else (if left then false else left)) ≡ come
+left_and_come left true = refl
+left_and_come true false = refl
+left_and_come false false = refl
+
+either_way : (b x : Bool) → (if b then x else x) ≡ x
+either_way true x = refl
+either_way false x = refl
+
+-- the sets as fiber f leaves class j for class k
+module _ (classes : List Class) (f : ℕ) (lt : f < length classes) (j k : Class) (read : j ≡ class_at classes f) (old left come : SetsView)
+    (leaves : AreWith false f j old left) (comes : AreWith true f k left come) (are : AreSets classes old) (kind : Kind)
+    (kept : IsKept (length come.for_room) kind) (g : ℕ) where
+  kept_left : IsKept (length left.for_room) kind
+  kept_left = subst (λ (n : ℕ). IsKept n kind) comes.count kept
+
+  kept_old : IsKept (length old.for_room) kind
+  kept_old = subst (λ (n : ℕ). IsKept n kind) leaves.count kept_left
+
+  left_that : g ≡ f → members left kind g ≡ (if passes kind j then false else passes kind j)
+  left_that same =
+      leaves.are kind kept_old g ∙ ap (λ (b : Bool). if passes kind j then b else members old kind g) (at_that f false (members old kind) g same)
+      ∙ ap (λ (b : Bool). if passes kind j then false else b)
+      (are kind kept_old g ∙ ap (λ (h : ℕ). passes kind (class_at classes h)) same ∙ ap (passes kind) (sym read))
+
+  came_that : g ≡ f → members come kind g ≡ passes kind k
+  came_that same =
+      comes.are kind kept_left g ∙ ap (λ (b : Bool). if passes kind k then b else members left kind g) (at_that f true (members left kind) g same)
+      ∙ ap (λ (b : Bool). if passes kind k then true else b) (left_that same) ∙ left_and_come (passes kind j) (passes kind k)
+
+  came_other : g ≢ f → members come kind g ≡ passes kind (class_at classes g)
+  came_other apart =
+      comes.are kind kept_left g ∙ ap (λ (b : Bool). if passes kind k then b else members left kind g) (at_other f true (members left kind) g apart)
+      ∙ either_way (passes kind k) (members left kind g) ∙ leaves.are kind kept_old g
+      ∙ ap (λ (b : Bool). if passes kind j then b else members old kind g) (at_other f false (members old kind) g apart)
+      ∙ either_way (passes kind j) (members old kind g) ∙ are kind kept_old g
+
+  pub come_sets : members come kind g ≡ passes kind (class_at (slice_set classes f k) g)
+  come_sets = elim (cases_eq g f) [
+    | inl same ↦ came_that same ∙ ap (passes kind) (sym (class_at_set classes f k lt g ∙ at_that f k (class_at classes) g same))
+    | inr apart ↦ came_other apart ∙ ap (passes kind) (sym (class_at_set classes f k lt g ∙ at_other f k (class_at classes) g apart))
+  ]
 
 abbrev pub as_view : List Class → ℕ → ClassesView
 as_view classes queues = record { of = classes; queues = queues }

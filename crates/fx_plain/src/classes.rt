@@ -10,30 +10,34 @@ use crate::class::Class;
 use crate::class_sets::{ClassSets, lesser};
 use crate::number_set::NUMBERS;
 use crate::plain_queue::PlainQueue;
+use crate::waiter_spans::WaiterSpans;
 use fx_fiber::Source;
 use fx_term::Memory;
 use std::alloc::Global;
 use std::marker::Model;
 
-/// The class of each fiber, by its number. The sets beside them spare a search for who is ready, and for
-/// those whom an end wakes. A number of no fiber changes nothing, but that an end wakes who waits for it.
-/// No call but the first takes memory.
+/// The class of each fiber, by its number. The sets beside them spare a search for who is ready, and with
+/// the spans one for those whom an end wakes. A number of no fiber changes nothing, but that an end wakes
+/// who waits for it. No call but the first takes memory.
 #[derive(Drop)]
 pub(crate) struct Classes {
     of: Vec<Class>,
     sets: ClassSets,
+    spans: WaiterSpans,
 }
 
 impl Model for Classes {
     ghost use Rattle.std.specs.Prelude.{◌≤◌, length};
     ghost use Rattle.fx_plain.specs.declared.number_set.TheConstants.{NUMBERS};
     ghost use Rattle.fx_plain.specs.ClassSets.{ClassesView, AreSets};
+    ghost use Rattle.fx_plain.specs.WaiterSpans.{AreSpanned};
 
     ghost Value = { ClassesView };
 
     ghost view = { λ c. record { of = c.of.items; queues = length c.sets.for_room } };
 
-    ghost invariant = { λ c. (length c.of.items ≤ NUMBERS) × AreSets c.of.items c.sets };
+    ghost invariant = { λ c. (length c.of.items ≤ NUMBERS) × AreSets c.of.items c.sets
+        × AreSpanned c.of.items c.spans };
 }
 
 impl Classes {
@@ -46,6 +50,7 @@ impl Classes {
         Ok(Classes {
             of: vec![in alloc; Class::Unstarted; total as usize]?,
             sets: ClassSets::new(alloc, queues)?,
+            spans: WaiterSpans::new(alloc, total)?,
         })
     }
 
@@ -93,6 +98,7 @@ impl Classes {
         self.sets.remove(fiber, self.of[fiber as usize]);
         self.of[fiber as usize] = class;
         self.sets.insert(fiber, class);
+        self.spans.insert(fiber, class);
     }
 
     /// The fiber may step.
@@ -133,13 +139,18 @@ impl Classes {
         }
     }
 
-    /// Those that wait for the end of the fiber may step. It is one pass over those that wait for
-    /// outcomes.
+    /// Those that wait for the end of the fiber may step. It looks only at those that wait for outcomes
+    /// from the least to the greatest number that ever waited for this end: with one, at that one alone.
+    /// For a number of no fiber it looks at all that wait for outcomes.
     fn wake(&mut self, fiber: u32)
         ensures { self.new ≡ record self.old { of = map (class_at_end fiber) self.old.of } }
     {
-        let mut from = 0;
+        let span = self.spans.span(fiber);
+        let mut from = span.first;
         while let Some(waiter) = self.sets.least_for_outcome(from) {
+            if waiter >= span.past {
+                break;
+            }
             if self.of[waiter as usize].waits_for_end(fiber) {
                 self.become_able(waiter);
             }

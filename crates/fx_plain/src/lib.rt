@@ -66,6 +66,7 @@ mod plain_queue;
 mod plain_world;
 mod put_counts;
 mod text_replay;
+mod waiter_spans;
 
 pub use chosen_run::{Halt, replay, replay_to_halt};
 pub use fx_report::{

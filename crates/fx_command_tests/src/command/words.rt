@@ -22,15 +22,27 @@ macro_rules! broken {
     };
 }
 
-/// Standard input and a script that are refused, a script that is not, one that breaks off, and two
-/// schedules that are refused.
-static TEXTS: [(&str, Text<'static>); 6] = [
+/// Standard input and a script that are refused, a script that is not, one that breaks off, two schedules
+/// that are refused, scripts with 2,001 and 4,096 fiber numbers, and one that would have 4,097.
+static TEXTS: [(&str, Text<'static>); 9] = [
     ("-", text!(b"(main (pure x))")),
     ("refused", text!(b"(main (foo))")),
     ("script", text!(b"(main (mask p (pure 5)))")),
     ("broken", broken!(b"(main (pure 5))")),
     ("word", text!(b"1 x")),
     ("large", text!(b"0\n c4294967296 2")),
+    (
+        "many",
+        text!(b"(main (for i 2000 (start h (pure i) (pure 0))))"),
+    ),
+    (
+        "most",
+        text!(b"(main (for i 4095 (start h (pure i) (pure 0))))"),
+    ),
+    (
+        "more",
+        text!(b"(main (for i 4096 (start h (pure i) (pure 0))))"),
+    ),
 ];
 
 /// Sees that each run answers so.
@@ -183,40 +195,21 @@ fn check_counts_fibers_and_queues(rt: HostRuntime) -> Result<(), Fail> {
     assert_answers(&rt, &[("check script", ENDED, "fibers 1 queues 0\n", "")])
 }
 
-/// Scripts with 2,001 and 4,096 fiber numbers, and one that would have 4,097.
-static STARTS: [(&str, Text<'static>); 3] = [
+static FIBER_NUMBERS: [Row; 3] = [
+    ("check many", ENDED, "fibers 2001 queues 0\n", ""),
+    ("check most", ENDED, "fibers 4096 queues 0\n", ""),
     (
-        "many",
-        text!(b"(main (for i 2000 (start h (pure i) (pure 0))))"),
+        "check more",
+        REFUSED,
+        "refused 12 at 6\n",
+        "more:1:7: the form that begins here can start more than 4095 fibers\n\
+            (main (for i 4096 (start h (pure i) (pure 0))))\n      ^\n",
     ),
-    (
-        "most",
-        text!(b"(main (for i 4095 (start h (pure i) (pure 0))))"),
-    ),
-    (
-        "more",
-        text!(b"(main (for i 4096 (start h (pure i) (pure 0))))"),
-    ),
-];
-
-/// The name of such a script, the status, and what a check of it prints.
-static CHECKED: [(&str, u8, &str); 3] = [
-    ("check many", ENDED, "fibers 2001 queues 0\n"),
-    ("check most", ENDED, "fibers 4096 queues 0\n"),
-    ("check more", REFUSED, "refused 12 at 6\n"),
 ];
 
 #[test]
 fn a_script_may_use_4096_fiber_numbers(rt: HostRuntime) -> Result<(), Fail> {
-    for (words, status, printed) in &CHECKED {
-        let ran = run_of(&rt, words, &STARTS)?;
-        assert_eq!(rt;
-            (ran.status, ran.out.as_slice()),
-            (*status, printed.as_bytes()),
-            "{words}"
-        );
-    }
-    Ok(())
+    assert_answers(&rt, &FIBER_NUMBERS)
 }
 
 #[test]
