@@ -4,6 +4,8 @@ use fx_command::command::{FAULT, command};
 use fx_command::files::{FetchFault, Files};
 use fx_refusing::{Answer, Refuser, room, whole_where};
 use std::alloc::{AllocError, AllocGlobal, Global};
+use std::io;
+use std::io::Read;
 use std::random::RandomSource;
 use std::sync::Wait;
 use std::thread::Threads;
@@ -76,6 +78,18 @@ pub static FAULTS: [(&str, Said); 5] = [
     ),
 ];
 
+/// A text in memory. Contracts know none of its bytes.
+#[derive(Drop)]
+struct Text {
+    left: &'static [u8],
+}
+
+impl Read for Text {
+    fn read(&mut self, buf: &mut [u8]) -> io::Result<usize> {
+        self.left.read(buf)
+    }
+}
+
 /// The texts of these names.
 #[derive(Clone, Copy, Drop)]
 struct Texts {
@@ -85,14 +99,16 @@ struct Texts {
 impl Files for Texts {
     ghost use Rattle.std.specs.Prelude.{None};
 
-    type Input = &'static [u8];
+    type Input = Text;
 
     ghost holds = { λ texts name. None };
 
-    fn fetch(&mut self, name: &str) -> Result<&'static [u8], FetchFault> {
+    fn fetch(&mut self, name: &str) -> Result<Text, FetchFault> {
         match name {
-            "F" => Ok(self.script.as_bytes()),
-            "S" => Ok(b"0 0 1"),
+            "F" => Ok(Text {
+                left: self.script.as_bytes(),
+            }),
+            "S" => Ok(Text { left: b"0 0 1" }),
             _ => Err(FetchFault::Unreadable),
         }
     }
