@@ -120,15 +120,16 @@ fn words<R: Print + Wait + Threads + Sync + RandomSource + AllocGlobal>(
     tally: &mut Tally<R>,
     worked: &'static Worked,
 ) {
-    for (words, out) in [
-        ("check F", worked.counts),
-        ("replay F S", worked.report),
-        ("trace F", worked.traces),
-        ("run F 1", worked.report),
-        ("run F 4", worked.report),
+    for (words, workers, out) in [
+        ("check F", 1, worked.counts),
+        ("replay F S", 1, worked.report),
+        ("trace F", 1, worked.traces),
+        ("run F 1", 1, worked.report),
+        ("run F 4", 4, worked.report),
     ] {
         let said = Said {
             words,
+            workers,
             script: worked.text,
             status: 0,
             out,

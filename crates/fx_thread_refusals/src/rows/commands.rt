@@ -10,12 +10,13 @@ use std::random::RandomSource;
 use std::sync::Wait;
 use std::thread::Threads;
 
-/// The words after the program's name, the script that they name F, and what is answered: the status, and what is
-/// printed on standard output and on standard error. The schedule that they name S picks fiber 0, fiber 0 and fiber
-/// 1.
+/// The words after the program's name, by how many workers fibers run, the script that they name F, and what is
+/// answered: the status, and what is printed on standard output and on standard error. The schedule that they name S
+/// picks fiber 0, fiber 0 and fiber 1.
 #[derive(Clone, Copy)]
 pub struct Said {
     pub words: &'static str,
+    pub workers: u32,
     pub script: &'static str,
     pub status: u8,
     pub out: &'static str,
@@ -28,6 +29,7 @@ pub static FAULTS: [(&str, Said); 5] = [
         "blocked",
         Said {
             words: "replay F",
+            workers: 1,
             script: "(queue q 1) (main (start h (take q) (start g (bracket p (pure 7) \
             (join h (x (pure x)) (e (pure e)) (pure 1)) (offer q p)) (pure 3))))",
             status: 1,
@@ -39,6 +41,7 @@ pub static FAULTS: [(&str, Said); 5] = [
         "blocked",
         Said {
             words: "run F 4",
+            workers: 4,
             script: "(queue q 1) (main (start h (take q) (start g (bracket p (pure 7) \
             (join h (x (pure x)) (e (pure e)) (pure 1)) (offer q p)) (pure 3))))",
             status: 1,
@@ -50,6 +53,7 @@ pub static FAULTS: [(&str, Said); 5] = [
         "no form",
         Said {
             words: "check F",
+            workers: 1,
             script: "(main (foo))",
             status: 3,
             out: "refused 5 at 7\n",
@@ -60,6 +64,7 @@ pub static FAULTS: [(&str, Said); 5] = [
         "no text",
         Said {
             words: "check G",
+            workers: 1,
             script: "",
             status: 4,
             out: "",
@@ -70,6 +75,7 @@ pub static FAULTS: [(&str, Said); 5] = [
         "no worker",
         Said {
             words: "run F 0",
+            workers: 1,
             script: "(main (pure 5))",
             status: 5,
             out: "",

@@ -17,6 +17,37 @@ pub enum Whole {
     Command(Said),
 }
 
+impl Whole {
+    /// Whether it runs fibers by several workers, each on a thread of its own.
+    fn has_threads(&self) -> bool {
+        let workers = match self {
+            Whole::Run(_, workers) => *workers,
+            Whole::Command(said) => said.workers,
+        };
+        workers > 1
+    }
+}
+
+/// What came of a request that was to be refused.
+enum Met {
+    /// It was not made.
+    Nothing,
+    /// The call said that memory ran out.
+    Told,
+    /// It was for a thread, and the others did its work.
+    Spared,
+}
+
+/// What came of it by how the trial of the call ended.
+fn met(call: &Whole, ended: Result<bool, Wrong>) -> Result<Met, Wrong> {
+    match ended {
+        Ok(false) => Ok(Met::Nothing),
+        Ok(true) => Ok(Met::Told),
+        Err(Wrong::Hidden) if call.has_threads() => Ok(Met::Spared),
+        Err(wrong) => Err(wrong),
+    }
+}
+
 /// What the call answers.
 fn made<R: Wait + Threads + Sync + RandomSource + AllocGlobal>(
     rt: &R,
@@ -51,18 +82,23 @@ fn told<R: Wait + Threads + Sync + RandomSource + AllocGlobal>(
     }
 }
 
-/// Refuses the first request, the second and so on, until none is met.
+/// Refuses the first request, the second and so on, until none is met. Some must be told: where each was
+/// spared, want of memory is hidden.
 fn requests_at<R: Wait + Threads + Sync + RandomSource + AllocGlobal>(
     rt: &R,
     alloc: Global,
     call: &Whole,
     reach: Reach,
 ) -> Result<u32, Wrong> {
+    let mut has_told = false;
     for count in 0..MOST_REQUESTS {
         let trial = Trial::new(alloc, reach, count + 1);
         trial.begin();
-        if !trial.end(told(rt, alloc, call, &trial))? {
-            return Ok(count);
+        match met(call, trial.end(told(rt, alloc, call, &trial)))? {
+            Met::Nothing if has_told => return Ok(count),
+            Met::Nothing => return Err(Wrong::Hidden),
+            Met::Told => has_told = true,
+            Met::Spared => {}
         }
     }
     Err(Wrong::NoEnd)
