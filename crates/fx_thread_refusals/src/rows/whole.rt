@@ -39,7 +39,7 @@ enum Met {
 }
 
 /// What came of it by how the trial of the call ended.
-fn met(call: &Whole, ended: Result<bool, Wrong>) -> Result<Met, Wrong> {
+fn came_of(call: &Whole, ended: Result<bool, Wrong>) -> Result<Met, Wrong> {
     match ended {
         Ok(false) => Ok(Met::Nothing),
         Ok(true) => Ok(Met::Told),
@@ -94,7 +94,7 @@ fn requests_at<R: Wait + Threads + Sync + RandomSource + AllocGlobal>(
     for count in 0..MOST_REQUESTS {
         let trial = Trial::new(alloc, reach, count + 1);
         trial.begin();
-        match met(call, trial.end(told(rt, alloc, call, &trial)))? {
+        match came_of(call, trial.end(told(rt, alloc, call, &trial)))? {
             Met::Nothing if has_told => return Ok(count),
             Met::Nothing => return Err(Wrong::Hidden),
             Met::Told => has_told = true,
