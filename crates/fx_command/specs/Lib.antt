@@ -7,4 +7,4 @@ pub mod Said
 pub mod Fetched
 pub mod Performed
 pub mod CommandAnswer
-pub mod Place
+pub mod Position

@@ -2,7 +2,7 @@
 ghost use Rattle.std.specs.Prelude.{◌≤◌, length};
 
 use crate::excerpt::{format_excerpt, push_printable};
-use crate::place::Place;
+use crate::position::Position;
 use std::alloc::{AllocError, Global};
 
 /// The most bytes of a token that are shown.
@@ -46,9 +46,9 @@ pub(crate) fn explain(
     wrong: &str,
 ) -> Result<String, AllocError> {
     let at = (at as usize).min(text.len());
-    let place = Place::after(&text[..at]);
-    let line = place.line;
-    let column = place.column;
+    let position = Position::after(&text[..at]);
+    let line = position.line;
+    let column = position.column;
     let excerpt = format_excerpt(alloc, text, at)?;
     format!(in alloc; "{name}:{line}:{column}: {wrong}\n{excerpt}")
 }

@@ -25,7 +25,7 @@ mod explain;
 pub mod files;
 mod open_groups;
 mod perform;
-mod place;
+mod position;
 mod schedule_words;
 mod script_words;
 mod texts;

@@ -138,5 +138,5 @@ closed_by_seal [] h = absurd h
 closed_by_seal (c ∷ cs) h = refl
 
 -- no poll opens a place inside a clean-up
-pub clean_up_is_closed : (fs : List Frame) (cs : List Closing) (left : Unwound) → AreClosedBy (closed_outside (Some left)) fs cs → is_none_closed cs ≡ false
-clean_up_is_closed fs cs left h = closed_by_seal cs (seal_within fs cs h)
+pub cleanup_is_closed : (fs : List Frame) (cs : List Closing) (left : Unwound) → AreClosedBy (closed_outside (Some left)) fs cs → is_none_closed cs ≡ false
+cleanup_is_closed fs cs left h = closed_by_seal cs (seal_within fs cs h)

@@ -57,7 +57,7 @@ taken_fit step room word f low high = let n = step_need step in lt-ltb f (2 ^ 32
 pub kept_step : (nodes : List Node) (total : ℕ) (facts facts' : Facts) (agrees agrees' : List Deed → Type 0) (trace trace' : List Event) (s s' : Machine)
     (l : Label) (es : List Deed) → AreDeedsOf nodes l es → IsKept nodes total facts agrees trace s → Steps nodes s l s' → IsSoundMachine nodes s'
     → trace' ≡ trace ++ events (l ∷ []) → ((ds : List Deed) → agrees ds → agrees' (ds ++ es)) → facts'.beginning ≡ facts.beginning
-    → facts'.has_finished ≡ shows_end l → facts'.rest ≡ range_of (counts_of s') → facts'.puts ≡ puts_with l facts.puts
+    → facts'.has_finished ≡ shows_end l → facts'.range ≡ range_of (counts_of s') → facts'.puts ≡ puts_with l facts.puts
     → IsKept nodes total facts' agrees' trace' s'
 kept_step nodes total facts facts' agrees agrees' trace trace' s s' l es are k step sound t go same_begin f numbers counted = record {
   sound = sound;
@@ -140,7 +140,7 @@ kept_at_first nodes total facts agrees trace s few over room word within a fresh
   word = let end : s.end ≡ facts.beginning.end = ap (λ (c : Counts). c.end) first.counts in rw end word;
   within = let end : s.end ≡ facts.beginning.end = ap (λ (c : Counts). c.end) first.counts in rw end within;
   ended = ap (λ (f : Facts). f.has_finished) fresh ∙ rw first.progress refl;
-  numbers = ap (λ (f : Facts). f.rest) fresh ∙ sym (ap range_of first.counts);
+  numbers = ap (λ (f : Facts). f.range) fresh ∙ sym (ap range_of first.counts);
 }
 
 -- what is made by a machine starts no fiber
@@ -161,7 +161,7 @@ module _ {P S : Type 0} (nodes : List Node) (total : ℕ) (calls : PortCalls P S
       kept_step nodes total (facts p) (facts p') (agrees p) (agrees p') trace trace' s s' (label_of m) (deeds_made m) (are_deeds_made nodes m on)
       kept step a.sound t a.agreed (ap (λ (f : Facts). f.beginning) a.facts_are)
       (ap (λ (f : Facts). f.has_finished) a.facts_are ∙ kept.ended ∙ going ∙ sym on)
-      (ap (λ (f : Facts). f.rest) a.facts_are ∙ kept.numbers ∙ sym (made_keeps_range m step)) (ap (λ (f : Facts). f.puts) a.facts_are)
+      (ap (λ (f : Facts). f.range) a.facts_are ∙ kept.numbers ∙ sym (made_keeps_range m step)) (ap (λ (f : Facts). f.puts) a.facts_are)
 
   -- so does the last one
   pub kept_ended : (o : Outcome) (p'' : P) → Advances calls agrees facts nodes s p sh (made.Shows (event.Ended o)) s' p' sh'
@@ -171,7 +171,7 @@ module _ {P S : Type 0} (nodes : List Node) (total : ℕ) (calls : PortCalls P S
       kept_step nodes total (facts p) (facts p'') (agrees p) (agrees p'') trace trace' s s' (Shows (event.Ended o)) (Ended o ∷ []) refl
       kept a.rule a.sound t (λ ds h. tells ds (rw a.asks.1.0 h))
       (ap (λ (f : Facts). f.beginning) told ∙ ap (λ (f : Facts). f.beginning) a.facts_are) (ap (λ (f : Facts). f.has_finished) told)
-      (ap (λ (f : Facts). f.rest) told ∙ ap (λ (f : Facts). f.rest) a.facts_are ∙ kept.numbers ∙ sym (made_keeps_range (made.Shows (event.Ended o)) a.rule))
+      (ap (λ (f : Facts). f.range) told ∙ ap (λ (f : Facts). f.range) a.facts_are ∙ kept.numbers ∙ sym (made_keeps_range (made.Shows (event.Ended o)) a.rule))
       (ap (λ (f : Facts). f.puts) told ∙ ap (λ (f : Facts). f.puts) a.facts_are)
 
 -- the trace after one more event

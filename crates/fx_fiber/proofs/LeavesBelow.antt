@@ -27,7 +27,7 @@ use Rattle.fx_fiber.specs.Fiber.{is_fiber_number}
 use Rattle.fx_model.specs.Scopes.{IsClosedTerm, IsProgressScopedOver}
 use Rattle.fx_fiber.specs.LeafBelow.{IsDownTo, is_open_inside, IsLeafBelow, term_at}
 use Rattle.fx_fiber.specs.declared.machine.leaf_below.LeafBelow.{LeafBelow}
-use Rattle.fx_fiber.proofs.Contexts.{leaf_within, closed_within, open_within, must_within, clean_up_is_closed}
+use Rattle.fx_fiber.proofs.Contexts.{leaf_within, closed_within, open_within, must_within, cleanup_is_closed}
 use Rattle.fx_fiber.proofs.Rules.{IsLeafTerm, result_term}
 use Rattle.fx_fiber.proofs.Fibers.{join_within, join_fits, left_within, right_within, left_fits, right_fits}
 use Rattle.fx_fiber.proofs.Leaves.{leaf_here}
@@ -84,7 +84,7 @@ module _ (nodes : List Node) (ns : List ℕ) (fs : List Frame) (cs : List Closin
         leaf.is_leaf,
       )
       (same_with_canceled (is_none_closed cs) c.known (is_canceled_form t) (o.is_requested f) (leaf_can_step o t) (canceled_goes o t))
-  running_can_step (Some left) closed = rw (leaf_within nodes ns fs cs t, leaf.is_leaf, clean_up_is_closed fs cs left closed) refl
+  running_can_step (Some left) closed = rw (leaf_within nodes ns fs cs t, leaf.is_leaf, cleanup_is_closed fs cs left closed) refl
 
 -- by the leaf below it
 pub leaf_below_can_step : (nodes : List Node) (s : Machine) (leaf : LeafBelow) (o : Outside) (f : ℕ) → IsLeafBelow nodes s leaf

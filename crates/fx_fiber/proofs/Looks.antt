@@ -27,7 +27,7 @@ use Rattle.fx_fiber.specs.PortFacts.{Facts}
 use Rattle.fx_fiber.specs.declared.stepped.Stepped.{Stepped}
 use Rattle.fx_fiber.specs.MakesStep.{LooksInVain, Calls}
 use Rattle.fx_model.specs.Step.{looks_first}
-use Rattle.fx_fiber.proofs.Contexts.{open_within, must_within, clean_up_is_closed}
+use Rattle.fx_fiber.proofs.Contexts.{open_within, must_within, cleanup_is_closed}
 use Rattle.fx_fiber.proofs.Rules.{IsLeafTerm}
 use Rattle.fx_fiber.proofs.Nodes.{leaf_of_focus}
 use Rattle.fx_model.proofs.Ends.{shows_end}
@@ -43,7 +43,7 @@ module _ (nodes : List Node) (ns : List ℕ) (fs : List Frame) (m : MasksView) (
       let p = open_within nodes ns fs m.regions t closed leaf.stays in
       let q = must_within nodes ns fs m.regions t closed leaf.stays known leaf.is_leaf in
       cc
-  first_inside (Some left) t leaf closed = shut_false (is_none_closed m.regions) _ (clean_up_is_closed fs m.regions left closed)
+  first_inside (Some left) t leaf closed = shut_false (is_none_closed m.regions) _ (cleanup_is_closed fs m.regions left closed)
 
   -- a look is due where the place is open and cancellation is not the one rule
   first_at : (left : Option Unwound) (focus : Focus) → IsSound nodes ns fs m left focus → IsGoing focus → IsEntered nodes focus
@@ -56,7 +56,7 @@ module _ (nodes : List Node) (ns : List ℕ) (fs : List Frame) (m : MasksView) (
       (leaf_of_focus nodes ns m.regions (Turn id turn) sound.tree entered) sound.closed
   first_at left (Await f) sound going entered = absurd entered
   first_at None Unwinding sound going entered = absurd sound.between
-  first_at (Some left) Unwinding sound going entered = shut_false (is_none_closed m.regions) _ (clean_up_is_closed fs m.regions left sound.closed)
+  first_at (Some left) Unwinding sound going entered = shut_false (is_none_closed m.regions) _ (cleanup_is_closed fs m.regions left sound.closed)
   first_at left (Ended o) sound going entered = absurd going
 
 -- the same of a fiber before it entered contexts

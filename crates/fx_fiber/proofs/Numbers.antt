@@ -127,28 +127,28 @@ module _ (nodes : List Node) (ns ms : List ℕ) where
   frame_same e cs frame.Masked t s p q h = refl
   frame_same e cs (frame.Opened r b) t s p q h = refl
 
-  clean_up_same : (e : ℕ) (c : Cleanup) → IsCleanupIn nodes e c → e ≤ length ns → e ≤ length ms → AgreeBelow e ns ms
+  cleanup_same : (e : ℕ) (c : Cleanup) → IsCleanupIn nodes e c → e ≤ length ns → e ≤ length ms → AgreeBelow e ns ms
       → cleanup_term nodes ns c ≡ cleanup_term nodes ms c
-  clean_up_same e (cleanup.Finalizer f) s p q h = ap Finalizer (filled_same e f s p q h)
-  clean_up_same e (cleanup.Release k r) s p q h = ap (λ (w : Term). Release k w) (filled_same e r s p q h)
+  cleanup_same e (cleanup.Finalizer f) s p q h = ap Finalizer (filled_same e f s p q h)
+  cleanup_same e (cleanup.Release k r) s p q h = ap (λ (w : Term). Release k w) (filled_same e r s p q h)
 
-  clean_ups_same : (d : ℕ) (left : List Cleanup) → AreCleanupsIn nodes d left → d ≤ length ns → d ≤ length ms → AgreeBelow d ns ms
+  cleanups_same : (d : ℕ) (left : List Cleanup) → AreCleanupsIn nodes d left → d ≤ length ns → d ≤ length ms → AgreeBelow d ns ms
       → cleanup_terms_of nodes ns left ≡ cleanup_terms_of nodes ms left
-  clean_ups_same d [] s p q h = refl
-  clean_ups_same d (c ∷ left) s p q h =
+  cleanups_same d [] s p q h = refl
+  cleanups_same d (c ∷ left) s p q h =
       let e_le = s.1 in
       let u : s.0 ≤ length ns = omega arith in
       let v : s.0 ≤ length ms = omega arith in
       let k = agree_down d s.0 ns ms h e_le in
-      let first = clean_up_same s.0 c s.2 u v k in
-      let rest = clean_ups_same s.0 left s.3 u v k in
+      let first = cleanup_same s.0 c s.2 u v k in
+      let rest = cleanups_same s.0 left s.3 u v k in
       cc
 
   pub running_same : (d : ℕ) (fs : List Frame) (cs : List Closing) (left : Option Unwound) (t : Term) → AreFramesIn nodes d fs (left_of left)
       → d ≤ length ns → d ≤ length ms → AgreeBelow d ns ms
       → running nodes ns left (within nodes ns fs cs t) ≡ running nodes ms left (within nodes ms fs cs t)
   running_same d [] cs None t s p q h = refl
-  running_same d [] cs (Some c) t s p q h = ap (λ (xs : List CleanupTerm). CleansUp c.resource t xs) (clean_ups_same d c.left s p q h)
+  running_same d [] cs (Some c) t s p q h = ap (λ (xs : List CleanupTerm). CleansUp c.resource t xs) (cleanups_same d c.left s p q h)
   running_same d (f ∷ fs) cs left t s p q h =
       let e : ℕ = s.0 in
       let e_le : e ≤ d = s.1 in

@@ -14,7 +14,7 @@ use Rattle.fx_model.specs.Row.{Counts, Label, Shows, Row, known_canceled}
 use Rattle.fx_model.specs.Step.{Runs, Unwinds, leaf_at, must_cancel_at, Step, cancelled, seen, row, cleans}
 use Rattle.fx_fiber.specs.Machine.{within, cleanup_terms_of, running}
 use Rattle.fx_fiber.specs.Sound.{closed_outside, AreClosedBy}
-use Rattle.fx_fiber.proofs.Contexts.{leaf_within, clean_within, open_within, must_within, clean_up_is_closed}
+use Rattle.fx_fiber.proofs.Contexts.{leaf_within, clean_within, open_within, must_within, cleanup_is_closed}
 
 -- what holds of the term of a leaf: it is its own leaf, and closes and cleans nothing
 pub record IsLeafTerm (cs : List Closing) (t : Term) : Type 0 where
@@ -31,7 +31,7 @@ module _ (nodes : List Node) (ns : List ℕ) (fs : List Frame) (cs : List Closin
   row_step None c d l t' closed free go =
       let opened = open_within nodes ns fs cs t closed leaf_term.stays in
       row (must_within nodes ns fs cs t closed leaf_term.stays c.known leaf_term.is_leaf ∙ free) (go (not (is_open (within nodes ns fs cs t))) (ap not opened))
-  row_step (Some left) c d l t' closed free go = cleans (go true (sym (ap not (clean_up_is_closed fs cs left closed))))
+  row_step (Some left) c d l t' closed free go = cleans (go true (sym (ap not (cleanup_is_closed fs cs left closed))))
 
   -- cancellation gives the whole term up for the clean-ups of the contexts
   pub cancelled_step : (left : Option Unwound) (c : Counts) → AreClosedBy (closed_outside left) fs cs
@@ -41,7 +41,7 @@ module _ (nodes : List Node) (ns : List ℕ) (fs : List Frame) (cs : List Closin
       let step : Step c (Runs (within nodes ns fs cs t)) (Shows event.Cancelled) c (Unwinds (cleanup_terms (within nodes ns fs cs t))) = cancelled
       (must_within nodes ns fs cs t closed leaf_term.stays c.known leaf_term.is_leaf ∙ due) in
       rw (clean_within nodes ns fs cs t, leaf_term.nothing) at step
-  cancelled_step (Some left) c closed due = absurd (by_shut (is_none_closed cs) (c.known || is_canceled_form t) (clean_up_is_closed fs cs left closed) due)
+  cancelled_step (Some left) c closed due = absurd (by_shut (is_none_closed cs) (c.known || is_canceled_form t) (cleanup_is_closed fs cs left closed) due)
     where
       by_shut : (a b : Bool) → a ≡ false → (a && b) ≡ true → ⊥
       by_shut a b e h = let no : (a && b) ≡ false = rw e refl in cc
@@ -52,7 +52,7 @@ module _ (nodes : List Node) (ns : List ℕ) (fs : List Frame) (cs : List Closin
       → Step c (running nodes ns left (within nodes ns fs cs t)) (Shows event.Seen) (known_canceled c) (running nodes ns left (within nodes ns fs cs t))
   seen_step None c closed shown free = seen (must_within nodes ns fs cs t closed leaf_term.stays c.known leaf_term.is_leaf ∙ free)
       (open_within nodes ns fs cs t closed leaf_term.stays ∙ shown)
-  seen_step (Some left) c closed shown free = absurd (let shut = clean_up_is_closed fs cs left closed in cc)
+  seen_step (Some left) c closed shown free = absurd (let shut = cleanup_is_closed fs cs left closed in cc)
 
   -- the leaf of what the fiber runs stands inside all contexts
   pub leaf_of_running : (left : Option Unwound) → leaf_at (running nodes ns left (within nodes ns fs cs t)) ≡ Some t

@@ -22,7 +22,7 @@ use Rattle.fx_fiber.specs.declared.machine.Machine.{Machine}
 use Rattle.fx_fiber.specs.Machine.{inner, within, cleanup_terms_of, running, progress_at}
 use Rattle.fx_fiber.specs.Sound.{closed_outside, AreCleanupsIn, AreFramesIn, AreClosedBy, IsNode, IsSound}
 use Rattle.fx_fiber.specs.Places.{IsEntered, IsGoing, ReturnsOut}
-use Rattle.fx_fiber.proofs.Contexts.{clean_up_is_closed}
+use Rattle.fx_fiber.proofs.Contexts.{cleanup_is_closed}
 use Rattle.fx_fiber.proofs.Numbers.{cleanups_in}
 use Rattle.fx_fiber.proofs.Rules.{cancelled_step, seen_step}
 use Rattle.fx_fiber.proofs.Nodes.{leaf_of_focus}
@@ -30,14 +30,14 @@ use Rattle.fx_fiber.proofs.Nodes.{leaf_of_focus}
 -- the next clean-up is taken
 module _ (nodes : List Node) (ns : List ℕ) (fs : List Frame) (m : MasksView) (c next : Unwound) (sound : IsSound nodes ns fs m (Some c) Unwinding) where
   module _ (taken : Cleanup) (is : c.left ≡ taken ∷ next.left) where
-    clean_ups_in : AreCleanupsIn nodes sound.bound (taken ∷ next.left)
-    clean_ups_in = rw (sound.between, is) at sound.frames_in
+    cleanups_are_in : AreCleanupsIn nodes sound.bound (taken ∷ next.left)
+    cleanups_are_in = rw (sound.between, is) at sound.frames_in
 
-    next_sound : (id : NodeId) → IsNode nodes clean_ups_in.0 id → IsSound nodes ns fs m (Some next) (Eval id)
+    next_sound : (id : NodeId) → IsNode nodes cleanups_are_in.0 id → IsSound nodes ns fs m (Some next) (Eval id)
     next_sound id here = record {
       tree = sound.tree;
-      bound = clean_ups_in.0;
-      fits = let p = clean_ups_in.1 in let q = sound.fits in omega arith;
+      bound = cleanups_are_in.0;
+      fits = let p = cleanups_are_in.1 in let q = sound.fits in omega arith;
       focus_in = here;
       frames_in = of_none fs sound.between;
       closed = sound.closed;
@@ -45,14 +45,14 @@ module _ (nodes : List Node) (ns : List ℕ) (fs : List Frame) (m : MasksView) (
       between = tt;
     }
       where
-        of_none : (no_frame : List Frame) → no_frame ≡ [] → AreFramesIn nodes clean_ups_in.0 no_frame next.left
-        of_none no_frame e = rw e clean_ups_in.3
+        of_none : (no_frame : List Frame) → no_frame ≡ [] → AreFramesIn nodes cleanups_are_in.0 no_frame next.left
+        of_none no_frame e = rw e cleanups_are_in.3
 
   pub finalizer_sound : (f : NodeId) → c.left ≡ cleanup.Finalizer f ∷ next.left → IsSound nodes ns fs m (Some next) (Eval f)
-  finalizer_sound f is = next_sound (cleanup.Finalizer f) is f (clean_ups_in (cleanup.Finalizer f) is).2
+  finalizer_sound f is = next_sound (cleanup.Finalizer f) is f (cleanups_are_in (cleanup.Finalizer f) is).2
 
   pub release_sound : (k : ℕ) (r : NodeId) → c.left ≡ cleanup.Release k r ∷ next.left → IsSound nodes ns fs m (Some next) (Eval r)
-  release_sound k r is = next_sound (cleanup.Release k r) is r (clean_ups_in (cleanup.Release k r) is).2
+  release_sound k r is = next_sound (cleanup.Release k r) is r (cleanups_are_in (cleanup.Release k r) is).2
 
   pub unwound_sound : (o : Outcome) → next.left ≡ [] → IsSound nodes ns fs m (Some next) (Ended o)
   unwound_sound o none = record {
@@ -81,7 +81,7 @@ module _ (nodes : List Node) (ns : List ℕ) (fs : List Frame) (m : MasksView) (
 pub not_cleaning : (fs : List Frame) (cs : List Closing) (left : Option Unwound) → AreClosedBy (closed_outside left) fs cs → is_none_closed cs ≡ true
     → left ≡ None
 not_cleaning fs cs None closed shown = refl
-not_cleaning fs cs (Some left) closed shown = absurd (let shut = clean_up_is_closed fs cs left closed in cc)
+not_cleaning fs cs (Some left) closed shown = absurd (let shut = cleanup_is_closed fs cs left closed in cc)
 
 none_closed : (cs : List Closing) → is_none_closed cs ≡ true → cs ≡ []
 none_closed [] h = refl
@@ -90,8 +90,8 @@ none_closed (c ∷ cs) h = absurd (let no : false ≡ true = h in cc)
 -- a fiber at a leaf or a result, where nothing closes the place
 module _ (nodes : List Node) (ns : List ℕ) (fs : List Frame) (m : MasksView) (left : Option Unwound) (focus : Focus)
     (sound : IsSound nodes ns fs m left focus) (going : IsGoing focus) (leaf : IsEntered nodes focus) (opened : is_none_closed m.regions ≡ true) where
-  no_clean_up : left ≡ None
-  no_clean_up = not_cleaning fs m.regions left sound.closed opened
+  no_cleanup : left ≡ None
+  no_cleanup = not_cleaning fs m.regions left sound.closed opened
 
   running_at : (q : Focus) → focus ≡ q
       → progress_at nodes ns fs m.regions left focus ≡ running nodes ns left (within nodes ns fs m.regions (inner nodes ns focus))
@@ -99,7 +99,7 @@ module _ (nodes : List Node) (ns : List ℕ) (fs : List Frame) (m : MasksView) (
   running_at (Return v) e = rw e refl
   running_at (Turn id turn) e = rw e refl
   running_at (Await f) e = absurd (rw e at leaf)
-  running_at Unwinding e = absurd (rw (e, no_clean_up) at sound.between)
+  running_at Unwinding e = absurd (rw (e, no_cleanup) at sound.between)
   running_at (Ended o) e = absurd (rw e at going)
 
   module _ (c : Counts) where
@@ -120,7 +120,7 @@ module _ (nodes : List Node) (ns : List ℕ) (fs : List Frame) (m : MasksView) (
     bound = sound.bound;
     fits = sound.fits;
     focus_in = tt;
-    frames_in = cleanups_in nodes sound.bound fs (rw no_clean_up at sound.frames_in);
+    frames_in = cleanups_in nodes sound.bound fs (rw no_cleanup at sound.frames_in);
     closed = rw (none_closed m.regions opened) refl;
     room = omega arith;
     between = refl;

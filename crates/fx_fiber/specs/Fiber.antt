@@ -91,4 +91,4 @@ pub record IsKept (nodes : List Node) (total : ℕ) (facts : Facts) (agrees : Li
   pub word : s.end < 2 ^ 32
   pub within : s.end ≤ total
   pub ended : facts.has_finished ≡ has_ended (progress_of nodes s)
-  pub numbers : facts.rest ≡ range_of (counts_of s)
+  pub numbers : facts.range ≡ range_of (counts_of s)

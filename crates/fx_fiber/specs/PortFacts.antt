@@ -10,13 +10,13 @@ use Rattle.fx_fiber.specs.Calls.{first_range}
 pub record Facts : Type 0 where
   pub number : ℕ
   pub beginning : Begin
-  pub rest : Range
+  pub range : Range
   pub has_finished : Bool
   pub puts : ℕ
 
 -- at first
 abbrev pub first_facts : ℕ → Begin → Facts
-first_facts id begin = record { number = id; beginning = begin; rest = first_range begin; has_finished = false; puts = 0 }
+first_facts id begin = record { number = id; beginning = begin; range = first_range begin; has_finished = false; puts = 0 }
 
 -- after a step with this label, before a start or an end is told
 abbrev pub facts_with : Label → Facts → Facts

@@ -35,7 +35,7 @@ use fx_term::{Begin, Memory, Offered, Outcome};
 /// | fact | what it is |
 /// |---|---|
 /// | `number`, `beginning` | the fiber's number, and what it began with; no call changes them |
-/// | `rest` | the numbers left for the fibers that it starts: at first the range of `beginning`; a start takes a child's number and range |
+/// | `range` | the numbers left for the fibers that it starts: at first the range of `beginning`; a start takes a child's number and range |
 /// | `has_finished` | false at first, and true from `finish` on |
 /// | `puts` | 0 at first, and one more with each `offer` that is done |
 ///
@@ -49,7 +49,7 @@ use fx_term::{Begin, Memory, Offered, Outcome};
 /// | `peek` | `FoundEnded`, where there is an outcome | nothing has changed where there is none |
 /// | `offer` | `Put`, or `FoundFull` | `puts` is one more where done; nothing has changed where full, or where memory ran out |
 /// | `take` | `Got`, or `FoundEmpty` | nothing has changed where there is no element |
-/// | `start` | `Started` | a new port for the child; `rest` begins after the child's range; nothing has changed where memory ran out |
+/// | `start` | `Started` | a new port for the child; `range` begins after the child's range; nothing has changed where memory ran out |
 /// | `finish` | `Ended` | `has_finished` |
 /// | `outside` | none | `agrees` holds of the deeds as before; nothing has changed where memory ran out |
 /// | `wait_on` | none | `agrees` holds of the deeds as before |
@@ -69,7 +69,7 @@ use fx_term::{Begin, Memory, Offered, Outcome};
 ///     ghost facts = { λ p. record {
 ///       number = p.id;
 ///       beginning = p.begin;
-///       rest = record { next = p.next; end = p.begin.end };
+///       range = record { next = p.next; end = p.begin.end };
 ///       has_finished = p.has_ended;
 ///       puts = 0;
 ///     } };
@@ -170,14 +170,14 @@ pub trait Port: Sized {
     /// The port of a child that begins so. The child has the first number that is left, and its range
     /// follows that; what comes after its range is left for other children.
     fn start(&mut self, shared: &mut Self::Shared, id: u32, begin: &Begin) -> Result<Self, Memory>
-        requires range { HasRange (facts self.old).rest id begin.now }
+        requires range { HasRange (facts self.old).range id begin.now }
         requires going { (facts self.old).has_finished ≡ false }
         ensures told { IfOk result (λ child.
             calls.starts self.old shared.old id begin.now child self.new shared.new) }
         ensures child_facts { IfOk result (λ child. facts child ≡ first_facts id begin.now) }
         ensures child_fresh { IfOk result (λ child. agrees child []) }
         ensures facts { IfOk result (λ child. facts self.new
-            ≡ record (facts self.old) { rest = range_after begin.now (facts self.old).rest }) }
+            ≡ record (facts self.old) { range = range_after begin.now (facts self.old).range }) }
         ensures deed { IfOk result (λ child. (deeds : List Deed)
             → agrees self.old deeds → agrees self.new (deeds ++ Started id begin.now ∷ [])) }
         ensures unchanged { OnErr result ((self.new ≡ self.old) × (shared.new ≡ shared.old)) };

@@ -45,7 +45,7 @@ impl<J: CodeBrand> Port for Alone<J> {
     ghost facts = { λ p. record {
       number = p.id;
       beginning = p.begin;
-      rest = record { next = p.next; end = p.begin.end };
+      range = record { next = p.next; end = p.begin.end };
       has_finished = p.has_ended;
       puts = 0;
     } };

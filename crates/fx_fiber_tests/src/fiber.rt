@@ -104,7 +104,7 @@ struct TestPort<J: CodeBrand> {
     alloc: Global,
     id: u32,
     begin: Begin,
-    rest: u32,
+    next: u32,
     saw: bool,
     told: Option<Outcome>,
     held: Option<u64>,
@@ -116,14 +116,14 @@ impl<J: CodeBrand> TestPort<J> {
     fn new(alloc: Global, id: u32, begin: Begin) -> TestPort<J>
         ensures id { result.id ≡ id }
         ensures begin { result.begin ≡ begin }
-        ensures rest { result.rest ≡ begin.next }
+        ensures next { result.next ≡ begin.next }
         ensures going { result.told ≡ None }
         ensures puts { result.puts ≡ 0 }
     {
         TestPort {
             alloc,
             id,
-            rest: begin.next,
+            next: begin.next,
             begin,
             saw: false,
             told: None,
@@ -144,7 +144,7 @@ impl<J: CodeBrand> Port for TestPort<J> {
     ghost facts = { λ p. record {
       number = p.id;
       beginning = p.begin;
-      rest = record { next = p.rest; end = p.begin.end };
+      range = record { next = p.next; end = p.begin.end };
       has_finished = is_some p.told;
       puts = p.puts;
     } };
@@ -159,7 +159,7 @@ impl<J: CodeBrand> Port for TestPort<J> {
       peeks = λ p s id answer p' s'. (answer ≡ None) × (p' ≡ p) × (s' ≡ s);
       offers = λ p s queue n answer p' s'. Unit {0};
       takes = λ p s queue answer p' s'. Unit {0};
-      starts = λ p s id begin child p' s'. (child.begin ≡ begin) × (p' ≡ record p { rest = begin.end }) × (s' ≡ s);
+      starts = λ p s id begin child p' s'. (child.begin ≡ begin) × (p' ≡ record p { next = begin.end }) × (s' ≡ s);
       finishes = λ p s outcome p' s'. (p' ≡ record p { told = Some outcome }) × (s' ≡ s);
       outsides = λ p s id p' s'. p' ≡ p;
       waits = λ p s source p' s'. (p' ≡ p) × (s' ≡ s);
@@ -202,7 +202,7 @@ impl<J: CodeBrand> Port for TestPort<J> {
 
     fn start(&mut self, _looks: &mut Looks, id: u32, begin: &Begin) -> Result<Self, Memory> {
         let child = TestPort::new(self.alloc, id, begin.copied(self.alloc)?);
-        self.rest = begin.end;
+        self.next = begin.end;
         Ok(child)
     }
 

@@ -71,7 +71,7 @@ static CLEANUPS: [Option<Cleanup>; 6] = [
 ];
 
 #[test]
-fn clean_ups_from_the_inside(rt: HostRuntime) -> Result<(), Fail> {
+fn cleanups_from_the_inside(rt: HostRuntime) -> Result<(), Fail> {
     let mut frames = Frames::new(rt.alloc());
     for &frame in &ENTERED {
         frames.push(frame)?;

@@ -7,9 +7,9 @@ use Rattle.fx_model.specs.Path.{Context, CleanupTerm, closed_along, closed_regio
 use Rattle.fx_model.specs.Row.{Counts}
 use Rattle.fx_model.specs.Step.{Runs, Unwinds}
 use Rattle.fx_model.proofs.Alike.{Alike}
-use Rattle.fx_model.proofs.AlikePaths.{leaf_alike, AreCleanupTerms, clean_ups_alike, closed_alike}
+use Rattle.fx_model.proofs.AlikePaths.{leaf_alike, AreCleanupTerms, cleanups_alike, closed_alike}
 use Rattle.fx_model.proofs.AlikePaths as alike
-use Rattle.fx_laws.specs.Places.{placed}
+use Rattle.fx_laws.specs.Everywhere.{placed}
 use Rattle.fx_laws.proofs.Placed.{around, cleanups_placed, open_placed, must_placed}
 use Rattle.fx_laws.proofs.Views.{View, IsMatched}
 use Rattle.fx_laws.proofs.Inside.{inside_matched}
@@ -49,7 +49,7 @@ module _ (v : View) (low low' : ℕ) (fs gs : List Context) (us vs : List Cleanu
       let right : cleanup_terms (placed gs t') ≡ cleanup_terms t' ++ vs = cleanups_placed gs t' ∙ cleans' (cleanup_terms t') in
       rw (left, right)
       (unwinding_matched v (AreShifted low low') (Alike low low') (alike_rows v low low') (alike_results low low') us vs tail
-      (alike_before (clean_ups_alike low low' s)) c c' near)
+      (alike_before (cleanups_alike low low' s)) c c' near)
 
   pub alike_matched : (c c' : Counts) (t t' : Term) → AreShifted low low' c c' → Alike low low' t t'
       → IsMatched v c (Runs (placed fs t)) c' (Runs (placed gs t'))

@@ -8,7 +8,7 @@ use Rattle.fx_term.specs.Term.{Term, Let, Finished, put_named}
 use Rattle.fx_term.specs.Scope.{with_named, IsScoped}
 use Rattle.fx_term.proofs.NameUses.{put_other_poll, name_is}
 use Rattle.fx_model.specs.Path.{Context, LetIn}
-use Rattle.fx_laws.specs.Places.{placed, ShowTheSameEverywhere}
+use Rattle.fx_laws.specs.Everywhere.{placed, ShowTheSameEverywhere}
 use Rattle.fx_laws.proofs.SilentRows.{let_value_leads, let_error_leads, leads_placed}
 use Rattle.fx_laws.proofs.SameHere.{AreSameHere, same_itself, both_lead, one_leads, same_inside}
 use Rattle.fx_laws.proofs.Showing.{showing, everywhere}

@@ -19,7 +19,7 @@ use Rattle.fx_model.proofs.Alike.{next_regions, Alike, plain_alike, put_named_al
 use Rattle.fx_model.proofs.MaskEntering.{counts_at}
 use Rattle.fx_model.proofs.Paths.{no_context, part_row, result_has_no_row}
 use Rattle.fx_laws.specs.Names.{without_names}
-use Rattle.fx_laws.specs.Places.{placed}
+use Rattle.fx_laws.specs.Everywhere.{placed}
 use Rattle.fx_laws.specs.Others.{OthersCanSee, IsCanceledAlone, LookTheSameUnlessCanceledAlone, LooksLikeAllOf}
 use Rattle.fx_laws.proofs.Views.{and_then}
 use Rattle.fx_laws.proofs.SilentRows.{LeadsSilently, let_value_leads, let_error_leads, masked_leads}

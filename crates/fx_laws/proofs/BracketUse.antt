@@ -14,7 +14,7 @@ use Rattle.fx_model.specs.Step.{Progress, Runs, Unwinds, row}
 use Rattle.fx_model.specs.Run.{Leads}
 use Rattle.fx_model.proofs.Alike.{Alike}
 use Rattle.fx_model.proofs.Paths.{part_row, result_has_no_row}
-use Rattle.fx_laws.specs.Places.{placed}
+use Rattle.fx_laws.specs.Everywhere.{placed}
 use Rattle.fx_laws.proofs.Views.{HasRun, IsMatched, hidden_first, silent_first}
 use Rattle.fx_laws.proofs.SamePlaces.{Moves, by_row, by_end, wholes_matched}
 use Rattle.fx_laws.proofs.SilentRows.{LeadsSilently, pure_leads, raise_leads, let_value_leads, let_error_leads, handle_value_leads}
@@ -23,7 +23,7 @@ use Rattle.fx_laws.proofs.SilentRows.{oncancel_leads, masked_leads, opened_leads
 use Rattle.fx_laws.proofs.Forced.{IsOnlyRow, AreMatched, hidden_left, silent_right, runs_only, begins_finalizer, begins_release}
 use Rattle.fx_laws.proofs.Forced.{ends_finalizer, ends_release, unwound_both}
 use Rattle.fx_laws.proofs.OnlyRows.{only_silent, only_placed}
-use Rattle.fx_laws.proofs.Shut.{cleaning, Always, clean_up_is_shut, running, IsClosedThere, run_is_shut}
+use Rattle.fx_laws.proofs.Shut.{cleaning, Always, cleanup_is_shut, running, IsClosedThere, run_is_shut}
 use Rattle.fx_laws.proofs.StaysShut.{left_shut, right_shut, left_sealed, right_sealed}
 use Rattle.fx_laws.proofs.AlikeFibers.{AreShifted, shifted_back, shifted_known, shut_both}
 use Rattle.fx_laws.proofs.AlikeInside.{alike_matched}
@@ -129,7 +129,7 @@ module _ (y ex k : ℕ) (r : Term) (same_r : (n m : ℕ) → Alike n m r r) wher
   released_last d d' near =
       hidden_left looking refl (begins_release d k r [])
       (silent_right looking (begins_finalizer d' r [])
-      (shut_both looking 0 1 (cleaning (Some k) [] []) (cleaning None [] []) Always Always (clean_up_is_shut (Some k) [] []) (clean_up_is_shut None [] [])
+      (shut_both looking 0 1 (cleaning (Some k) [] []) (cleaning None [] []) Always Always (cleanup_is_shut (Some k) [] []) (cleanup_is_shut None [] [])
       (λ t t' s. (tt, tt)) (λ t t' s. (tt, tt))
       (λ e e' n w. hidden_left looking refl (ends_release e k w []) (silent_right looking (ends_finalizer e' w [])
       (unwound_both looking e e'))) d d' r near same_r))

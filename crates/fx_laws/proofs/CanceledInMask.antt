@@ -18,7 +18,7 @@ use Rattle.fx_model.specs.MaskLaws.{IsPlain, forced_after}
 use Rattle.fx_model.proofs.Alike.{IsSameRegion, Alike, plain_alike}
 use Rattle.fx_model.proofs.AlikeRows.{row_alike}
 use Rattle.fx_model.proofs.Paths.{no_context}
-use Rattle.fx_laws.specs.Places.{placed}
+use Rattle.fx_laws.specs.Everywhere.{placed}
 use Rattle.fx_laws.specs.Others.{LookTheSame}
 use Rattle.fx_laws.proofs.Placed.{result_placed, row_placed}
 use Rattle.fx_laws.proofs.Views.{HasRun, IsMatched, itself, silent_first, and_then}

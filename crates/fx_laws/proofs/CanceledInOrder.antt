@@ -14,13 +14,13 @@ use Rattle.fx_model.specs.Step.{Runs, CleansUp}
 use Rattle.fx_model.specs.MaskLaws.{IsPlain, forced_after}
 use Rattle.fx_model.proofs.Alike.{next_regions, Alike, plain_alike}
 use Rattle.fx_model.proofs.MaskEntering.{counts_at}
-use Rattle.fx_laws.specs.Places.{placed}
+use Rattle.fx_laws.specs.Everywhere.{placed}
 use Rattle.fx_laws.specs.Others.{OthersCanSee, IsCanceledAlone, LookTheSameUnlessCanceledAlone, LooksLikeAllOf}
 use Rattle.fx_laws.proofs.Views.{IsMatched}
 use Rattle.fx_laws.proofs.SilentRows.{pure_leads, let_value_leads, handle_value_leads, handle_error_leads, masked_leads}
 use Rattle.fx_laws.proofs.Forced.{AreMatched, hidden_left, silent_left, silent_right, begins_finalizer, ends_finalizer, runs_only}
 use Rattle.fx_laws.proofs.OnlyRows.{only_silent, only_placed}
-use Rattle.fx_laws.proofs.Shut.{cleaning, Always, clean_up_is_shut, running, IsClosedThere, run_is_shut}
+use Rattle.fx_laws.proofs.Shut.{cleaning, Always, cleanup_is_shut, running, IsClosedThere, run_is_shut}
 use Rattle.fx_laws.proofs.StaysShut.{left_shut, right_shut}
 use Rattle.fx_laws.proofs.AlikeFibers.{AreShifted, shut_both}
 use Rattle.fx_laws.proofs.Looking.{looking, can_see}
@@ -51,7 +51,7 @@ module _ (f g : Term) (same_f : (n m : ℕ) → Alike n m f f) (same_g : (n m : 
 
   second : (n : ℕ) (d d' : Counts) → AreShifted n (n + 1) d d' → AreMatched looking d (CleansUp None g []) d' (Runs (placed (in_mask n) g))
   second n d d' near =
-      shut_both looking n (n + 1) (cleaning None [] []) (running (in_mask n)) Always (IsClosedThere (in_mask n)) (clean_up_is_shut None [] [])
+      shut_both looking n (n + 1) (cleaning None [] []) (running (in_mask n)) Always (IsClosedThere (in_mask n)) (cleanup_is_shut None [] [])
       (run_is_shut (in_mask n)) (λ t t' s. (tt, right_shut n (n + 1) n (in_mask n) refl (omega arith) s))
       (λ t t' s. (left_shut (n + 1) n n (in_mask n) refl (omega arith) s, tt)) (λ e e' k w. second_ends n e e' w) d d' g near same_g
 
@@ -77,7 +77,7 @@ module _ (f g : Term) (same_f : (n m : ℕ) → Alike n m f f) (same_g : (n m : 
       → AreMatched looking d (CleansUp None f (Finalizer g ∷ [])) d' (Runs (placed (first_in_mask n) f))
   first n d d' near =
       shut_both looking n (n + 1) (cleaning None [] (Finalizer g ∷ [])) (running (first_in_mask n)) Always (IsClosedThere (first_in_mask n))
-      (clean_up_is_shut None [] (Finalizer g ∷ [])) (run_is_shut (first_in_mask n))
+      (cleanup_is_shut None [] (Finalizer g ∷ [])) (run_is_shut (first_in_mask n))
       (λ t t' s. (tt, right_shut n (n + 1) n (first_in_mask n) refl (omega arith) s))
       (λ t t' s. (left_shut (n + 1) n n (first_in_mask n) refl (omega arith) s, tt)) (λ e e' k w. first_ends n e e' k w) d d' f near same_f
 

@@ -11,7 +11,7 @@ use Rattle.fx_model.specs.Step.{Progress, Runs, row}
 use Rattle.fx_model.specs.Run.{Leads}
 use Rattle.fx_model.specs.MaskLaws.{forced_after}
 use Rattle.fx_model.proofs.Paths.{no_context}
-use Rattle.fx_laws.specs.Places.{placed, ShowTheSameEverywhere, ShowTheSameWhereOpen}
+use Rattle.fx_laws.specs.Everywhere.{placed, ShowTheSameEverywhere, ShowTheSameWhereOpen}
 use Rattle.fx_laws.proofs.Placed.{placed_append, open_placed, must_placed, result_placed, row_placed, RowOfPlaced, moves_in, result_in, row_of_placed}
 use Rattle.fx_laws.proofs.Views.{View, HasRun, IsMatched, step_first}
 use Rattle.fx_laws.proofs.SamePlaces.{IsSamePlace, same_turned, same_whole, Moves, by_row, by_end, moves_free, place_matched}

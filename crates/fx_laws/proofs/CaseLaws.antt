@@ -10,7 +10,7 @@ use Rattle.fx_term.specs.Scope.{with_name, IsScoped}
 use Rattle.fx_term.proofs.NameUses.{IsUsedAs, scoped_used, put_used, put_unused, name_is}
 use Rattle.fx_model.specs.Path.{Context, AcquireIn, AcquireCaseIn, InUseIn, InUseCaseIn}
 use Rattle.fx_laws.specs.Names.{without_names}
-use Rattle.fx_laws.specs.Places.{ShowTheSameEverywhere}
+use Rattle.fx_laws.specs.Everywhere.{ShowTheSameEverywhere}
 use Rattle.fx_laws.proofs.SamePlaces.{IsSamePlace}
 use Rattle.fx_laws.proofs.SameHere.{AreSameHere, same_itself, both_lead, same_inside}
 use Rattle.fx_laws.proofs.Showing.{showing, everywhere}

@@ -7,7 +7,7 @@ use Rattle.fx_term.specs.declared.done.Done.{Done}
 use Rattle.fx_term.specs.declared.done.Done.TheVariants.{Val, Err}
 use Rattle.fx_term.specs.Term.{Term, Pure, Let, BracketCase, Finished, InUseCase, InRelease, put_arg, put}
 use Rattle.fx_model.specs.Path.{Context, LetIn, AcquireCaseIn, InUseCaseIn, InReleaseIn}
-use Rattle.fx_laws.specs.Places.{ShowTheSameEverywhere}
+use Rattle.fx_laws.specs.Everywhere.{ShowTheSameEverywhere}
 use Rattle.fx_laws.proofs.SilentRows.{pure_leads, let_value_leads, let_error_leads, leads_placed}
 use Rattle.fx_laws.proofs.SamePlaces.{IsSamePlace}
 use Rattle.fx_laws.proofs.SameHere.{AreSameHere, same_itself, same_too, both_lead, one_leads, same_inside}

@@ -18,7 +18,7 @@ use Rattle.fx_laws.proofs.InBoth.{IsItself, IsTheTerm, own_row, own_result, itse
 use Rattle.fx_laws.proofs.Showing.{showing, of_whole}
 use Rattle.fx_laws.proofs.Forced.{AreMatched, silent_left, silent_right, begins_finalizer, ends_finalizer, cleans_only, unwound_both}
 use Rattle.fx_laws.proofs.OnlyRows.{only_silent, only_mask}
-use Rattle.fx_laws.proofs.Shut.{cleaning, Always, clean_up_is_shut}
+use Rattle.fx_laws.proofs.Shut.{cleaning, Always, cleanup_is_shut}
 use Rattle.fx_laws.proofs.AlikeFibers.{shut_both}
 use Rattle.fx_laws.proofs.Unwinding.{same_before, unwinding_matched}
 
@@ -32,7 +32,7 @@ module _ (v : View) (p : ℕ) (f : Term) (unused : (n : ℕ) → put p n f ≡ f
   masked_part c =
       rw (unused c.masks)
       (shut_both v (c.masks + 1) c.masks (cleaning None (MaskedIn c.masks ∷ []) []) (cleaning None [] []) Always Always
-      (clean_up_is_shut None (MaskedIn c.masks ∷ []) []) (clean_up_is_shut None [] []) (λ t t' s. (tt, tt)) (λ t t' s. (tt, tt))
+      (cleanup_is_shut None (MaskedIn c.masks ∷ []) []) (cleanup_is_shut None [] []) (λ t t' s. (tt, tt)) (λ t t' s. (tt, tt))
       (λ d d' n w. masked_end c.masks d d' w) (one_more_mask c) c f (record { is = refl; region = next_regions (c.masks + 1) c.masks }) same)
 
   -- the last clean-up, inside a mask or not

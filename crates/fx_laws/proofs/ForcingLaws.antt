@@ -9,7 +9,7 @@ use Rattle.fx_model.specs.Row.{Counts, Label, Row}
 use Rattle.fx_model.specs.Step.{Progress, Runs, Step, cancelled, seen, row, succeeds, errs}
 use Rattle.fx_model.specs.Run.{Leads, shown}
 use Rattle.fx_model.specs.MaskLaws.{BeginsWithSeen, forced_after}
-use Rattle.fx_laws.specs.Places.{placed, CanShowFrom, ShowTheSameEverywhere, ShowsAllOfEverywhere, ShowTheSameEverywhereUnlessSeenFirst}
+use Rattle.fx_laws.specs.Everywhere.{placed, CanShowFrom, ShowTheSameEverywhere, ShowsAllOfEverywhere, ShowTheSameEverywhereUnlessSeenFirst}
 use Rattle.fx_laws.proofs.Placed.{must_placed}
 use Rattle.fx_laws.proofs.Views.{HasRun, IsMatched, itself, rests, silent_first}
 use Rattle.fx_laws.proofs.SilentRows.{LeadsSilently, pure_leads, raise_leads, let_value_leads, handle_value_leads, handle_error_leads}

@@ -6,7 +6,7 @@ use Rattle.fx_mask.specs.Closing.{Closing}
 use Rattle.fx_model.specs.Path.{Context, CleanupTerm, closed_along, cleanup_terms, is_open, must_cancel}
 use Rattle.fx_model.specs.Row.{Counts, Label, known_canceled, Row}
 use Rattle.fx_model.specs.Step.{Runs, Unwinds}
-use Rattle.fx_laws.specs.Places.{placed}
+use Rattle.fx_laws.specs.Everywhere.{placed}
 use Rattle.fx_laws.proofs.Placed.{around, closed_append, around_append, open_placed, must_placed, cleanups_placed}
 use Rattle.fx_laws.proofs.Views.{View, IsMatched, itself}
 use Rattle.fx_laws.proofs.Inside.{RowIsFollowed, inside_matched}

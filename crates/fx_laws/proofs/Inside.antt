@@ -7,7 +7,7 @@ use Rattle.fx_model.specs.Path.{Context, cleanup_terms, is_open, must_cancel}
 use Rattle.fx_model.specs.Row.{Counts, Label, known_canceled, Row}
 use Rattle.fx_model.specs.Step.{Progress, Runs, Unwinds, Step, cancelled, seen, row, succeeds, errs}
 use Rattle.fx_model.specs.Run.{Leads}
-use Rattle.fx_laws.specs.Places.{placed}
+use Rattle.fx_laws.specs.Everywhere.{placed}
 use Rattle.fx_laws.proofs.Placed.{result_placed, row_placed, RowOfPlaced, moves_in, result_in, row_of_placed}
 use Rattle.fx_laws.proofs.Views.{View, HasRun, IsMatched, rests, step_first, step_like}
 

@@ -9,7 +9,7 @@ use Rattle.fx_model.specs.Row.{Counts, Label, Silent, Shows, known_canceled, one
 use Rattle.fx_model.specs.Row as rule
 use Rattle.fx_model.specs.Step.{Progress, Runs, Unwinds, HasEnded, Step, cancelled, seen, row, succeeds, errs}
 use Rattle.fx_model.specs.Run.{Leads}
-use Rattle.fx_laws.specs.Places.{placed}
+use Rattle.fx_laws.specs.Everywhere.{placed}
 use Rattle.fx_laws.specs.Others.{visible, IsCanceledAlone}
 use Rattle.fx_laws.proofs.Placed.{leaf_placed, result_placed, row_placed}
 use Rattle.fx_laws.proofs.Views.{HasRun, IsMatched, rests, silent_first}

@@ -7,7 +7,7 @@ use Rattle.fx_model.specs.Row.{Counts, Label, Row, inside}
 use Rattle.fx_model.specs.Step.{Progress}
 use Rattle.fx_model.specs.MaskLaws.{forced_after}
 use Rattle.fx_model.proofs.Paths.{no_context}
-use Rattle.fx_laws.specs.Places.{placed, ShowTheSameEverywhere}
+use Rattle.fx_laws.specs.Everywhere.{placed, ShowTheSameEverywhere}
 use Rattle.fx_laws.proofs.Placed.{placed_append, result_placed, RowOfPlaced, moves_in, result_in, row_of_placed}
 use Rattle.fx_laws.proofs.Views.{View}
 use Rattle.fx_laws.proofs.SamePlaces.{IsSamePlace, same_turned, Moves, by_row, by_end, place_matched}

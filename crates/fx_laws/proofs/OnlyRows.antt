@@ -5,7 +5,7 @@ use Rattle.fx_model.specs.Path.{Context}
 use Rattle.fx_model.specs.Row.{Counts, Label, Silent, one_more_mask, Row}
 use Rattle.fx_model.specs.Row as rule
 use Rattle.fx_model.proofs.Paths.{no_context}
-use Rattle.fx_laws.specs.Places.{placed}
+use Rattle.fx_laws.specs.Everywhere.{placed}
 use Rattle.fx_laws.proofs.Placed.{result_placed, row_placed, RowOfPlaced, moves_in, result_in, row_of_placed}
 use Rattle.fx_laws.proofs.SilentRows.{LeadsSilently}
 use Rattle.fx_laws.proofs.Forced.{IsOnlyRow}

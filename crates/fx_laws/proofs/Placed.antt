@@ -10,7 +10,7 @@ use Rattle.fx_model.specs.Path.{is_open, must_cancel}
 use Rattle.fx_model.specs.Row.{Counts, Label, Row}
 use Rattle.fx_model.specs.Row as rule
 use Rattle.fx_model.proofs.Paths.{closed_plug, leaf_plug, cleanups_plug, no_context, row_plug, part_row}
-use Rattle.fx_laws.specs.Places.{placed}
+use Rattle.fx_laws.specs.Everywhere.{placed}
 
 pub placed_append : (fs gs : List Context) (t : Term) → placed (fs ++ gs) t ≡ placed fs (placed gs t)
 placed_append [] gs t = refl

@@ -234,20 +234,20 @@ renumbered_must c c' t t' near more =
     let p = renumbered_closed [] more in let q = renumbered_leaf more in let r : c'.known ≡ c.known = ap (λ (e : Counts). e.known) near.is in cc
 
 -- its clean-ups are the same
-abbrev AreCleanUpsToo : List CleanupTerm → List CleanupTerm → Type 0
-AreCleanUpsToo xs ys = AreSameBefore looking IsRenumbered [] [] xs ys
+abbrev AreCleanupsToo : List CleanupTerm → List CleanupTerm → Type 0
+AreCleanupsToo xs ys = AreSameBefore looking IsRenumbered [] [] xs ys
 
-all_too : (xs : List CleanupTerm) → AreCleanUpsToo xs xs
+all_too : (xs : List CleanupTerm) → AreCleanupsToo xs xs
 all_too [] = last
 all_too (Finalizer f ∷ xs) = finalizer same (all_too xs)
 all_too (Release k r ∷ xs) = release refl refl same (all_too xs)
 
-append_too : {xs ys us vs : List CleanupTerm} → AreCleanUpsToo xs ys → AreCleanUpsToo us vs → AreCleanUpsToo (xs ++ us) (ys ++ vs)
+append_too : {xs ys us vs : List CleanupTerm} → AreCleanupsToo xs ys → AreCleanupsToo us vs → AreCleanupsToo (xs ++ us) (ys ++ vs)
 append_too last q = q
 append_too (finalizer s p) q = finalizer s (append_too p q)
 append_too (release b e s p) q = release b e s (append_too p q)
 
-with_too : {f g : Context} {xs ys : List CleanupTerm} → IsContextToo f g → AreCleanUpsToo xs ys → AreCleanUpsToo (cleanups_with f xs) (cleanups_with g ys)
+with_too : {f g : Context} {xs ys : List CleanupTerm} → IsContextToo f g → AreCleanupsToo xs ys → AreCleanupsToo (cleanups_with f xs) (cleanups_with g ys)
 with_too (itself {f = OnCancelIn h}) p = append_too p (all_too (Finalizer h ∷ []))
 with_too (itself {f = InUseIn k r}) p = append_too p (all_too (Release k r ∷ []))
 with_too (itself {f = InUseCaseIn k y s z e d}) p = append_too p (all_too (Release k d ∷ []))
@@ -262,7 +262,7 @@ with_too use_too p = append_too p (release refl refl same last)
 with_too use_case_too p = append_too p (release refl refl same last)
 with_too release_too p = p
 
-clean_too : {t t' : Term} → IsRenumbered t t' → AreCleanUpsToo (cleanup_terms t) (cleanup_terms t')
+clean_too : {t t' : Term} → IsRenumbered t t' → AreCleanupsToo (cleanup_terms t) (cleanup_terms t')
 clean_too {t} same = all_too (cleanup_terms t)
 clean_too {t} {t'} (within {f = f} {g = g} {a = a} {a' = a'} e e' fg more) =
     let left : cleanup_terms t ≡ cleanups_with f (cleanup_terms a) = ap cleanup_terms e ∙ cleanups_plug f a in

@@ -6,7 +6,7 @@ use Rattle.fx_mask.specs.Closing.{Closing}
 use Rattle.fx_model.specs.Path.{Context, CleanupTerm, closed_along}
 use Rattle.fx_model.specs.Row.{Counts}
 use Rattle.fx_model.specs.Step.{Runs}
-use Rattle.fx_laws.specs.Places.{placed}
+use Rattle.fx_laws.specs.Everywhere.{placed}
 use Rattle.fx_laws.proofs.Placed.{placed_append, around}
 use Rattle.fx_laws.proofs.Views.{View, IsMatched, itself, and_then}
 use Rattle.fx_laws.proofs.SamePlaces.{IsSamePlace, same_turned}

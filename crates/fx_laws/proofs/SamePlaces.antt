@@ -9,7 +9,7 @@ use Rattle.fx_model.specs.Path.{CleanupTerm, Context, leaf, closed_along, closed
 use Rattle.fx_model.specs.Row.{Counts, Label, known_canceled, Row}
 use Rattle.fx_model.specs.Step.{Progress, Runs, Unwinds, HasEnded, Step, cancelled, seen, row, succeeds, errs}
 use Rattle.fx_model.specs.Run.{Leads}
-use Rattle.fx_laws.specs.Places.{placed}
+use Rattle.fx_laws.specs.Everywhere.{placed}
 use Rattle.fx_laws.proofs.Placed.{cleanups_placed, open_placed, must_placed}
 use Rattle.fx_laws.proofs.Views.{View, HasRun, IsMatched, itself, rests, step_first}
 

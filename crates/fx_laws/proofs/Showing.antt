@@ -6,7 +6,7 @@ use Rattle.fx_model.specs.Row.{Counts, Label, Silent, Shows, Learns, Starts}
 use Rattle.fx_model.specs.Step.{Runs}
 use Rattle.fx_model.specs.Run.{first_counts, shown}
 use Rattle.fx_model.specs.MaskLaws.{CanShow, ShowTheSame}
-use Rattle.fx_laws.specs.Places.{CanShowFrom, ShowTheSameEverywhere}
+use Rattle.fx_laws.specs.Everywhere.{CanShowFrom, ShowTheSameEverywhere}
 use Rattle.fx_laws.proofs.Views.{View, IsMatched}
 use Rattle.fx_laws.proofs.SameHere.{AreSameHere}
 

@@ -9,7 +9,7 @@ use Rattle.fx_model.specs.Step.{Progress, Runs, CleansUp, Step}
 use Rattle.fx_model.specs.Step as step
 use Rattle.fx_model.specs.Run.{Leads}
 use Rattle.fx_model.proofs.ShownRuns.{closed_must, never_canceled, closed_row}
-use Rattle.fx_laws.specs.Places.{placed}
+use Rattle.fx_laws.specs.Everywhere.{placed}
 use Rattle.fx_laws.proofs.Placed.{result_placed, row_placed, RowOfPlaced, moves_in, result_in, row_of_placed}
 use Rattle.fx_laws.proofs.Views.{View, HasRun, IsMatched, rests, step_like}
 use Rattle.fx_laws.proofs.Inside.{RowsAreFollowed, ResultsAreResults}
@@ -44,8 +44,8 @@ only_clean k fs rest {c} {d} {l} t (step.cleans {t' = y} r) at =
 only_clean k fs rest t (step.finalizer_ends {v = w}) at = rw ((result_placed fs t w at).1) result_at
 only_clean k fs rest t (step.release_ends {v = w}) at = rw ((result_placed fs t w at).1) result_at
 
-pub clean_up_is_shut : (k : Option ℕ) (fs : List Context) (rest : List CleanupTerm) → IsShut (cleaning k fs rest) Always
-clean_up_is_shut k fs rest =
+pub cleanup_is_shut : (k : Option ℕ) (fs : List Context) (rest : List CleanupTerm) → IsShut (cleaning k fs rest) Always
+cleanup_is_shut k fs rest =
     record { does = λ c d l t u fits r. step.cleans (row_placed fs r); only = λ c d l t q fits s. only_clean k fs rest t s refl }
 
 -- at a place that is closed

@@ -10,7 +10,7 @@ use Rattle.fx_model.specs.Row as rule
 use Rattle.fx_model.specs.Step.{Progress, Runs, Step, row}
 use Rattle.fx_model.specs.Run.{Leads}
 use Rattle.fx_model.proofs.Paths.{no_context, part_row, result_has_no_row}
-use Rattle.fx_laws.specs.Places.{placed}
+use Rattle.fx_laws.specs.Everywhere.{placed}
 use Rattle.fx_laws.proofs.Placed.{result_placed, row_placed, RowOfPlaced, moves_in, result_in, row_of_placed}
 use Rattle.fx_laws.proofs.Views.{View, HasRun, IsMatched, itself, step_first, silent_first, of_hidden}
 use Rattle.fx_laws.proofs.SamePlaces.{IsSamePlace, same_turned, same_whole, Moves, by_row, by_end, moves_free, moves_step, MatchesMoves, place_matched}

@@ -6,7 +6,7 @@ use Rattle.fx_mask.specs.Closing.{Region, Seal, without_region}
 use Rattle.fx_model.specs.Path.{Context, closed_along, is_open}
 use Rattle.fx_model.proofs.Alike.{Alike}
 use Rattle.fx_model.proofs.AlikePaths.{closed_alike, stays_closed}
-use Rattle.fx_laws.specs.Places.{placed}
+use Rattle.fx_laws.specs.Everywhere.{placed}
 use Rattle.fx_laws.proofs.Placed.{open_placed}
 
 kept : (q r : ℕ) → q + 1 ≤ r → without_region r (Region q ∷ []) ≡ Region q ∷ []

@@ -10,7 +10,7 @@ use Rattle.fx_model.specs.Row as rule
 use Rattle.fx_model.specs.Step.{Progress, Runs, Unwinds, CleansUp, cancelled, finalizer, cleans, row}
 use Rattle.fx_model.specs.Run.{Leads, shown}
 use Rattle.fx_model.proofs.MaskEntering.{counts_at}
-use Rattle.fx_laws.specs.Places.{placed, CanShowFrom, ShowTheSameEverywhere}
+use Rattle.fx_laws.specs.Everywhere.{placed, CanShowFrom, ShowTheSameEverywhere}
 use Rattle.fx_laws.specs.Others.{visible, OthersCanSee, LookTheSame}
 use Rattle.fx_laws.proofs.Placed.{row_placed}
 use Rattle.fx_laws.proofs.SilentRows.{masked_leads}

@@ -1,3 +1,3 @@
 pub mod Names
-pub mod Places
+pub mod Everywhere
 pub mod Others

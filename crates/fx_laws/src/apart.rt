@@ -2,7 +2,7 @@
 ghost use Rattle.std.specs.Prelude.{None};
 ghost use Rattle.fx_term.specs.declared.node.Arg.TheVariants.{Number};
 ghost use Rattle.fx_term.specs.Term.{Pure, Canceled, Let, Mask, OnCancel, Offer};
-ghost use Rattle.fx_laws.specs.Places.{ShowTheSameEverywhere};
+ghost use Rattle.fx_laws.specs.Everywhere.{ShowTheSameEverywhere};
 ghost use Rattle.fx_laws.specs.Others.{LookTheSame};
 
 /// Others see what a finalizer does: `(oncancel (canceled) (offer q 1))` does not look to them as

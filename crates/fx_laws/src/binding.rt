@@ -4,7 +4,7 @@ ghost use Rattle.fx_term.specs.Term.{Term, Let};
 ghost use Rattle.fx_term.specs.declared.name_kind.NameKind.{NameKind};
 ghost use Rattle.fx_term.specs.declared.name_kind.NameKind.TheVariants as kind;
 ghost use Rattle.fx_term.specs.Scope.{with_named, IsScoped};
-ghost use Rattle.fx_laws.specs.Places.{ShowTheSameEverywhere};
+ghost use Rattle.fx_laws.specs.Everywhere.{ShowTheSameEverywhere};
 
 /// `(let x A (let y B F))` is `(let y (let x A B) F)`, where `F` stands under a binder of `x`, so that none
 /// in it binds that name, and does not use it.

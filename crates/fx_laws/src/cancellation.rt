@@ -6,7 +6,7 @@ ghost use Rattle.fx_term.specs.Term.{Term, Canceled, Let, Mask};
 ghost use Rattle.fx_term.specs.Scope.{with_name, IsScoped};
 ghost use Rattle.fx_model.specs.MaskLaws.{IsPlain, forced_after};
 ghost use Rattle.fx_laws.specs.Others.{LookTheSame};
-ghost use Rattle.fx_laws.specs.Places.{ShowTheSameWhereOpen};
+ghost use Rattle.fx_laws.specs.Everywhere.{ShowTheSameWhereOpen};
 
 /// `(seq (canceled) A)` is `(canceled)` at each open place. At a closed one the fiber goes on with `A`.
 pub fn canceled_short_circuits_flat_map()

@@ -6,7 +6,7 @@ ghost use Rattle.fx_term.specs.declared.name_kind.NameKind.TheVariants as kind;
 ghost use Rattle.fx_term.specs.Term.{Term, Pure, Let, Bracket, BracketCase};
 ghost use Rattle.fx_term.specs.Scope.{with_name, IsScoped};
 ghost use Rattle.fx_laws.specs.Names.{without_names};
-ghost use Rattle.fx_laws.specs.Places.{ShowTheSameEverywhere};
+ghost use Rattle.fx_laws.specs.Everywhere.{ShowTheSameEverywhere};
 
 /// `bracket` is `bracketCase` with one release for all outcomes: `(bracket x A U R)` is
 /// `(bracketcase x A U (y R) (z R) R)`, where `R` stands under binders of `y` and `z`, so that none in it

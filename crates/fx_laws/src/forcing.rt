@@ -3,7 +3,7 @@ ghost use Rattle.std.specs.Prelude.{ℕ, None};
 ghost use Rattle.fx_term.specs.declared.node.Arg.TheVariants.{Number};
 ghost use Rattle.fx_term.specs.Term.{Term, Raise, Canceled, Let};
 ghost use Rattle.fx_model.specs.MaskLaws.{forced_after};
-ghost use Rattle.fx_laws.specs.Places.{ShowTheSameEverywhere, ShowTheSameEverywhereUnlessSeenFirst, ShowsAllOfEverywhere};
+ghost use Rattle.fx_laws.specs.Everywhere.{ShowTheSameEverywhere, ShowTheSameEverywhereUnlessSeenFirst, ShowsAllOfEverywhere};
 
 /// `(forcer (raise n) A)` is `A`, but for what begins with a request that is seen: seen before the fiber
 /// comes to `A`, it leaves out the finalizers that stand round the first leaf of `A`.

@@ -14,7 +14,7 @@
 //! | [`forcing`], [`binding`] | what is forced after a term, and what takes its value |
 //! | [`finalizers`], [`brackets`] | which forms of finalizers are the same, and what a bracket is |
 //! | [`cases`] | what a bracket with a release for each outcome is |
-//! | [`places`] | what holds everywhere holds of whole fibers |
+//! | [`everywhere`] | what holds everywhere holds of whole fibers |
 //! | [`apart`] | terms that can be told apart |
 #![tactic(auto)]
 
@@ -23,7 +23,7 @@ pub mod binding;
 pub mod brackets;
 pub mod cancellation;
 pub mod cases;
+pub mod everywhere;
 pub mod finalizers;
 pub mod forcing;
 pub mod never;
-pub mod places;

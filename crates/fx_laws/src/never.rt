@@ -2,7 +2,7 @@
 ghost use Rattle.fx_term.specs.Term.{Term, Let, Never};
 ghost use Rattle.fx_model.specs.MaskLaws.{forced_after};
 ghost use Rattle.std.specs.Prelude.{None};
-ghost use Rattle.fx_laws.specs.Places.{ShowTheSameEverywhere};
+ghost use Rattle.fx_laws.specs.Everywhere.{ShowTheSameEverywhere};
 
 /// `(seq (never) A)` is `(never)`.
 pub fn never_dominates_over_flat_map()

@@ -36,18 +36,18 @@ module _ (low low' : ℕ) where
   one_more (finalizer f p) q = finalizer f (one_more p q)
   one_more (release r p) q = release r (one_more p q)
 
-  pub clean_ups_alike : {t t' : Term} → Alike low low' t t' → AreCleanupTerms (cleanup_terms t) (cleanup_terms t')
-  clean_ups_alike (alike.let_ p u q) = clean_ups_alike p
-  clean_ups_alike (alike.handle p u q) = clean_ups_alike p
-  clean_ups_alike (alike.oncancel p q) = one_more (clean_ups_alike p) (finalizer q none)
-  clean_ups_alike (alike.bracket p i q j r) = clean_ups_alike p
-  clean_ups_alike (alike.bracket_case p i q j k r l m s n t) = clean_ups_alike p
-  clean_ups_alike (alike.masked s p) = clean_ups_alike p
-  clean_ups_alike (alike.opened s p) = clean_ups_alike p
-  clean_ups_alike (alike.using_ p q) = one_more (clean_ups_alike p) (release q none)
-  clean_ups_alike (alike.using_case p i q j r s) = one_more (clean_ups_alike p) (release s none)
-  clean_ups_alike (alike.releasing p) = clean_ups_alike p
-  clean_ups_alike _ = none
+  pub cleanups_alike : {t t' : Term} → Alike low low' t t' → AreCleanupTerms (cleanup_terms t) (cleanup_terms t')
+  cleanups_alike (alike.let_ p u q) = cleanups_alike p
+  cleanups_alike (alike.handle p u q) = cleanups_alike p
+  cleanups_alike (alike.oncancel p q) = one_more (cleanups_alike p) (finalizer q none)
+  cleanups_alike (alike.bracket p i q j r) = cleanups_alike p
+  cleanups_alike (alike.bracket_case p i q j k r l m s n t) = cleanups_alike p
+  cleanups_alike (alike.masked s p) = cleanups_alike p
+  cleanups_alike (alike.opened s p) = cleanups_alike p
+  cleanups_alike (alike.using_ p q) = one_more (cleanups_alike p) (release q none)
+  cleanups_alike (alike.using_case p i q j r s) = one_more (cleanups_alike p) (release s none)
+  cleanups_alike (alike.releasing p) = cleanups_alike p
+  cleanups_alike _ = none
 
   -- what closes the two places outside, of which the terms inside have no number
   module _ (outer outer' : List Closing) (kept : (r : ℕ) → low ≤ r → without_region r outer ≡ outer)

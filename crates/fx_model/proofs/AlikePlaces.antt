@@ -8,8 +8,8 @@ use Rattle.fx_model.specs.Row.{Counts}
 use Rattle.fx_model.specs.Step.{Runs}
 use Rattle.fx_model.proofs.Alike.{Alike, finished}
 use Rattle.fx_model.proofs.AlikeRows.{with_masks}
-use Rattle.fx_model.proofs.AlikePaths.{leaf_alike, AreCleanupTerms, clean_ups_alike, closed_alike, stays_closed}
-use Rattle.fx_model.proofs.Wrapped.{Wrap, wrapped, closes, HaveNoFinalizer, clean_ups_wrapped, open_wrapped, must_wrapped, finished_wrapped}
+use Rattle.fx_model.proofs.AlikePaths.{leaf_alike, AreCleanupTerms, cleanups_alike, closed_alike, stays_closed}
+use Rattle.fx_model.proofs.Wrapped.{Wrap, wrapped, closes, HaveNoFinalizer, cleanups_wrapped, open_wrapped, must_wrapped, finished_wrapped}
 use Rattle.fx_model.proofs.WrappedEnds.{AreShutBelow, leaves_all}
 use Rattle.fx_model.proofs.CancelledSteps.{must_is_open}
 use Rattle.fx_model.proofs.ShownRuns.{Reaches}
@@ -47,9 +47,9 @@ module _ (low low' : ℕ) where
   clean_inside : (ws ws' : List Wrap) {whole t t' : Term} → AreInside ws ws' whole t t' → HaveNoFinalizer ws × HaveNoFinalizer ws'
       → AreCleanupTerms low low' (cleanup_terms whole) (cleanup_terms (wrapped ws' t'))
   clean_inside ws ws' {whole} {t} {t'} i none =
-      let first : cleanup_terms whole ≡ cleanup_terms t = ap cleanup_terms i.whole_is ∙ clean_ups_wrapped ws t none.0 in
-      let second = clean_ups_wrapped ws' t' none.1 in
-      rw (first, second) (clean_ups_alike low low' i.are_alike)
+      let first : cleanup_terms whole ≡ cleanup_terms t = ap cleanup_terms i.whole_is ∙ cleanups_wrapped ws t none.0 in
+      let second = cleanups_wrapped ws' t' none.1 in
+      rw (first, second) (cleanups_alike low low' i.are_alike)
 
   -- an open place has an open place outside
   open_outside : (ws ws' : List Wrap) {whole t t' : Term} → AreInside ws ws' whole t t' → is_open whole ≡ true → is_none_closed (closes ws) ≡ true

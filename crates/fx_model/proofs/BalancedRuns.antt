@@ -11,17 +11,17 @@ use Rattle.fx_model.specs.Step as step
 use Rattle.fx_model.specs.Run.{first_counts, Leads, IsRun, events}
 use Rattle.fx_model.specs.Balanced.{acquired_numbers, IsBalanced, IsBalancedSoFar, nothing}
 use Rattle.fx_model.proofs.AcquiredNumbers.{acquired_in_order, range_is_distinct}
-use Rattle.fx_model.proofs.HeldResources.{Held, BeingReleased, held_for, held_at, core_holds_none, held_by_clean_ups}
+use Rattle.fx_model.proofs.HeldResources.{Held, BeingReleased, held_for, held_at, core_holds_none, held_by_cleanups}
 use Rattle.fx_model.proofs.Runs.{events_append}
 use Rattle.fx_model.proofs.Nesting.{LeadsTo, Changes, changes_inside, changes_lead, releases, released_acquires_same, released_is_nested}
 use Rattle.fx_model.proofs.CancelledSteps.{must_is_paired}
 use Rattle.fx_model.proofs.PairedMasks.{paired_has_no_seal}
 use Rattle.fx_model.proofs.ResourceRows.{row_keeps_running}
-use Rattle.fx_model.proofs.RunningTerms.{IsRunningProgress, core_runs, clean_ups_core}
+use Rattle.fx_model.proofs.RunningTerms.{IsRunningProgress, core_runs, cleanups_core}
 
 -- a step keeps how far a fiber is a running progress, and changes what is held as its label says
 pub step_keeps : {c d : Counts} {p q : Progress} {l : Label} → Step c p l d q → IsRunningProgress p → IsRunningProgress q × Changes l (held_at p) (held_at q)
-step_keeps {c = c} (step.cancelled {t = t} m) h = (clean_ups_core t h, sym (held_by_clean_ups t (paired_has_no_seal (must_is_paired c.known t m))))
+step_keeps {c = c} (step.cancelled {t = t} m) h = (cleanups_core t h, sym (held_by_cleanups t (paired_has_no_seal (must_is_paired c.known t m))))
 step_keeps (step.seen m o) h = (h, refl)
 step_keeps (step.row m r) h = row_keeps_running r h
 step_keeps (step.succeeds m) h = (tt, refl)

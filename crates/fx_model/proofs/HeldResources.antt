@@ -59,15 +59,15 @@ held_for_append (Finalizer f ∷ xs) ys = held_for_append xs ys
 held_for_append (Release k r ∷ xs) ys = ap (λ (s : List Held). Unreleased k ∷ s) (held_for_append xs ys)
 
 -- where no seal is round a place, nothing is in its release, and each resource in use is a clean-up's
-pub held_by_clean_ups : (t : Term) → HasNoSeal (marks t) → held_in t ≡ held_for (cleanup_terms t)
-held_by_clean_ups (Let x a b) h = held_by_clean_ups a h
-held_by_clean_ups (Handle a x b) h = held_by_clean_ups a h
-held_by_clean_ups (OnCancel a f) h = rw (held_for_append, append-nil) (held_by_clean_ups a h)
-held_by_clean_ups (Bracket x a u r) h = absurd h
-held_by_clean_ups (BracketCase x a u y s z e d) h = absurd h
-held_by_clean_ups (Masked r a) h = held_by_clean_ups a h
-held_by_clean_ups (Opened r a) h = held_by_clean_ups a h
-held_by_clean_ups (InUse k a r) h = rw held_for_append (ap (λ (s : List Held). s ++ Unreleased k ∷ []) (held_by_clean_ups a h))
-held_by_clean_ups (InUseCase k a y s z e d) h = rw held_for_append (ap (λ (held : List Held). held ++ Unreleased k ∷ []) (held_by_clean_ups a h))
-held_by_clean_ups (InRelease k a v) h = absurd h
-held_by_clean_ups _ h = refl
+pub held_by_cleanups : (t : Term) → HasNoSeal (marks t) → held_in t ≡ held_for (cleanup_terms t)
+held_by_cleanups (Let x a b) h = held_by_cleanups a h
+held_by_cleanups (Handle a x b) h = held_by_cleanups a h
+held_by_cleanups (OnCancel a f) h = rw (held_for_append, append-nil) (held_by_cleanups a h)
+held_by_cleanups (Bracket x a u r) h = absurd h
+held_by_cleanups (BracketCase x a u y s z e d) h = absurd h
+held_by_cleanups (Masked r a) h = held_by_cleanups a h
+held_by_cleanups (Opened r a) h = held_by_cleanups a h
+held_by_cleanups (InUse k a r) h = rw held_for_append (ap (λ (s : List Held). s ++ Unreleased k ∷ []) (held_by_cleanups a h))
+held_by_cleanups (InUseCase k a y s z e d) h = rw held_for_append (ap (λ (held : List Held). held ++ Unreleased k ∷ []) (held_by_cleanups a h))
+held_by_cleanups (InRelease k a v) h = absurd h
+held_by_cleanups _ h = refl

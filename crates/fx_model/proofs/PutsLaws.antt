@@ -11,7 +11,7 @@ use Rattle.fx_model.specs.Row as row
 use Rattle.fx_model.specs.Step.{Progress, Runs, Step}
 use Rattle.fx_model.specs.Step as step
 use Rattle.fx_model.specs.Run.{first_counts, Leads, IsRun}
-use Rattle.fx_model.specs.PutsLeft.{puts, clean_up_puts, puts_left, puts_of, puts_made}
+use Rattle.fx_model.specs.PutsLeft.{puts, cleanup_puts, puts_left, puts_of, puts_made}
 
 -- a number for a name leaves the puts as they are
 put_puts : (x n : ℕ) (t : Term) → puts (put x n t) ≡ puts t
@@ -62,15 +62,15 @@ row_puts (row.inside f {a = a} {a' = a'} e g r) =
 row_puts _ = omega arith
 
 -- the clean-ups of a path are a part of the term
-clean_ups_puts : (t : Term) → clean_up_puts (cleanup_terms t) ≤ puts t
-clean_ups_puts t =
+cleanups_puts : (t : Term) → cleanup_puts (cleanup_terms t) ≤ puts t
+cleanups_puts t =
     let within = cleanups_within puts 0 0 (λ t. omega arith) (λ a f. omega arith) (λ k a r. omega arith) (λ k a y s z e d. omega arith)
     (λ f a. let p = puts_plug f a in omega arith) t in
     omega arith
 
 -- each step of a fiber
 step_puts : {c d : Counts} {p q : Progress} {l : Label} → Step c p l d q → puts_of l + puts_left q ≤ puts_left p
-step_puts (step.cancelled {t = t} m) = let e = clean_ups_puts t in omega arith
+step_puts (step.cancelled {t = t} m) = let e = cleanups_puts t in omega arith
 step_puts (step.row m r) = row_puts r
 step_puts (step.cleans r) = let e = row_puts r in omega arith
 step_puts _ = omega arith

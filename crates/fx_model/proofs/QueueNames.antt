@@ -136,15 +136,15 @@ module _ (n : ℕ) where
       (rw g (around.1 a' inner.0), inner.1)
   row_names _ h = (tt, tt)
 
-  clean_up_part : (f : Context) (a : Term) → NamesQueuesBelow n (plug f a) → NamesQueuesBelow n a × AreAll (NamesQueuesBelow n) (cleanups_with f [])
-  clean_up_part (OnCancelIn f) a h = (h.0, (h.1, tt))
-  clean_up_part (InUseIn k r) a h = (h.0, (h.1, tt))
-  clean_up_part (InUseCaseIn k y s z e d) a h = (h.0, (h.3, tt))
-  clean_up_part f a h = ((names_inside f a h).0, tt)
+  cleanup_part : (f : Context) (a : Term) → NamesQueuesBelow n (plug f a) → NamesQueuesBelow n a × AreAll (NamesQueuesBelow n) (cleanups_with f [])
+  cleanup_part (OnCancelIn f) a h = (h.0, (h.1, tt))
+  cleanup_part (InUseIn k r) a h = (h.0, (h.1, tt))
+  cleanup_part (InUseCaseIn k y s z e d) a h = (h.0, (h.3, tt))
+  cleanup_part f a h = ((names_inside f a h).0, tt)
 
   -- each step of a fiber
   pub step_names : {c d : Counts} {p q : Progress} {l : Label} → Step c p l d q → ProgressNamesBelow p → ProgressNamesBelow q × LabelNamesBelow l
-  step_names (step.cancelled {t = t} m) h = (all_on_path (NamesQueuesBelow n) (NamesQueuesBelow n) clean_up_part t h, tt)
+  step_names (step.cancelled {t = t} m) h = (all_on_path (NamesQueuesBelow n) (NamesQueuesBelow n) cleanup_part t h, tt)
   step_names (step.seen m o) h = (h, tt)
   step_names (step.row m r) h = row_names r h
   step_names step.finalizer h = (h, tt)

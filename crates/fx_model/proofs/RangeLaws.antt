@@ -12,7 +12,7 @@ use Rattle.fx_model.specs.Row as row
 use Rattle.fx_model.specs.Step.{Progress, Runs, Unwinds, CleansUp, HasEnded, Step}
 use Rattle.fx_model.specs.Step as step
 use Rattle.fx_model.specs.Run.{first_counts, Leads, IsRun}
-use Rattle.fx_model.specs.NeedLeft.{clean_up_need, need_left, HasRoom, StartsInItsRange}
+use Rattle.fx_model.specs.NeedLeft.{cleanup_need, need_left, HasRoom, StartsInItsRange}
 use Rattle.fx_model.proofs.StepLabels.{StartsNext, step_tells}
 
 -- a number for a name leaves the need as it is
@@ -64,14 +64,14 @@ row_need (row.inside f {a = a} {a' = a'} e g r) =
 row_need _ = omega arith
 
 -- the clean-ups of a path are a part of the term
-clean_ups_need : (t : Term) → clean_up_need (cleanup_terms t) ≤ need t
-clean_ups_need t =
+cleanups_need : (t : Term) → cleanup_need (cleanup_terms t) ≤ need t
+cleanups_need t =
     let within = cleanups_within need 0 0 (λ t. omega arith) (λ a f. omega arith) (λ k a r. omega arith) (λ k a y s z e d. omega arith)
     (λ f a. let p = need_plug f a in omega arith) t in
     omega arith
 
 pub step_need : {c d : Counts} {p q : Progress} {l : Label} → Step c p l d q → d.next + need_left q ≤ c.next + need_left p
-step_need (step.cancelled {t = t} m) = let e = clean_ups_need t in omega arith
+step_need (step.cancelled {t = t} m) = let e = cleanups_need t in omega arith
 step_need (step.row m r) = row_need r
 step_need (step.cleans r) = let e = row_need r in omega arith
 step_need _ = omega arith

@@ -57,5 +57,5 @@ core_part (InUseIn k r) a h = (h.0, (h.1, tt))
 core_part (InUseCaseIn k y s z e d) a h = (h.0, (h.3, tt))
 core_part f a h = ((running_inside f a h).0, tt)
 
-pub clean_ups_core : (t : Term) → IsRunningTerm t → AreAll IsCore (cleanup_terms t)
-clean_ups_core = all_on_path IsRunningTerm IsCore core_part
+pub cleanups_core : (t : Term) → IsRunningTerm t → AreAll IsCore (cleanup_terms t)
+cleanups_core = all_on_path IsRunningTerm IsCore core_part

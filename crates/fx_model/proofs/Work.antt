@@ -12,7 +12,7 @@ use Rattle.fx_model.specs.Step.{Progress, Runs, Unwinds, CleansUp, HasEnded, Ste
 use Rattle.fx_model.specs.Step as step
 use Rattle.fx_model.specs.Run.{IsUnrequested, Leads}
 use Rattle.fx_model.specs.PutsLeft.{puts_of}
-use Rattle.fx_model.specs.Work.{work, clean_up_work, work_left}
+use Rattle.fx_model.specs.Work.{work, cleanup_work, work_left}
 use Rattle.fx_model.proofs.Measures.{kept_by_name, branch_within, cleanups_within}
 use Rattle.fx_model.proofs.StepLabels.{row_tells}
 
@@ -74,15 +74,15 @@ some_work Never = omega arith
 some_work _ = omega arith
 
 -- the clean-ups of a path are a part of its work
-clean_ups_lower : (t : Term) → clean_up_work (cleanup_terms t) < work t
-clean_ups_lower t =
+cleanups_lower : (t : Term) → cleanup_work (cleanup_terms t) < work t
+cleanups_lower t =
     let within = cleanups_within work 2 1 some_work (λ a f. omega arith) (λ k a r. omega arith)
     (λ k a y s z e d. omega arith) (λ f a. let p = work_plug f a in let q = some_work (plug f (Finished (Val 0))) in omega arith) t in
     omega arith
 
 -- each step leaves less work, but for a request that is seen
 pub step_lowers : (c d : Counts) (l : Label) (p q : Progress) → l ≢ Shows event.Seen → Step c p l d q → work_left q < work_left p
-step_lowers c d l p q h (step.cancelled {t = t} m) = let e = clean_ups_lower t in omega arith
+step_lowers c d l p q h (step.cancelled {t = t} m) = let e = cleanups_lower t in omega arith
 step_lowers c d l p q h (step.seen m o) = absurd (h refl)
 step_lowers c d l p q h (step.row {t = t} {t' = t'} m r) = let e = row_lowers _ c d l t t' r in omega arith
 step_lowers c d l p q h (step.cleans {t = t} {t' = t'} r) = let e = row_lowers _ c d l t t' r in omega arith
@@ -99,7 +99,7 @@ leads_lower c d p q (l ∷ ls) r u =
 -- a step enters one mask, acquires one resource or puts one element at most, so these together and the work that is left are never more than before
 pub step_work : {c d : Counts} {p q : Progress} {l : Label} → Step c p l d q
     → d.masks + d.acquired + puts_of l + work_left q ≤ c.masks + c.acquired + work_left p
-step_work (step.cancelled {t = t} m) = let e = clean_ups_lower t in omega arith
+step_work (step.cancelled {t = t} m) = let e = cleanups_lower t in omega arith
 step_work {c} {d} {l = l} (step.row {t = t} {t' = t'} m r) = let e = row_lowers _ c d l t t' r in let f = (row_tells r).counted in omega arith
 step_work {c} {d} {l = l} (step.cleans {t = t} {t' = t'} r) = let e = row_lowers _ c d l t t' r in let f = (row_tells r).counted in omega arith
 step_work _ = omega arith

@@ -46,11 +46,11 @@ HaveNoFinalizer (Cleans f ∷ ws) = ⊥
 HaveNoFinalizer (w ∷ ws) = HaveNoFinalizer ws
 
 -- masks and polls have no clean-up
-pub clean_ups_wrapped : (ws : List Wrap) (t : Term) → HaveNoFinalizer ws → cleanup_terms (wrapped ws t) ≡ cleanup_terms t
-clean_ups_wrapped [] t h = refl
-clean_ups_wrapped (Closes r ∷ ws) t h = clean_ups_wrapped ws (plug (MaskedIn r) t) h
-clean_ups_wrapped (Opens r ∷ ws) t h = clean_ups_wrapped ws (plug (OpenedIn r) t) h
-clean_ups_wrapped (Cleans f ∷ ws) t h = absurd h
+pub cleanups_wrapped : (ws : List Wrap) (t : Term) → HaveNoFinalizer ws → cleanup_terms (wrapped ws t) ≡ cleanup_terms t
+cleanups_wrapped [] t h = refl
+cleanups_wrapped (Closes r ∷ ws) t h = cleanups_wrapped ws (plug (MaskedIn r) t) h
+cleanups_wrapped (Opens r ∷ ws) t h = cleanups_wrapped ws (plug (OpenedIn r) t) h
+cleanups_wrapped (Cleans f ∷ ws) t h = absurd h
 
 pub open_wrapped : (ws : List Wrap) (t : Term) → is_open (wrapped ws t) ≡ is_none_closed (closed_regions (closes ws) t)
 open_wrapped ws t = ap is_none_closed (closed_wrapped ws t)

@@ -7,14 +7,14 @@ use Rattle.fx_model.specs.Origin.{Origin}
 use Rattle.fx_model.specs.Step.{Progress, Runs, Unwinds, CleansUp, HasEnded, Step}
 
 -- how many fiber numbers the clean-ups can use
-abbrev pub clean_up_need : List CleanupTerm → ℕ
-clean_up_need = over_cleanups need 0
+abbrev pub cleanup_need : List CleanupTerm → ℕ
+cleanup_need = over_cleanups need 0
 
 -- how many the fiber can use from there on
 abbrev pub need_left : Progress → ℕ
 need_left (Runs t) = need t
-need_left (Unwinds rest) = clean_up_need rest
-need_left (CleansUp k t rest) = need t + clean_up_need rest
+need_left (Unwinds rest) = cleanup_need rest
+need_left (CleansUp k t rest) = need t + cleanup_need rest
 need_left (HasEnded o) = 0
 
 -- a start takes the next number of its fiber, and gives the child the numbers after that which its term needs, all in the fiber's range

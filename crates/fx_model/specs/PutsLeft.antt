@@ -31,14 +31,14 @@ puts (Offer q v) = 1
 puts (TryOffer q v) = 1
 puts _ = 0
 
-abbrev pub clean_up_puts : List CleanupTerm → ℕ
-clean_up_puts = over_cleanups puts 0
+abbrev pub cleanup_puts : List CleanupTerm → ℕ
+cleanup_puts = over_cleanups puts 0
 
 -- at most how many it puts from there on
 abbrev pub puts_left : Progress → ℕ
 puts_left (Runs t) = puts t
-puts_left (Unwinds rest) = clean_up_puts rest
-puts_left (CleansUp k t rest) = puts t + clean_up_puts rest
+puts_left (Unwinds rest) = cleanup_puts rest
+puts_left (CleansUp k t rest) = puts t + cleanup_puts rest
 puts_left (HasEnded o) = 0
 
 -- how many it has put

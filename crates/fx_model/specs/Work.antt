@@ -39,12 +39,12 @@ work (Loop i k n a) = 2 + (n - k) * (2 + work a)
 work (Await f) = 2
 
 -- a clean-up is begun and ended beside its own steps
-abbrev pub clean_up_work : List CleanupTerm → ℕ
-clean_up_work = over_cleanups work 2
+abbrev pub cleanup_work : List CleanupTerm → ℕ
+cleanup_work = over_cleanups work 2
 
 -- more than the steps that are left to a fiber and to those that it will start
 abbrev pub work_left : Progress → ℕ
 work_left (Runs t) = 1 + work t
-work_left (Unwinds rest) = 1 + clean_up_work rest
-work_left (CleansUp k t rest) = 1 + work t + clean_up_work rest
+work_left (Unwinds rest) = 1 + cleanup_work rest
+work_left (CleansUp k t rest) = 1 + work t + cleanup_work rest
 work_left (HasEnded o) = 0

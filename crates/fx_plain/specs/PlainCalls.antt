@@ -20,7 +20,7 @@ use Rattle.fx_plain.specs.World.{after_take}
 pub record PortView : Type 0 where
   pub number : ℕ
   pub beginning : Begin
-  pub rest : Range
+  pub range : Range
   pub put_counts : List ℕ
   pub has_finished : Bool
 
@@ -28,14 +28,14 @@ abbrev pub facts_of : PortView → Facts
 facts_of = λ p. record {
   number = p.number;
   beginning = p.beginning;
-  rest = p.rest;
+  range = p.range;
   has_finished = p.has_finished;
   puts = sum p.put_counts;
 }
 
 -- the port of a fiber that begins so
 abbrev pub new_port : ℕ → Begin → PortView
-new_port f begin = record { number = f; beginning = begin; rest = first_range begin; put_counts = []; has_finished = false }
+new_port f begin = record { number = f; beginning = begin; range = first_range begin; put_counts = []; has_finished = false }
 
 -- the element that it puts next into queue q
 abbrev pub next_of : PortView → ℕ → ℕ → Item
@@ -61,7 +61,7 @@ TakesIn p w q (Some n) p' w' = (front (queue_at w.queues q).items ≡ Some n) ×
 TakesIn p w q None p' w' = ((queue_at w.queues q).items ≡ []) × (p' ≡ p) × (w' ≡ w)
 
 abbrev pub StartsIn : PortView → WorldView → ℕ → Begin → PortView → PortView → WorldView → Type 0
-StartsIn p w g begin child p' w' = (child ≡ new_port g begin) × (p' ≡ record p { rest = range_after begin p.rest }) × (w' ≡ after_start g w)
+StartsIn p w g begin child p' w' = (child ≡ new_port g begin) × (p' ≡ record p { range = range_after begin p.range }) × (w' ≡ after_start g w)
 
 abbrev pub FinishesIn : PortView → WorldView → Outcome → PortView → WorldView → Type 0
 FinishesIn p w o p' w' = (p' ≡ record p { has_finished = true }) × (w' ≡ after_end p.number o w)

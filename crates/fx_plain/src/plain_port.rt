@@ -31,7 +31,7 @@ impl<J: CodeBrand> Model for PlainPort<J> {
     ghost view = { λ p. record {
       number = p.id;
       beginning = p.begin.value;
-      rest = record { next = p.next.value; end = p.begin.value.end };
+      range = record { next = p.next.value; end = p.begin.value.end };
       put_counts = p.puts.of.items;
       has_finished = p.has_finished.value;
     } };

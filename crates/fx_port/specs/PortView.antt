@@ -30,7 +30,7 @@ abbrev pub facts_of : List Node → PortView → Facts
 facts_of nodes p = record {
   number = p.words.own.id;
   beginning = beginning_in nodes p.words.own.begin;
-  rest = record { next = p.words.own.next; end = p.words.own.end };
+  range = record { next = p.words.own.next; end = p.words.own.end };
   has_finished = is_some p.words.own.ended;
   puts = puts_in p.passes;
 }

@@ -18,7 +18,7 @@ pub struct LockedPort<'a, R: Wait, J: CodeBrand> {
     alloc: Global,
     id: u32,
     begin: Begin,
-    rest: u32,
+    next: u32,
     told: Option<Outcome>,
     puts: u64,
     of: PhantomData<J>,
@@ -35,7 +35,7 @@ impl<'a, R: Wait, J: CodeBrand> LockedPort<'a, R, J> {
     ) -> LockedPort<'a, R, J>
         ensures id { result.id ≡ id }
         ensures begin { result.begin ≡ begin }
-        ensures rest { result.rest ≡ begin.next }
+        ensures next { result.next ≡ begin.next }
         ensures going { result.told ≡ None }
         ensures puts { result.puts ≡ 0 }
     {
@@ -44,7 +44,7 @@ impl<'a, R: Wait, J: CodeBrand> LockedPort<'a, R, J> {
             board,
             alloc,
             id,
-            rest: begin.next,
+            next: begin.next,
             begin,
             told: None,
             puts: 0,
@@ -72,7 +72,7 @@ impl<'a, R: Wait, J: CodeBrand> Port for LockedPort<'a, R, J> {
     ghost facts = { λ p. record {
       number = p.id;
       beginning = p.begin;
-      rest = record { next = p.rest; end = p.begin.end };
+      range = record { next = p.next; end = p.begin.end };
       has_finished = is_some p.told;
       puts = p.puts;
     } };
@@ -135,7 +135,7 @@ impl<'a, R: Wait, J: CodeBrand> Port for LockedPort<'a, R, J> {
             id,
             begin.copied(self.alloc)?,
         );
-        self.rest = begin.end;
+        self.next = begin.end;
         Ok(child)
     }
 

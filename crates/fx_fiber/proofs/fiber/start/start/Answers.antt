@@ -97,5 +97,5 @@ returns-clause-kept g c =
     (Started s.next begin ∷ []) (begin, begins, refl) k (start_makes g.P.Port.code s _ _ _ _ at.at at.free m begin begun.named begun.begin)
     (start_sound g.P.Port.code s _ _ _ _ at.at m begin begun.named) c.push_reserved.ensures.items
     own.deed (ap (λ (f : Facts). f.beginning) own.facts) (ap (λ (f : Facts). f.has_finished) own.facts ∙ c.requires.going)
-    (ap (λ (f : Facts). f.rest) own.facts ∙ ap (range_after begin) k.numbers ∙ start_range g.P.Port.code s _ _ _ _ at.at m begin begun.named)
+    (ap (λ (f : Facts). f.range) own.facts ∙ ap (range_after begin) k.numbers ∙ start_range g.P.Port.code s _ _ _ _ at.at m begin begun.named)
     (ap (λ (f : Facts). f.puts) own.facts)
