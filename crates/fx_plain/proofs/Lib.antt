@@ -34,7 +34,6 @@ pub mod AwaitedOutcomes
 pub mod ClassSets
 pub mod WaitedQueues
 pub mod WaiterBlocks
-pub mod Candidates
 pub mod Waking
 pub mod WorldLaws
 pub mod WorldSteps

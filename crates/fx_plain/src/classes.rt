@@ -5,11 +5,10 @@ ghost use Rattle.fx_plain.specs.NumberSet.{IsLeastOf, IsLeastFrom};
 ghost use Rattle.fx_plain.specs.PlainQueue.{have_room, have_element};
 ghost use Rattle.fx_plain.specs.Classes.{waits_for_end, class_at_end, is_ready};
 ghost use Rattle.fx_plain.specs.ClassSets.{class_at, with_request, with_end};
-ghost use Rattle.fx_plain.specs.WaiterBlocks.{IsCandidate};
 
 use crate::class::Class;
 use crate::class_sets::{ClassSets, lesser};
-use crate::number_set::{BITS, NUMBERS};
+use crate::number_set::NUMBERS;
 use crate::plain_queue::PlainQueue;
 use crate::waiter_blocks::WaiterBlocks;
 use fx_fiber::Source;
@@ -140,34 +139,25 @@ impl Classes {
         }
     }
 
-    /// The next one from this number on that may wait for the end of the fiber: before it nobody does. It is
-    /// the first that waits for an outcome, from the next block on in which somebody ever waited for that end,
-    /// and is found in a few steps, whatever the number of fibers.
-    fn next_candidate(&self, fiber: u32, from: u32) -> Option<u32>
-        ensures { IsCandidate self.now.of fiber from result }
-    {
-        let block = self.blocks.next_marked(fiber, from / BITS)?;
-        self.sets.least_for_outcome(from.max(BITS * block))
-    }
-
     /// The least number from this one on of a fiber that waits for the end of that fiber.
     fn next_waiter(&self, fiber: u32, from: u32) -> Option<u32>
         ensures next { IsLeastFrom from (λ g. waits_for_end fiber (class_at self.now.of g)) result }
         ensures few { IfSome result (λ waiter. waiter < NUMBERS) }
     {
         let mut at = from;
-        while let Some(candidate) = self.next_candidate(fiber, at) {
-            if self.of[candidate as usize].waits_for_end(fiber) {
-                return Some(candidate);
+        while let Some(marked) = self.blocks.next_marked(fiber, at) {
+            if self.class(marked).waits_for_end(fiber) {
+                return Some(marked);
             }
-            at = candidate + 1;
+            at = marked + 1;
         }
         None
     }
 
-    /// Those that wait for the end of the fiber may step. For each block of 64 numbers in which somebody ever
-    /// waited for this end, it looks at those of the block that wait for outcomes, and at one past them,
-    /// whatever the number of fibers. For a number of no fiber it looks at all that wait for outcomes.
+    /// Those that wait for the end of the fiber may step. In each block of 64 numbers in which somebody ever
+    /// waited for this end, it looks at the places of those who did, in whatever block: with one, at that one
+    /// alone, and with more at no more than the 64 of each of their blocks, whatever the number of fibers. For
+    /// a number of no fiber it looks at all numbers.
     fn wake(&mut self, fiber: u32)
         ensures { self.new ≡ record self.old { of = map (class_at_end fiber) self.old.of } }
     {
