@@ -20,6 +20,13 @@ unstarted n f = elim (cases_lt f n) [
 ]
 
 module _ (classes : List Class) (f : ℕ) where
+  -- who passes a test that no unstarted fiber passes stands in the list
+  pub stands_within : (test : Class → Bool) → test Unstarted ≡ false → test (class_at classes f) ≡ true → f < length classes
+  stands_within test not some = elim (cases_lt f (length classes)) [
+    | inl lt ↦ lt
+    | inr past ↦ absurd (let e : true ≡ false = sym some ∙ ap test (get_or_past classes f Unstarted past) ∙ not in cc)
+  ]
+
   -- one of them is changed
   pub class_at_set : (k : Class) → f < length classes → (g : ℕ) → class_at (slice_set classes f k) g ≡ with_at f k (class_at classes) g
   class_at_set k lt g = elim (cases_eq g f) [

@@ -49,6 +49,22 @@ first_from n k fits some = record { within = within; set = set; none = none }
     none : (i : ℕ) → k ≤ i → i < k + place → bit_at n i ≡ 0
     none i le lt = bit_from n k i le ∙ low.2 (i - k) (omega arith)
 
+-- the first bit of a word from a place on
+module _ (n k : ℕ) (fits : n < 2 ^ 64) where
+  pub none_past : 64 ≤ k → IsLeastFrom k (λ b. bit_at n b == 1) None
+  none_past past i le = ap (λ (x : ℕ). x == 1) (bit_at_above n 64 i fits (omega arith))
+
+  pub none_left : n / 2 ^ k ≡ 0 → IsLeastFrom k (λ b. bit_at n b == 1) None
+  none_left zero i le = ap (λ (x : ℕ). x == 1) (none_from n k i zero le)
+
+  pub first_left : (n / 2 ^ k ≡ 0 → ⊥) → IsLeastFrom k (λ b. bit_at n b == 1) (Some (k + trailing_zeros w64 (n / 2 ^ k)))
+  first_left some =
+      let first = first_from n k fits (omega arith) in
+      (omega arith, ap (λ (x : ℕ). x == 1) first.set, λ i le lt. ap (λ (x : ℕ). x == 1) (first.none i le lt))
+
+  pub first_within : (n / 2 ^ k ≡ 0 → ⊥) → k + trailing_zeros w64 (n / 2 ^ k) < 64
+  first_within some = let first = first_from n k fits (omega arith) in first.within
+
 module _ (ws : List ℕ) where
   is_bit : (n w b x : ℕ) → n / 64 ≡ w → n % 64 ≡ b → bit_at (slice_index ws w) b ≡ x → is_member ws n ≡ (x == 1)
   is_bit n w b x e f g =

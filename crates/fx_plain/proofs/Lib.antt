@@ -33,7 +33,7 @@ pub mod LeastFrom
 pub mod AwaitedOutcomes
 pub mod ClassSets
 pub mod WaitedQueues
-pub mod WaiterSpans
+pub mod WaiterBlocks
 pub mod Waking
 pub mod WorldLaws
 pub mod WorldSteps

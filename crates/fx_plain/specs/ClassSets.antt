@@ -1,7 +1,7 @@
 -- A list of classes by fiber number, and the sets of numbers that stand for it.
 use Rattle.std.specs.Prelude.{◌≡◌, ℕ, ◌<◌, ◌==◌, ◌||◌, ◌&&◌, Bool, true, false, if◌then◌else◌, List, length, map, slice_index_or, slice_set, ◌≤◌}
 use Rattle.std.specs.Prelude.{Option, MatchOption}
-use Rattle.fx_model.specs.declared.source.Source.TheVariants.{Outcome, Either, Room, Element}
+use Rattle.fx_model.specs.declared.source.Source.TheVariants.{Room, Element}
 use Rattle.fx_plain.specs.declared.class.Class.{Class}
 use Rattle.fx_plain.specs.declared.class.Class.TheVariants.{Unstarted, Able, Waits, Over}
 use Rattle.fx_plain.specs.Classes.{class_requested, class_at_end}
@@ -25,10 +25,9 @@ with_request f classes = slice_set classes f (class_requested (class_at classes 
 abbrev pub with_end : ℕ → List Class → List Class
 with_end f classes = slice_set (map (class_at_end f) classes) f Over
 
--- a set that is kept: those who are able, those who wait for an outcome, and by queue those who wait for room in it, and for an element of it
+-- a set that is kept: those who are able, and by queue those who wait for room in it, and for an element of it
 pub data Kind : Type 0 where
   AreAble : Kind
-  ForOutcomes : Kind
   ForRoom : ℕ → Kind
   ForElement : ℕ → Kind
 
@@ -36,11 +35,6 @@ pub data Kind : Type 0 where
 abbrev pub is_able : Class → Bool
 is_able Able = true
 is_able _ = false
-
-abbrev pub waits_for_outcome : Class → Bool
-waits_for_outcome (Waits (Outcome g)) = true
-waits_for_outcome (Waits (Either g h)) = true
-waits_for_outcome _ = false
 
 abbrev pub waits_for_room : ℕ → Class → Bool
 waits_for_room q (Waits (Room r)) = r == q
@@ -52,21 +46,18 @@ waits_for_element q _ = false
 
 abbrev pub passes : Kind → Class → Bool
 passes AreAble k = is_able k
-passes ForOutcomes k = waits_for_outcome k
 passes (ForRoom q) k = waits_for_room q k
 passes (ForElement q) k = waits_for_element q k
 
 -- the sets as they are kept, each by its words
 pub record SetsView : Type 0 where
   pub able : List ℕ
-  pub for_outcomes : List ℕ
   pub for_room : List (List ℕ)
   pub for_element : List (List ℕ)
 
 -- the number is in the set of that kind
 abbrev pub members : SetsView → Kind → ℕ → Bool
 members sets AreAble f = is_member sets.able f
-members sets ForOutcomes f = is_member sets.for_outcomes f
 members sets (ForRoom q) f = is_member_of sets.for_room q f
 members sets (ForElement q) f = is_member_of sets.for_element q f
 

@@ -8,7 +8,7 @@ pub mod PutCounts
 pub mod OnTheWay
 pub mod Classes
 pub mod ClassSets
-pub mod WaiterSpans
+pub mod WaiterBlocks
 pub mod PlainCalls
 pub mod World
 pub mod WorldClasses

@@ -1,6 +1,6 @@
 //! The sets of fibers by their classes.
 ghost use Rattle.std.specs.Prelude.{◌≡◌, ℕ, ◌<◌, true, false, IfOk, IfSome, length};
-ghost use Rattle.fx_plain.specs.NumberSet.{is_member, is_member_of, IsLeastOf, IsLeastFrom, lesser};
+ghost use Rattle.fx_plain.specs.NumberSet.{is_member, is_member_of, IsLeastOf, lesser};
 ghost use Rattle.std.specs.Bool.{OnTrue};
 ghost use Rattle.fx_plain.specs.ClassSets.{Kind, members, AreWith, is_ready_there};
 ghost use Rattle.fx_plain.specs.ClassSets.{NobodyWaitsAt, AreWaitedAt, IsNextWaited};
@@ -43,13 +43,12 @@ fn forget_left(waited: &mut NumberSet, for_room: &NumberSets, for_element: &Numb
     }
 }
 
-/// The numbers of the fibers that are able, of those that wait for an outcome, and by queue of those that
-/// wait there for room and for an element; and the queues at which somebody waits, so that no other need
-/// be looked at. No call but the first takes memory.
+/// The numbers of the fibers that are able, and by queue of those that wait there for room and for an
+/// element; and the queues at which somebody waits, so that no other need be looked at. No call but the
+/// first takes memory.
 #[derive(Drop)]
 pub(crate) struct ClassSets {
     able: NumberSet,
-    for_outcomes: NumberSet,
     for_room: NumberSets,
     for_element: NumberSets,
     waited: NumberSet,
@@ -64,7 +63,6 @@ impl Model for ClassSets {
 
     ghost view = { λ s. record {
       able = s.able;
-      for_outcomes = s.for_outcomes;
       for_room = s.for_room;
       for_element = s.for_element;
     } };
@@ -81,7 +79,6 @@ impl ClassSets {
     {
         Ok(ClassSets {
             able: NumberSet::new(),
-            for_outcomes: NumberSet::new(),
             for_room: NumberSets::new(alloc, queues)?,
             for_element: NumberSets::new(alloc, queues)?,
             waited: NumberSet::new(),
@@ -95,9 +92,6 @@ impl ClassSets {
     {
         match class {
             Class::Able => self.able.insert(fiber),
-            Class::Waits(Source::Outcome(_) | Source::Either(..)) => {
-                self.for_outcomes.insert(fiber);
-            }
             Class::Waits(Source::Room(queue)) => {
                 self.for_room.insert(queue, fiber);
                 self.waited.insert(u32::from(queue));
@@ -106,7 +100,9 @@ impl ClassSets {
                 self.for_element.insert(queue, fiber);
                 self.waited.insert(u32::from(queue));
             }
-            Class::Unstarted | Class::Waits(Source::Nothing) | Class::Over => {}
+            Class::Unstarted
+            | Class::Waits(Source::Nothing | Source::Outcome(_) | Source::Either(..))
+            | Class::Over => {}
         }
     }
 
@@ -117,9 +113,6 @@ impl ClassSets {
     {
         match class {
             Class::Able => self.able.remove(fiber),
-            Class::Waits(Source::Outcome(_) | Source::Either(..)) => {
-                self.for_outcomes.remove(fiber);
-            }
             Class::Waits(Source::Room(queue)) => {
                 self.for_room.remove(queue, fiber);
                 forget_left(&mut self.waited, &self.for_room, &self.for_element, queue);
@@ -128,7 +121,9 @@ impl ClassSets {
                 self.for_element.remove(queue, fiber);
                 forget_left(&mut self.waited, &self.for_room, &self.for_element, queue);
             }
-            Class::Unstarted | Class::Waits(Source::Nothing) | Class::Over => {}
+            Class::Unstarted
+            | Class::Waits(Source::Nothing | Source::Outcome(_) | Source::Either(..))
+            | Class::Over => {}
         }
     }
 
@@ -137,13 +132,6 @@ impl ClassSets {
         ensures { IsLeastOf (is_member self.now.able) result }
     {
         self.able.least()
-    }
-
-    /// The least number from this one on of a fiber that waits for an outcome.
-    pub fn least_for_outcome(&self, from: u32) -> Option<u32>
-        ensures { IsLeastFrom from (is_member self.now.for_outcomes) result }
-    {
-        self.for_outcomes.least_from(from)
     }
 
     /// The least number from this one on of a queue at which somebody may wait.

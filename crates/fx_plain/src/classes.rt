@@ -1,43 +1,43 @@
 //! The classes of all fibers.
-ghost use Rattle.std.specs.Prelude.{◌≡◌, ◌<◌, ◌≤◌, IfOk, length, map, replicate, slice_set};
+ghost use Rattle.std.specs.Prelude.{◌≡◌, ◌<◌, ◌≤◌, IfOk, IfSome, length, map, replicate, slice_set};
 ghost use Rattle.fx_plain.specs.declared.class.Class.TheVariants.{Unstarted, Able, Waits};
-ghost use Rattle.fx_plain.specs.NumberSet.{IsLeastOf};
+ghost use Rattle.fx_plain.specs.NumberSet.{IsLeastOf, IsLeastFrom};
 ghost use Rattle.fx_plain.specs.PlainQueue.{have_room, have_element};
-ghost use Rattle.fx_plain.specs.Classes.{class_at_end, is_ready};
+ghost use Rattle.fx_plain.specs.Classes.{waits_for_end, class_at_end, is_ready};
 ghost use Rattle.fx_plain.specs.ClassSets.{class_at, with_request, with_end};
 
 use crate::class::Class;
 use crate::class_sets::{ClassSets, lesser};
 use crate::number_set::NUMBERS;
 use crate::plain_queue::PlainQueue;
-use crate::waiter_spans::WaiterSpans;
+use crate::waiter_blocks::WaiterBlocks;
 use fx_fiber::Source;
 use fx_term::Memory;
 use std::alloc::Global;
 use std::marker::Model;
 
 /// The class of each fiber, by its number. The sets beside them spare a search for who is ready, and with
-/// the spans one for those whom an end wakes. A number of no fiber changes nothing, but that an end wakes
+/// the blocks one for those whom an end wakes. A number of no fiber changes nothing, but that an end wakes
 /// who waits for it. No call but the first takes memory.
 #[derive(Drop)]
 pub(crate) struct Classes {
     of: Vec<Class>,
     sets: ClassSets,
-    spans: WaiterSpans,
+    blocks: WaiterBlocks,
 }
 
 impl Model for Classes {
     ghost use Rattle.std.specs.Prelude.{◌≤◌, length};
     ghost use Rattle.fx_plain.specs.declared.number_set.TheConstants.{NUMBERS};
     ghost use Rattle.fx_plain.specs.ClassSets.{ClassesView, AreSets};
-    ghost use Rattle.fx_plain.specs.WaiterSpans.{AreSpanned};
+    ghost use Rattle.fx_plain.specs.WaiterBlocks.{AreMarkedFor};
 
     ghost Value = { ClassesView };
 
     ghost view = { λ c. record { of = c.of.items; queues = length c.sets.for_room } };
 
     ghost invariant = { λ c. (length c.of.items ≤ NUMBERS) × AreSets c.of.items c.sets
-        × AreSpanned c.of.items c.spans };
+        × AreMarkedFor c.of.items c.blocks };
 }
 
 impl Classes {
@@ -50,7 +50,7 @@ impl Classes {
         Ok(Classes {
             of: vec![in alloc; Class::Unstarted; total as usize]?,
             sets: ClassSets::new(alloc, queues)?,
-            spans: WaiterSpans::new(alloc, total)?,
+            blocks: WaiterBlocks::new(alloc, total)?,
         })
     }
 
@@ -98,7 +98,7 @@ impl Classes {
         self.sets.remove(fiber, self.of[fiber as usize]);
         self.of[fiber as usize] = class;
         self.sets.insert(fiber, class);
-        self.spans.insert(fiber, class);
+        self.blocks.insert(fiber, class);
     }
 
     /// The fiber may step.
@@ -139,21 +139,31 @@ impl Classes {
         }
     }
 
-    /// Those that wait for the end of the fiber may step. It looks only at those that wait for outcomes
-    /// from the least to the greatest number that ever waited for this end: with one, at that one alone.
-    /// For a number of no fiber it looks at all that wait for outcomes.
+    /// The least number from this one on of a fiber that waits for the end of that fiber.
+    fn next_waiter(&self, fiber: u32, from: u32) -> Option<u32>
+        ensures next { IsLeastFrom from (λ g. waits_for_end fiber (class_at self.now.of g)) result }
+        ensures few { IfSome result (λ waiter. waiter < NUMBERS) }
+    {
+        let mut at = from;
+        while let Some(marked) = self.blocks.next_marked(fiber, at) {
+            if self.class(marked).waits_for_end(fiber) {
+                return Some(marked);
+            }
+            at = marked + 1;
+        }
+        None
+    }
+
+    /// Those that wait for the end of the fiber may step. In each block of 64 numbers in which somebody ever
+    /// waited for this end, it looks at the places of those who did, in whatever block: with one, at that one
+    /// alone, and with more at no more than the 64 of each of their blocks, whatever the number of fibers. For
+    /// a number of no fiber it looks at all numbers.
     fn wake(&mut self, fiber: u32)
         ensures { self.new ≡ record self.old { of = map (class_at_end fiber) self.old.of } }
     {
-        let span = self.spans.span(fiber);
-        let mut from = span.first;
-        while let Some(waiter) = self.sets.least_for_outcome(from) {
-            if waiter >= span.past {
-                break;
-            }
-            if self.of[waiter as usize].waits_for_end(fiber) {
-                self.become_able(waiter);
-            }
+        let mut from = 0;
+        while let Some(waiter) = self.next_waiter(fiber, from) {
+            self.become_able(waiter);
             from = waiter + 1;
         }
     }

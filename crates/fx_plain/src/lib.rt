@@ -66,7 +66,7 @@ mod plain_queue;
 mod plain_world;
 mod put_counts;
 mod text_replay;
-mod waiter_spans;
+mod waiter_blocks;
 
 pub use chosen_run::{Halt, replay, replay_to_halt};
 pub use fx_report::{

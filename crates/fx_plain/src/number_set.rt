@@ -6,7 +6,7 @@ ghost use Rattle.fx_term.specs.Maps.{with_at};
 use std::marker::Model;
 
 /// The bits of a word.
-const BITS: u32 = 64;
+pub(crate) const BITS: u32 = 64;
 
 /// The words of a set: as many as a word has bits, so that one word above them has a bit for each.
 const WORDS: usize = 64;

@@ -1,12 +1,10 @@
 use Rattle.std.proofs.Common.{◌≡◌, ◌-◌}
-use Rattle.fx_plain.specs.WaiterSpans.{IsSpanOf}
 use Rattle.fx_plain.proofs.Waking.{AreWoken}
 use Rattle.fx_plain.proofs.classes.Classes.wake.Given as goal
 
--- who waits for this end is in its span, and those below have been woken
+-- those with lower numbers have been woken
 abbrev pub invariant-loop-waiter : goal.invariant-loop-waiter
-invariant-loop-waiter l =
-    IsSpanOf l.initial.self.of l.fiber l.span × AreWoken l.fiber l.initial.self.of l.from l.self.of × (l.self.queues ≡ l.initial.self.queues)
+invariant-loop-waiter l = AreWoken l.fiber l.initial.self.of l.from l.self.of × (l.self.queues ≡ l.initial.self.queues)
 
 abbrev pub decreases-loop-waiter : goal.decreases-loop-waiter
 decreases-loop-waiter l = 4096 - l.from
