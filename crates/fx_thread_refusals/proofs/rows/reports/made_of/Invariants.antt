@@ -1,4 +1,4 @@
-use Rattle.fx_thread_refusals.proofs.rows.reports.reports_of.Given as goal
+use Rattle.fx_thread_refusals.proofs.rows.reports.made_of.Given as goal
 
-abbrev pub ghosts-reports : goal.ghosts-reports
-ghosts-reports a = record { nodes = a.script.now.code.nodes }
+abbrev pub ghosts-made : goal.ghosts-made
+ghosts-made a = record { nodes = a.script.now.code.nodes }
