@@ -68,13 +68,14 @@ fn shared<R: Print + Wait + AllocGlobal>(rt: &R, tally: &mut Tally<R>) {
 }
 
 /// Those of what the ports of fibers have.
-fn port_parts<R: Print + AllocGlobal>(rt: &R, tally: &mut Tally<R>) {
+fn port_parts<R: Print + Wait + AllocGlobal>(rt: &R, tally: &mut Tally<R>) {
     let alloc = rt.alloc();
     tally.row(
         "open_queues",
         "2 queues",
         &Anew(ports::OpenQueues { alloc }),
     );
+    tally.row("close_queues", "2 queues", &Anew(ports::CloseQueues { rt }));
     tally.row(
         "Sources::new",
         "3 fibers",

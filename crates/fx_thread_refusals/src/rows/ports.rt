@@ -1,11 +1,12 @@
 //! What the ports of fibers are made of, and what they share.
 ghost use Rattle.std.specs.Prelude.{◌≡◌};
 
-use fx_port::{Notes, RunBrand, Sources, open_queues};
+use fx_port::{Notes, RunBrand, Sources, close_queues, open_queues};
 use fx_refusing::{Answer, Call, Refuser, whole_where};
 use fx_term::Memory;
-use std::alloc::Global;
+use std::alloc::{AllocGlobal, Global};
 use std::marker::Brand;
+use std::sync::Wait;
 
 #[derive(Clone, Copy)]
 pub struct OpenQueues {
@@ -21,6 +22,29 @@ impl Call for OpenQueues {
             Ok((queues, _passes)) => whole_where(queues.len() == 2),
             Err(Memory) => Answer::Memory,
         }
+    }
+}
+
+#[derive_where(Clone, Copy)]
+pub struct CloseQueues<'a, R> {
+    pub rt: &'a R,
+}
+
+impl<'a, R: Wait + AllocGlobal> Call for CloseQueues<'a, R> {
+    fn make(&mut self, refuser: &Refuser) -> Answer {
+        closed(self.rt, self.rt.alloc(), refuser).unwrap_or(Answer::Other)
+    }
+}
+
+/// What 2 queues answer as they are closed.
+fn closed<R: Wait>(rt: &R, alloc: Global, refuser: &Refuser) -> Result<Answer, Memory> {
+    let (queues, passes) = open_queues(alloc, &[1, 8], 3)?;
+    refuser.go_on();
+    let left = close_queues(rt, alloc, queues, passes);
+    refuser.hold();
+    match left {
+        Ok(left) => Ok(whole_where(left.len() == 2)),
+        Err(Memory) => Ok(Answer::Memory),
     }
 }
 
