@@ -1,7 +1,7 @@
 -- Marks, and the numbers that are marked.
 use Rattle.std.proofs.Common.{◌≡◌, ◌≢◌, ℕ, ◌+◌, ◌<◌, ◌≤◌, Bool, true, false, List, [], ◌∷◌, ◌++◌, ◌⊎◌}
-use Rattle.std.proofs.Common.{inl, inr, ⊎_elim, ◌||◌, length, get_or, set, take, replicate, zero, suc, refl, sym, ◌∙◌, ap, subst, arith, add-one}
-use Rattle.std.proofs.lemmas.List.{get_or-set_same, get_or-set_other, length-replicate, take_all}
+use Rattle.std.proofs.Common.{inl, inr, ⊎_elim, ◌||◌, length, get_or, set, take, replicate, zero, suc, refl, sym, ◌∙◌, ap, subst, arith}
+use Rattle.std.proofs.lemmas.List.{get_or-set_same, get_or-set_other, length-replicate}
 use mathlib.Core.Logic.{dite}
 use native.Mathlib.Decide.{ℕ_discrete}
 use Rattle.fx_term.specs.Lists.{Among}
@@ -201,9 +201,9 @@ joined_unmarked_all [] n = refl
 joined_unmarked_all (m ∷ marks) zero = refl
 joined_unmarked_all (m ∷ marks) (suc n) = λ i. or_false m i ∷ joined_unmarked_all marks n i
 
-pub joined_whole : (marks row : List Bool) (n : ℕ) → joined_marks marks (take (length row) (laid_marks n row)) ≡ joined_marks marks (laid_marks n row)
-joined_whole marks [] n = joined_none marks ∙ sym (joined_unmarked_all marks n)
-joined_whole marks (m ∷ row) n = ap (joined_marks marks) (take_all (length (m ∷ row)) (m ∷ row) (omega arith))
+pub joined_nothing : (marks row : List Bool) (n : ℕ) → length row ≡ 0 → joined_marks marks (laid_marks n row) ≡ marks
+joined_nothing marks [] n e = joined_unmarked_all marks n
+joined_nothing marks (m ∷ row) n e = absurd (omega (arith, e))
 
 -- what is marked in the joined row
 pub joined_from : (marks other : List Bool) (f : ℕ) → is_marked (joined_marks marks other) f ≡ true

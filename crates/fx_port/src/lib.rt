@@ -30,7 +30,8 @@
 //!    taken out that was not marked. That the right fibers are marked no clause says, since who waits
 //!    stands behind locks.
 //! 5. The port of a child has the range and the beginning that it is given, and has done nothing.
-//! 6. Of the calls of a port `start` alone takes memory, and has all of it before it changes anything.
+//! 6. Of the calls of a port `start` and `outside` alone take memory, and have all of it before they change
+//!    anything.
 //! 7. At the end of a run ports are taken apart, and the seat and the passes of one fiber take those of the
 //!    others in, one after the other. Then the words and the queues can be given up.
 #![tactic(auto)]

@@ -55,31 +55,52 @@ impl Marks {
         ensures marked { OnOk result (self.new ≡ slice_set self.old id true) }
         ensures unchanged { OnErr result (self.new ≡ self.old) }
     {
-        self.mark_at(id as usize)
-    }
-
-    /// Marks what the other row has marked, where it is below the bound.
-    pub fn join(&mut self, other: &Marks) -> Result<(), Memory>
-        ensures { OnOk result (self.new ≡ joined_marks self.old other.now) }
-    {
-        for place in 0..other.row.len() {
-            if other.row[place] {
-                self.mark_at(place)?;
-            }
-        }
+        lay(&mut self.row, self.numbers)?;
+        set(&mut self.row, id as usize);
         Ok(())
     }
 
-    fn mark_at(&mut self, place: usize) -> Result<(), Memory>
-        ensures marked { OnOk result (self.new ≡ slice_set self.old place true) }
+    /// Marks what the other row has marked, where it is below the bound. Where the first mark is refused memory,
+    /// none is made.
+    pub fn join(&mut self, other: &Marks) -> Result<(), Memory>
+        ensures joined { OnOk result (self.new ≡ joined_marks self.old other.now) }
         ensures unchanged { OnErr result (self.new ≡ self.old) }
     {
-        if self.row.is_empty() {
-            self.row = vec![in *self.row.allocator(); false; self.numbers as usize]?;
-        }
-        if place < self.row.len() {
-            self.row[place] = true;
+        if !other.row.is_empty() {
+            lay(&mut self.row, self.numbers)?;
+            add(&mut self.row, &other.row);
         }
         Ok(())
+    }
+}
+
+/// Lays an empty row, in which no number is marked.
+fn lay(row: &mut Vec<bool>, numbers: u32) -> Result<(), Memory>
+    ensures laid { OnOk result (row.new.items ≡ laid_marks numbers row.old.items) }
+    ensures unchanged { OnErr result (row.new.items ≡ row.old.items) }
+{
+    if row.is_empty() {
+        *row = vec![in *row.allocator(); false; numbers as usize]?;
+    }
+    Ok(())
+}
+
+/// Marks that place, where the row has it.
+fn set(row: &mut [bool], place: usize)
+    ensures { row.new ≡ slice_set row.old place true }
+{
+    if place < row.len() {
+        row[place] = true;
+    }
+}
+
+/// Marks what the other row has marked, where the row has its place.
+fn add(row: &mut [bool], other: &[bool])
+    ensures { row.new ≡ joined_marks row.old other.now }
+{
+    for place in 0..other.len() {
+        if other[place] {
+            set(row, place);
+        }
     }
 }

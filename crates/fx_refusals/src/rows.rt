@@ -1,10 +1,12 @@
 //! The rows, a line each.
 
+mod numbers;
 mod places;
 mod plain;
 mod texts;
 
 use fx_refusing::{Anew, Part, Tally, WORKED, Worked};
+use numbers::{NumbersOf, Of};
 use plain::Text;
 use std::alloc::AllocGlobal;
 use std::random::RandomSource;
@@ -24,6 +26,13 @@ fn parts<R: Print + AllocGlobal>(rt: &R, tally: &mut Tally<R>) {
     tally.row("Masks::enter", "13 regions", &places::Enter { alloc });
     tally.row("Masks::seal", "12 seals", &places::Seal { alloc });
     tally.row("Frames::push", "12 contexts", &places::Push { alloc });
+    for (call, of) in [
+        ("Registers::bind", Of::Bind),
+        ("Registers::copied", Of::Copied),
+        ("Begin::copied", Of::Begin),
+    ] {
+        tally.row(call, "a number", &Anew(NumbersOf { alloc, of }));
+    }
     tally.row("Code::build", "a join", &Anew(texts::Build { alloc }));
     tally.row("schedule", "7 picks", &Anew(texts::Schedule { alloc }));
     tally.row(

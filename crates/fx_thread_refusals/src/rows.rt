@@ -3,7 +3,10 @@
 mod alone;
 mod commands;
 mod lots;
+mod marks;
 mod opened;
+mod outside;
+mod ports;
 mod reports;
 mod runs;
 mod steps;
@@ -13,10 +16,13 @@ mod whole;
 
 use commands::{FAULTS, Said};
 use fx_refusing::{Anew, Part, Tally, WORKED, Worked};
+use marks::MarksOf;
+use outside::{By, LOOP};
 use std::alloc::AllocGlobal;
 use std::random::RandomSource;
 use std::sync::Wait;
 use std::thread::Threads;
+use steps::{Made, OnThreads};
 use whole::{Whole, requests};
 
 /// Tries all rows.
@@ -25,6 +31,8 @@ pub fn all<R: Print + Wait + Threads + Sync + RandomSource + AllocGlobal + Drop>
     tally: &mut Tally<R>,
 ) {
     shared(rt, tally);
+    port_parts(rt, tally);
+    outsides(rt, tally);
     hands(rt, tally);
     for worked in &WORKED {
         fibers(rt, tally, worked);
@@ -59,6 +67,44 @@ fn shared<R: Print + Wait + AllocGlobal>(rt: &R, tally: &mut Tally<R>) {
     tally.row("Lot::empty", "a fiber", &Anew(lots::LotOf { rt, of }));
 }
 
+/// Those of what the ports of fibers have.
+fn port_parts<R: Print + Wait + AllocGlobal>(rt: &R, tally: &mut Tally<R>) {
+    let alloc = rt.alloc();
+    tally.row(
+        "open_queues",
+        "2 queues",
+        &Anew(ports::OpenQueues { alloc }),
+    );
+    tally.row("close_queues", "2 queues", &Anew(ports::CloseQueues { rt }));
+    tally.row(
+        "Sources::new",
+        "3 fibers",
+        &Anew(ports::NewSources { alloc }),
+    );
+    tally.row("Notes::new", "3 fibers", &Anew(ports::NewNotes { alloc }));
+    let of = marks::Of::Mark;
+    tally.row("Marks::mark", "3 numbers", &MarksOf { alloc, of });
+    let of = marks::Of::Join;
+    tally.row("Marks::join", "3 numbers", &MarksOf { alloc, of });
+}
+
+/// Those that request a fiber from outside.
+fn outsides<R: Print + Wait + RandomSource + AllocGlobal>(rt: &R, tally: &mut Tally<R>) {
+    let text = LOOP;
+    let made = Made::Outside(By::Fiber);
+    tally.row(
+        "Fiber::outside over ThreadPort",
+        "a loop",
+        &OnThreads { rt, text, made },
+    );
+    let made = Made::Outside(By::Gate);
+    tally.row(
+        "gated_turn over ThreadPort",
+        "a loop",
+        &OnThreads { rt, text, made },
+    );
+}
+
 /// Those of the deques of workers.
 fn hands<R: Print + Wait + RandomSource + AllocGlobal + Drop>(rt: &R, tally: &mut Tally<R>) {
     let alloc = rt.alloc();
@@ -77,17 +123,18 @@ fn fibers<R: Print + Wait + RandomSource + AllocGlobal>(
     worked: &'static Worked,
 ) {
     let name = worked.name;
-    let part = Part::Step;
+    let text = worked.text;
+    let made = Made::Steps(Part::Step);
     tally.row(
         "Fiber::step over ThreadPort",
         name,
-        &steps::ThreadSteps { rt, worked, part },
+        &OnThreads { rt, text, made },
     );
-    let part = Part::Turn;
+    let made = Made::Steps(Part::Turn);
     tally.row(
         "poll of Turn over ThreadPort",
         name,
-        &steps::ThreadSteps { rt, worked, part },
+        &OnThreads { rt, text, made },
     );
     tally.row("work", name, &Anew(alone::WorkAlone { rt, worked }));
 }
@@ -95,10 +142,17 @@ fn fibers<R: Print + Wait + RandomSource + AllocGlobal>(
 /// Those that go from the fibers of a script to a report.
 fn reported<R: Print + AllocGlobal>(rt: &R, tally: &mut Tally<R>, worked: &'static Worked) {
     let alloc = rt.alloc();
+    let of = reports::Of::Report;
     tally.row(
         "report",
         worked.name,
-        &Anew(reports::ReportOf { alloc, worked }),
+        &Anew(reports::FibersOf { alloc, worked, of }),
+    );
+    let of = reports::Of::Lost;
+    tally.row(
+        "test_for_lost",
+        worked.name,
+        &Anew(reports::FibersOf { alloc, worked, of }),
     );
 }
 

@@ -1,4 +1,4 @@
-//! The report of fibers that are given by hand.
+//! The report of fibers that are given by hand, and the test for lost ones.
 ghost use Rattle.std.specs.Prelude.{◌≡◌, ◌<◌, All, IfOk};
 ghost use Rattle.fx_term.specs.Script.{total};
 ghost use Rattle.fx_fiber.specs.Bare.{BareView};
@@ -9,16 +9,24 @@ ghost use Rattle.fx_run.specs.Reported.{RanCode, AreAscending};
 use fx_fiber::{Bare, Fiber, FiberReport, Report};
 use fx_plain::{PlainWorld, replay};
 use fx_refusing::{Answer, Call, Refuser, Worked, Wrong, at_rest, parted, whole_where};
-use fx_run::{RunFault, report};
+use fx_run::{RunFault, report, test_for_lost};
 use fx_term::{CodeBrand, Item};
 use fx_text::{Script, parse};
 use std::alloc::Global;
 use std::marker::Brand;
 
+/// Which call is refused memory.
 #[derive(Clone, Copy)]
-pub struct ReportOf {
+pub enum Of {
+    Report,
+    Lost,
+}
+
+#[derive(Clone, Copy)]
+pub struct FibersOf {
     pub alloc: Global,
     pub worked: &'static Worked,
+    pub of: Of,
 }
 
 /// The fibers that the script's replay comes to.
@@ -60,15 +68,17 @@ fn are_left(these: &[Vec<Item>], others: &[Vec<Item>]) -> bool {
 }
 
 /// What a report of these fibers answers, which is to be this one.
-fn reports<J: CodeBrand>(
+fn told(
     alloc: Global,
     script: &Script,
+    bares: Vec<Bare>,
     wanted: &Report,
     refuser: &Refuser,
 ) -> Result<Answer, Wrong>
-    requires { script.now.code.nodes ≡ J.nodes }
+    requires code { RanCode script.now.code.nodes bares.items }
+    requires ascending { AreAscending bares.items }
+    requires below { All (λ (x : BareView). x.id < total (script_of (meaning script.now))) bares.items }
 {
-    let bares = replayed::<J>(alloc, script)?;
     let left = replay(alloc, script, &[])?.left;
     refuser.go_on();
     let answer = report(alloc, script, bares, left, Vec::new(alloc), 0);
@@ -82,14 +92,45 @@ fn reports<J: CodeBrand>(
     })
 }
 
-fn reports_of(alloc: Global, text: &str, refuser: &Refuser) -> Result<Answer, Wrong> {
-    let script = parse(alloc, text.as_bytes())?;
-    let wanted = replay(alloc, &script, &[])?;
-    reports::<Brand>(alloc, &script, &wanted, refuser)
+/// What the test for lost fibers answers, of which there are none.
+fn tested(alloc: Global, script: &Script, bares: &[Bare], refuser: &Refuser) -> Answer
+    requires ascending { AreAscending bares.now }
+    requires below { All (λ (x : BareView). x.id < total (script_of (meaning script.now))) bares.now }
+{
+    refuser.go_on();
+    let answer = test_for_lost(alloc, script, bares);
+    refuser.hold();
+    match answer {
+        Ok(()) => Answer::Whole,
+        Err(RunFault::Memory) => Answer::Memory,
+        Err(_) => Answer::Other,
+    }
 }
 
-impl Call for ReportOf {
+fn made<J: CodeBrand>(
+    alloc: Global,
+    script: &Script,
+    wanted: &Report,
+    of: Of,
+    refuser: &Refuser,
+) -> Result<Answer, Wrong>
+    requires { script.now.code.nodes ≡ J.nodes }
+{
+    let bares = replayed::<J>(alloc, script)?;
+    match of {
+        Of::Report => told(alloc, script, bares, wanted, refuser),
+        Of::Lost => Ok(tested(alloc, script, &bares, refuser)),
+    }
+}
+
+fn made_of(alloc: Global, text: &str, of: Of, refuser: &Refuser) -> Result<Answer, Wrong> {
+    let script = parse(alloc, text.as_bytes())?;
+    let wanted = replay(alloc, &script, &[])?;
+    made::<Brand>(alloc, &script, &wanted, of, refuser)
+}
+
+impl Call for FibersOf {
     fn make(&mut self, refuser: &Refuser) -> Answer {
-        reports_of(self.alloc, self.worked.text, refuser).unwrap_or(Answer::Other)
+        made_of(self.alloc, self.worked.text, self.of, refuser).unwrap_or(Answer::Other)
     }
 }

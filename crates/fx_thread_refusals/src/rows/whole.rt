@@ -82,8 +82,8 @@ fn told<R: Wait + Threads + Sync + RandomSource + AllocGlobal>(
     }
 }
 
-/// Refuses the first request, the second and so on, until none is met. Some must be told: where each was
-/// spared, want of memory is hidden.
+/// Refuses the first request, the second and so on, until none is met: how many were, and there must be some. Some
+/// must be told too: where each was spared, want of memory is hidden.
 fn requests_at<R: Wait + Threads + Sync + RandomSource + AllocGlobal>(
     rt: &R,
     alloc: Global,
@@ -95,7 +95,7 @@ fn requests_at<R: Wait + Threads + Sync + RandomSource + AllocGlobal>(
         let trial = Trial::new(alloc, reach, count + 1);
         trial.begin();
         match came_of(call, trial.end(told(rt, alloc, call, &trial)))? {
-            Met::Nothing if has_told => return Ok(count),
+            Met::Nothing if has_told || count == 0 => return some(count),
             Met::Nothing => return Err(Wrong::Hidden),
             Met::Told => has_told = true,
             Met::Spared => {}
@@ -112,5 +112,5 @@ pub fn requests<R: Wait + Threads + Sync + RandomSource + AllocGlobal>(
 ) -> Result<u32, Wrong> {
     let count = requests_at(rt, alloc, call, Reach::Alone)?;
     requests_at(rt, alloc, call, Reach::AllAfter)?;
-    some(count)
+    Ok(count)
 }
