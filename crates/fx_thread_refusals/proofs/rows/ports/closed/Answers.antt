@@ -7,9 +7,12 @@ use Rattle.fx_thread_refusals.proofs.rows.ports.closed.Goals as goal
 
 -- a first pass has split none off
 first_whole : (cap fibers : ℕ) → IsWhole (first_view cap fibers)
-first_whole cap fibers = (refl, λ e k i m. absurd (⊎_elim
-    (λ own. subst (λ (u : Entry). Among i u.parts) own m)
-    (λ z. absurd z) k))
+first_whole cap fibers = (
+  refl,
+  λ e k i m. absurd (⊎_elim
+      (λ own. subst (λ (u : Entry). Among i u.parts) own m)
+      (λ z. absurd z) k),
+)
 
 pub close_queues-left-requires-clause-whole : goal.close_queues-left-requires-clause-whole
 close_queues-left-requires-clause-whole g c q s at =
