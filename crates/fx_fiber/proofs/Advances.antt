@@ -10,7 +10,8 @@ use Rattle.fx_term.specs.declared.event.Event.TheVariants as event
 use Rattle.fx_model.specs.Path.{is_canceled_form}
 use Rattle.fx_model.specs.Row.{Counts}
 use Rattle.fx_model.specs.Step.{leaf_at, looks_first}
-use Rattle.fx_fiber.specs.Deed.{Deed, Saw}
+use Rattle.fx_fiber.specs.Deed.{Saw}
+use Rattle.fx_fiber.specs.Theory.{Theory, HasDone}
 use Rattle.fx_fiber.specs.declared.machine.focus.Focus.TheVariants.{Return, Turn, Await, Unwinding}
 use Rattle.fx_fiber.specs.declared.machine.unwound.Unwound.{Unwound}
 use Rattle.fx_fiber.specs.declared.machine.interruption.Interruption.{Interruption}
@@ -26,8 +27,6 @@ use Rattle.fx_fiber.specs.Makes.{Makes, MakesRule}
 use Rattle.fx_fiber.specs.Interruption.{Interrupts, IsInterrupted, ComesFirst}
 use Rattle.fx_fiber.specs.MakesCall.{MakesCall}
 use Rattle.fx_fiber.specs.Advances.{Advances}
-use Rattle.fx_fiber.specs.Calls.{PortCalls}
-use Rattle.fx_fiber.specs.PortFacts.{Facts}
 use Rattle.fx_fiber.proofs.Leaves.{canceled_at}
 use Rattle.fx_fiber.proofs.Looks.{looks_first_before, none_due, not_due_after, due_where_open, asks_by_rule, rule_is_own}
 use Rattle.fx_fiber.proofs.Fibers.{await_unlooked}
@@ -82,29 +81,29 @@ makes_before nodes old s (made.Shows e) s' same h = rw (same.counts, same.progre
 makes_before nodes old s (made.Learns f o e) s' same h = rw (same.counts, same.progress) at h
 makes_before nodes old s (made.Starts x a b) s' same h = record { same = same_trans nodes old s s' same h.same; id = h.id; stands = h.stands }
 
-module _ {P S : Type 0} (calls : PortCalls P S) (agrees : P → List Deed → Type 0) (facts : P → Facts) (nodes : List Node) (old s : Machine) (b : Bool)
-    (p p' : P) (sh sh' : S) (same : IsSame nodes old s) (inside : IsInside nodes s b) where
+module _ {P S : Type 0} (theory : Theory P S) (old s : Machine) (b : Bool) (p p' : P) (sh sh' : S)
+    (same : IsSame theory.code old s) (inside : IsInside theory.code s b) where
   -- what comes first interrupts the fiber
-  pub is_interrupted : (i : Interruption) → ComesFirst calls (is_open_machine s) (is_open_machine s && (s.known || b)) (Some i) p sh p' sh'
-      → IsInterrupted nodes s i
+  pub is_interrupted : (i : Interruption) → ComesFirst theory.calls (is_open_machine s) (is_open_machine s && (s.known || b)) (Some i) p sh p' sh'
+      → IsInterrupted theory.code s i
   is_interrupted Cancellation first =
-      record { sound = inside.sound; going = inside.going; entered = inside.entered; opened = first.0; due = sym (due_is nodes s b inside) ∙ first.1 }
+      record { sound = inside.sound; going = inside.going; entered = inside.entered; opened = first.0; due = sym (due_is theory.code s b inside) ∙ first.1 }
   is_interrupted Request first =
-      record { sound = inside.sound; going = inside.going; entered = inside.entered; opened = first.0; due = sym (due_is nodes s b inside) ∙ first.1 }
+      record { sound = inside.sound; going = inside.going; entered = inside.entered; opened = first.0; due = sym (due_is theory.code s b inside) ∙ first.1 }
 
   pub interrupted_advances : (i : Interruption) (m : Made) (s' : Machine)
-      → ComesFirst calls (is_open_machine s) (is_open_machine s && (s.known || b)) (Some i) p sh p' sh'
-      → (Some i ≡ Some Request → (deeds : List Deed) → agrees p deeds → agrees p' (deeds ++ Saw ∷ [])) → facts p' ≡ facts p → Interrupts nodes s i m s'
-      → Advances calls agrees facts nodes old p sh m s' p' sh'
+      → ComesFirst theory.calls (is_open_machine s) (is_open_machine s && (s.known || b)) (Some i) p sh p' sh'
+      → (Some i ≡ Some Request → HasDone theory Saw p p') → theory.facts p' ≡ theory.facts p → Interrupts theory.code s i m s'
+      → Advances theory old p sh m s' p' sh'
   interrupted_advances Cancellation m s' first saw framed h =
-      let due : looks_first old.known (progress_of nodes old) ≡ false = looks_first_before nodes old s same inside.sound inside.going inside.entered
-      ∙ not_due_after _ _ (sym (due_is nodes s b inside) ∙ first.1) in
+      let due : looks_first old.known (progress_of theory.code old) ≡ false = looks_first_before theory.code old s same inside.sound inside.going inside.entered
+      ∙ not_due_after _ _ (sym (due_is theory.code s b inside) ∙ first.1) in
       rw h.shows
       (record {
         sound = h.sound;
-        rule = makes_before nodes old s (made.Shows event.Cancelled) s' same (rw h.shows at h.rule);
+        rule = makes_before theory.code old s (made.Shows event.Cancelled) s' same (rw h.shows at h.rule);
         own = tt;
-        asks = (none_due calls _ _ _ due, (first.2, first.3));
+        asks = (none_due theory.calls _ _ _ due, (first.2, first.3));
         agreed = λ ds h. rw (append-nil, first.2) h;
         facts_are = framed;
       })
@@ -112,7 +111,7 @@ module _ {P S : Type 0} (calls : PortCalls P S) (agrees : P → List Deed → Ty
       rw h.shows
       (record {
         sound = h.sound;
-        rule = makes_before nodes old s (made.Shows event.Seen) s' same (rw h.shows at h.rule);
+        rule = makes_before theory.code old s (made.Shows event.Seen) s' same (rw h.shows at h.rule);
         own = tt;
         asks = first.2;
         agreed = saw refl;
@@ -120,52 +119,53 @@ module _ {P S : Type 0} (calls : PortCalls P S) (agrees : P → List Deed → Ty
       })
 
   -- cancellation is not due where nothing comes first
-  pub is_free : ComesFirst calls (is_open_machine s) (is_open_machine s && (s.known || b)) None p sh p' sh' → must_cancel_machine nodes s ≡ false
-  is_free first = sym (due_is nodes s b inside) ∙ first.0
+  pub is_free : ComesFirst theory.calls (is_open_machine s) (is_open_machine s && (s.known || b)) None p sh p' sh' → must_cancel_machine theory.code s ≡ false
+  is_free first = sym (due_is theory.code s b inside) ∙ first.0
 
   pub rule_advances : (m : Made) (s' : Machine) (p'' : P) (sh'' : S)
-      → ComesFirst calls (is_open_machine s) (is_open_machine s && (s.known || b)) None p sh p' sh'
-      → MakesCall calls agrees facts nodes s p' sh' m s' p'' sh'' → Advances calls agrees facts nodes old p sh m s' p'' sh''
+      → ComesFirst theory.calls (is_open_machine s) (is_open_machine s && (s.known || b)) None p sh p' sh'
+      → MakesCall theory s p' sh' m s' p'' sh'' → Advances theory old p sh m s' p'' sh''
   rule_advances m s' p'' sh'' first made =
-      let due : looks_first old.known (progress_of nodes old) ≡ is_open_machine s =
-      looks_first_before nodes old s same inside.sound inside.going inside.entered ∙ due_where_open _ _ (is_free first) in
+      let due : looks_first old.known (progress_of theory.code old) ≡ is_open_machine s =
+      looks_first_before theory.code old s same inside.sound inside.going inside.entered ∙ due_where_open _ _ (is_free first) in
       record {
         sound = made.sound;
-        rule = makes_before nodes old s m s' same made.rule;
+        rule = makes_before theory.code old s m s' same made.rule;
         own = rule_is_own m made.own;
-        asks = asks_by_rule calls _ (leaf_at (progress_of nodes old)) m p p'' sh sh'' made.own (rw due first.1)
+        asks = asks_by_rule theory.calls _ (leaf_at (progress_of theory.code old)) m p p'' sh sh'' made.own (rw due first.1)
             (rw (same.progress, first.2, first.3) at made.told);
         agreed = rw first.2 at made.agreed;
         facts_are = rw first.2 at made.facts_are;
       }
 
 -- between two clean-ups nothing comes first
-pub unwinding_advances : {P S : Type 0} (calls : PortCalls P S) (agrees : P → List Deed → Type 0) (facts : P → Facts) (nodes : List Node) (s : Machine)
-    (m : Made) (s' : Machine) (p : P) (sh : S)
-    → s.focus ≡ Unwinding → MakesRule nodes s m s' → Advances calls agrees facts nodes s p sh m s' p sh
-unwinding_advances calls agrees facts nodes s m s' p sh e made = record {
+pub unwinding_advances : {P S : Type 0} (theory : Theory P S) (s : Machine) (m : Made) (s' : Machine) (p : P) (sh : S)
+    → s.focus ≡ Unwinding → MakesRule theory.code s m s' → Advances theory s p sh m s' p sh
+unwinding_advances theory s m s' p sh e made = record {
   sound = made.sound;
   rule = made.rule;
   own = rule_is_own m (local_is_rule m made.is_local);
-  asks = asks_by_rule calls _ (leaf_at (progress_of nodes s)) m p p sh sh (local_is_rule m made.is_local) (none_due calls _ _ _ (rw e (by_left s.cleanups)))
-      (told_nothing calls (leaf_at (progress_of nodes s)) m p p sh sh made.is_local refl refl);
-  agreed = agreed_nothing agrees m p p made.is_local refl;
-  facts_are = framed_nothing facts m p p made.is_local refl;
+  asks = asks_by_rule theory.calls _ (leaf_at (progress_of theory.code s)) m p p sh sh (local_is_rule m made.is_local)
+      (none_due theory.calls _ _ _ (rw e (by_left s.cleanups)))
+      (told_nothing theory.calls (leaf_at (progress_of theory.code s)) m p p sh sh made.is_local refl refl);
+  agreed = agreed_nothing theory m p p made.is_local refl;
+  facts_are = framed_nothing theory m p p made.is_local refl;
 }
   where
-    by_left : (left : Option Unwound) → looks_first s.known (unwinding nodes s.registers left) ≡ false
+    by_left : (left : Option Unwound) → looks_first s.known (unwinding theory.code s.registers left) ≡ false
     by_left None = refl
     by_left (Some c) = refl
 
 -- a fiber that awaits one that it canceled is not interrupted
-pub await_advances : {P S : Type 0} (calls : PortCalls P S) (agrees : P → List Deed → Type 0) (facts : P → Facts) (nodes : List Node) (s : Machine) (f : ℕ)
-    (m : Made) (s' : Machine) (p p' : P) (sh sh' : S) → IsSoundMachine nodes s → s.focus ≡ Await f → MakesCall calls agrees facts nodes s p sh m s' p' sh'
-    → Advances calls agrees facts nodes s p sh m s' p' sh'
-await_advances calls agrees facts nodes s f m s' p p' sh sh' sound here call = record {
+pub await_advances : {P S : Type 0} (theory : Theory P S) (s : Machine) (f : ℕ) (m : Made) (s' : Machine) (p p' : P) (sh sh' : S)
+    → IsSoundMachine theory.code s → s.focus ≡ Await f → MakesCall theory s p sh m s' p' sh'
+    → Advances theory s p sh m s' p' sh'
+await_advances theory s f m s' p p' sh sh' sound here call = record {
   sound = call.sound;
   rule = call.rule;
   own = rule_is_own m call.own;
-  asks = asks_by_rule calls _ (leaf_at (progress_of nodes s)) m p p' sh sh' call.own (none_due calls _ _ _ (await_unlooked nodes s f sound here)) call.told;
+  asks = asks_by_rule theory.calls _ (leaf_at (progress_of theory.code s)) m p p' sh sh' call.own
+      (none_due theory.calls _ _ _ (await_unlooked theory.code s f sound here)) call.told;
   agreed = call.agreed;
   facts_are = call.facts_are;
 }

@@ -13,8 +13,8 @@ use Rattle.fx_model.specs.Step.{Progress, Step, has_ended, leaf_at, looks_first}
 use Rattle.fx_model.specs.Step as step
 use Rattle.fx_model.specs.declared.source.Source.{Source}
 use Rattle.fx_fiber.specs.Calls.{PortCalls}
-use Rattle.fx_fiber.specs.PortFacts.{Facts}
-use Rattle.fx_fiber.specs.Deed.{Deed, Saw}
+use Rattle.fx_fiber.specs.Deed.{Saw}
+use Rattle.fx_fiber.specs.Theory.{Theory, HasDone}
 use Rattle.fx_fiber.specs.Fiber.{FiberView, fiber_at, IsUnchanged, IsKept}
 use Rattle.fx_fiber.specs.Bursts.{IsAlone, GoesAlone, Bursts, BurstsShort, HasLooked, ComesAhead, LooksNext, GlidesOnce, GlidesTo}
 use Rattle.fx_fiber.specs.MakesStep.{MakesStep, Answers, Calls}
@@ -65,14 +65,14 @@ step_is_going step.finalizer_ends = refl
 step_is_going step.release_ends = refl
 step_is_going step.unwound = refl
 
-module _ {P S : Type 0} (calls : PortCalls P S) (facts : P → Facts) (nodes : List Node) where
-  unchanged_then : (a b c : FiberView P) → IsUnchanged nodes a b → IsUnchanged nodes b c → IsUnchanged nodes a c
+module _ {P S : Type 0} (theory : Theory P S) where
+  unchanged_then : (a b c : FiberView P) → IsUnchanged theory.code a b → IsUnchanged theory.code b c → IsUnchanged theory.code a c
   unchanged_then a b c h k =
       record { port = k.port ∙ h.port; trace = k.trace ∙ h.trace; counts = k.counts ∙ h.counts; progress_is = k.progress_is ∙ h.progress_is }
 
   -- a step that went on, and then contexts that are entered
-  pub went_then : (a : FiberView P) (sh : S) (b : FiberView P) (sh' : S) (c : FiberView P) → MakesStep calls facts nodes a sh Went b sh'
-      → IsUnchanged nodes b c → MakesStep calls facts nodes a sh Went c sh'
+  pub went_then : (a : FiberView P) (sh : S) (b : FiberView P) (sh' : S) (c : FiberView P) → MakesStep theory a sh Went b sh'
+      → IsUnchanged theory.code b c → MakesStep theory a sh Went c sh'
   went_then a sh b sh' c h k = record {
     label = h.label;
     step = rw (k.counts, k.progress_is) h.step;
@@ -82,60 +82,61 @@ module _ {P S : Type 0} (calls : PortCalls P S) (facts : P → Facts) (nodes : L
   }
 
   -- the same of steps of a burst
-  alone_then : (n : ℕ) (a : FiberView P) (sh : S) (b c : FiberView P) → GoesAlone calls facts nodes n a sh b → IsUnchanged nodes b c
-      → GoesAlone calls facts nodes n a sh c
+  alone_then : (n : ℕ) (a : FiberView P) (sh : S) (b c : FiberView P) → GoesAlone theory n a sh b → IsUnchanged theory.code b c
+      → GoesAlone theory n a sh c
   unfolding went_then
   alone_then zero a sh b c h k = unchanged_then a b c h k
   alone_then (suc n) a sh b c h k = (h.0, h.1, record { does = went_then h.0 sh b sh c h.2.does k; alone = h.2.alone })
 
   -- a look that serves after such a step
   pub still_looked : (looked : Looked) (p : P) (sh : S) (m m' : Machine) (l : Label)
-      → Step (counts_of m) (progress_of nodes m) l (counts_of m') (progress_of nodes m') → IsAlone l
-      → HasLooked calls looked m.known p sh → HasLooked calls looked m'.known p sh
+      → Step (counts_of m) (progress_of theory.code m) l (counts_of m') (progress_of theory.code m') → IsAlone l
+      → HasLooked theory.calls looked m.known p sh → HasLooked theory.calls looked m'.known p sh
   still_looked InVain p sh m m' l made alone h = (step_knows made alone ∙ h.0, h.1)
   still_looked NotYet p sh m m' l made alone h = tt
 
-  module _ (total : ℕ) (agrees : P → List Deed → Type 0) (trace : List Event) (source : Option Source) where
+  module _ (trace : List Event) (source : Option Source) where
     -- a rule of a bracket asks the port nothing
     pub asks_nothing : (e : Event) (p : P) (sh : S) (m : Machine) (p' : P) (sh' : S) → IsOfBracket e
-        → Asks calls (looks_first m.known (progress_of nodes m)) (leaf_at (progress_of nodes m)) (made.Shows e) p sh p' sh' → (p' ≡ p) × (sh' ≡ sh)
+        → Asks theory.calls (looks_first m.known (progress_of theory.code m)) (leaf_at (progress_of theory.code m)) (made.Shows e) p sh p' sh'
+        → (p' ≡ p) × (sh' ≡ sh)
     asks_nothing (event.Acquired k) p sh m p' sh' of a = a.1
     asks_nothing (event.Begin k) p sh m p' sh' of a = a.1
     asks_nothing (event.End k) p sh m p' sh' of a = a.1
     asks_nothing _ p sh m p' sh' of a = absurd of
 
     tells_of_bracket : (e : Event) (p : P) (sh : S) (p' : P) (sh' : S) → IsOfBracket e → (p' ≡ p) × (sh' ≡ sh)
-        → TellsMade calls agrees facts (made.Shows e) p' sh' p sh
+        → TellsMade theory (made.Shows e) p' sh' p sh
     tells_of_bracket (event.Acquired k) p sh p' sh' of same = (sym same.0, sym same.1)
     tells_of_bracket (event.Begin k) p sh p' sh' of same = (sym same.0, sym same.1)
     tells_of_bracket (event.End k) p sh p' sh' of same = (sym same.0, sym same.1)
     tells_of_bracket _ p sh p' sh' of same = absurd of
 
     -- the answer and the calls of such a rule
-    answers_of_bracket : (e : Event) (m : Machine) → IsOfBracket e → Answers {P = P} {S = S} nodes (leaf_at (progress_of nodes m)) (Shows e) Went
+    answers_of_bracket : (e : Event) (m : Machine) → IsOfBracket e → Answers {P = P} {S = S} theory.code (leaf_at (progress_of theory.code m)) (Shows e) Went
     answers_of_bracket (event.Acquired k) m of = refl
     answers_of_bracket (event.Begin k) m of = refl
     answers_of_bracket (event.End k) m of = refl
     answers_of_bracket _ m of = absurd of
 
     calls_of_bracket : (e : Event) (p : P) (sh : S) (m : Machine) (p' : P) (sh' : S) → IsOfBracket e
-        → Asks calls (looks_first m.known (progress_of nodes m)) (leaf_at (progress_of nodes m)) (made.Shows e) p sh p' sh'
-        → Calls calls facts nodes (looks_first m.known (progress_of nodes m)) (leaf_at (progress_of nodes m)) (Shows e) Went p sh p sh
+        → Asks theory.calls (looks_first m.known (progress_of theory.code m)) (leaf_at (progress_of theory.code m)) (made.Shows e) p sh p' sh'
+        → Calls theory (looks_first m.known (progress_of theory.code m)) (leaf_at (progress_of theory.code m)) (Shows e) Went p sh p sh
     calls_of_bracket (event.Acquired k) p sh m p' sh' of a = record { looked = a.0; left_first = tt; told = (refl, refl) }
     calls_of_bracket (event.Begin k) p sh m p' sh' of a = record { looked = a.0; left_first = tt; told = (refl, refl) }
     calls_of_bracket (event.End k) p sh m p' sh' of a = record { looked = a.0; left_first = tt; told = (refl, refl) }
     calls_of_bracket _ p sh m p' sh' of a = absurd of
 
     abbrev To : ℕ → Machine → P → S → Machine → List Event → Type 0
-    To = GlidesTo calls facts nodes total agrees trace source
+    To = GlidesTo theory trace source
 
     -- before any step
-    pub none_yet : (s : Machine) (p : P) (sh : S) → IsKept nodes total (facts p) (agrees p) trace s → To zero s p sh s trace
+    pub none_yet : (s : Machine) (p : P) (sh : S) → IsKept theory p trace s → To zero s p sh s trace
     none_yet s p sh kept = record { rules = record { port = refl; trace = refl; counts = refl; progress_is = refl }; kept = kept }
 
     -- after one more silent rule
     pub one_more_rule : (n : ℕ) (s : Machine) (p : P) (sh : S) (m m' : Machine) (p' : P) (sh' : S) (t : List Event) → To n s p sh m t
-        → Advances calls agrees facts nodes m p sh made.Silent m' p' sh' → To (suc n) s p sh m' t
+        → Advances theory m p sh made.Silent m' p' sh' → To (suc n) s p sh m' t
     one_more_rule n s p sh m m' p' sh' t to a = record {
       rules = (
         fiber_at p t m source,
@@ -151,13 +152,13 @@ module _ {P S : Type 0} (calls : PortCalls P S) (facts : P → Facts) (nodes : L
           alone = tt;
         },
       );
-      kept = told_keeps calls agrees facts nodes p p' p sh sh' sh t t m m' total to.kept (step_is_going a.rule.1) made.Silent tt a
+      kept = told_keeps theory p p' p sh sh' sh t t m m' to.kept (step_is_going a.rule.1) made.Silent tt a
           (sym a.asks.1.0, sym a.asks.1.1) (sym (append-nil t));
     }
 
     -- after one more rule of a bracket, which shows this
     pub one_more_shown : (n : ℕ) (s : Machine) (p : P) (sh : S) (m m' : Machine) (p' : P) (sh' : S) (t t' : List Event) (e : Event) → To n s p sh m t
-        → Advances calls agrees facts nodes m p sh (made.Shows e) m' p' sh' → IsOfBracket e → t' ≡ t ++ e ∷ [] → To (suc n) s p sh m' t'
+        → Advances theory m p sh (made.Shows e) m' p' sh' → IsOfBracket e → t' ≡ t ++ e ∷ [] → To (suc n) s p sh m' t'
     one_more_shown n s p sh m m' p' sh' t t' e to a of told = record {
       rules = (
         fiber_at p t m source,
@@ -173,37 +174,37 @@ module _ {P S : Type 0} (calls : PortCalls P S) (facts : P → Facts) (nodes : L
           alone = of;
         },
       );
-      kept = told_keeps calls agrees facts nodes p p' p sh sh' sh t t' m m' total to.kept (step_is_going a.rule) (made.Shows e) tt a
+      kept = told_keeps theory p p' p sh sh' sh t t' m m' to.kept (step_is_going a.rule) (made.Shows e) tt a
           (tells_of_bracket e p sh p' sh' of (asks_nothing e p sh m p' sh' of a.asks)) told;
     }
 
     -- the fiber stands as it stood
-    pub no_further : (n : ℕ) (s : Machine) (p : P) (sh : S) (m m' : Machine) (t t' : List Event) → To n s p sh m t → IsSame nodes m m' → t' ≡ t
+    pub no_further : (n : ℕ) (s : Machine) (p : P) (sh : S) (m m' : Machine) (t t' : List Event) → To n s p sh m t → IsSame theory.code m m' → t' ≡ t
         → To n s p sh m' t'
     no_further n s p sh m m' t t' to same told = record {
       rules = alone_then n (fiber_at p trace s source) sh (fiber_at p t m source) (fiber_at p t' m' source) to.rules
-          (same_is_unchanged nodes p p t t' m m' source source same refl told);
-      kept = same_is_kept nodes total facts agrees p p t t' m m' to.kept same refl told;
+          (same_is_unchanged theory.code p p t t' m m' source source same refl told);
+      kept = same_is_kept theory p p t t' m m' to.kept same refl told;
     }
 
     -- the burst stops here
     pub stops : (n most : ℕ) (s : Machine) (p : P) (sh : S) (m : Machine) (p' : P) (sh' : S) (t : List Event) (source' : Option Source)
         → n ≤ most → To n s p sh m t → p' ≡ p → sh' ≡ sh → source' ≡ source
-        → Bursts calls facts nodes most n (fiber_at p trace s source) sh (fiber_at p' t m source') sh'
+        → Bursts theory most n (fiber_at p trace s source) sh (fiber_at p' t m source') sh'
     stops n most s p sh m p' sh' t source' few to port shared registered =
         rw (port, registered) (record { few = few; steps = inl (to.rules, shared) })
 
     -- memory is refused here
     pub stops_short : (n most : ℕ) (s : Machine) (p : P) (sh : S) (m : Machine) (p' : P) (sh' : S) (t : List Event) (source' : Option Source)
         → n < most → To n s p sh m t → p' ≡ p → sh' ≡ sh → source' ≡ source
-        → BurstsShort calls facts nodes most (fiber_at p trace s source) sh (fiber_at p' t m source') sh'
+        → BurstsShort theory most (fiber_at p trace s source) sh (fiber_at p' t m source') sh'
     stops_short n most s p sh m p' sh' t source' few to port shared registered =
         rw (port, registered) (record { n = n; few = few; goes = to.rules; shared_is = shared })
 
     -- a request is seen here
     pub sees : (n most : ℕ) (s : Machine) (p : P) (sh : S) (m m' : Machine) (p' : P) (sh' : S) (t t' : List Event) (source' : Option Source)
-        → n < most → To n s p sh m t → Advances calls agrees facts nodes m p sh (made.Shows event.Seen) m' p' sh' → t' ≡ t ++ event.Seen ∷ []
-        → Bursts calls facts nodes most (n + 1) (fiber_at p trace s source) sh (fiber_at p' t' m' source') sh'
+        → n < most → To n s p sh m t → Advances theory m p sh (made.Shows event.Seen) m' p' sh' → t' ≡ t ++ event.Seen ∷ []
+        → Bursts theory most (n + 1) (fiber_at p trace s source) sh (fiber_at p' t' m' source') sh'
     sees n most s p sh m m' p' sh' t t' source' few to a told = record {
       few = omega arith;
       steps = inr (record {
@@ -224,54 +225,52 @@ module _ {P S : Type 0} (calls : PortCalls P S) (facts : P → Facts) (nodes : L
       });
     }
 
-    pub seen_is_kept : (p : P) (sh : S) (m m' : Machine) (p' : P) (sh' : S) (t t' : List Event) → IsKept nodes total (facts p) (agrees p) t m
-        → Advances calls agrees facts nodes m p sh (made.Shows event.Seen) m' p' sh' → t' ≡ t ++ event.Seen ∷ []
-        → IsKept nodes total (facts p') (agrees p') t' m'
+    pub seen_is_kept : (p : P) (sh : S) (m m' : Machine) (p' : P) (sh' : S) (t t' : List Event) → IsKept theory p t m
+        → Advances theory m p sh (made.Shows event.Seen) m' p' sh' → t' ≡ t ++ event.Seen ∷ []
+        → IsKept theory p' t' m'
     seen_is_kept p sh m m' p' sh' t t' kept a told =
-        told_keeps calls agrees facts nodes p p' p' sh sh' sh' t t' m m' total kept (step_is_going a.rule) (made.Shows event.Seen) tt a (refl, refl) told
+        told_keeps theory p p' p' sh sh' sh' t t' m m' kept (step_is_going a.rule) (made.Shows event.Seen) tt a (refl, refl) told
 
 -- one turn of a burst, once its contexts are entered, at a place other than `canceled`
-module _ {P S : Type 0} (calls : PortCalls P S) (agrees : P → List Deed → Type 0) (facts : P → Facts) (nodes : List Node) (old s : Machine)
-    (p : P) (sh : S) (same : IsSame nodes old s) (inside : IsInside nodes s false) where
+module _ {P S : Type 0} (theory : Theory P S) (old s : Machine) (p : P) (sh : S) (same : IsSame theory.code old s) (inside : IsInside theory.code s false) where
   -- cancellation is not the one rule there
-  pub ahead_is_free : ComesAhead calls (is_open_machine s) s.known ahead.Rule p sh → must_cancel_machine nodes s ≡ false
-  ahead_is_free first = is_free calls agrees facts nodes old s false p p sh sh same inside first
+  pub ahead_is_free : ComesAhead theory.calls (is_open_machine s) s.known ahead.Rule p sh → must_cancel_machine theory.code s ≡ false
+  ahead_is_free first = is_free theory old s false p p sh sh same inside first
 
   -- a row was made
-  pub glides : (s' : Machine) → ComesAhead calls (is_open_machine s) s.known ahead.Rule p sh
-      → MakesIfSilent nodes s true s' → GlidesOnce calls agrees facts nodes old p sh glided.Went s'
+  pub glides : (s' : Machine) → ComesAhead theory.calls (is_open_machine s) s.known ahead.Rule p sh
+      → MakesIfSilent theory.code s true s' → GlidesOnce theory old p sh glided.Went s'
   glides s' first is_made =
-      rule_advances calls agrees facts nodes old s false p p sh sh same inside made.Silent s' p sh first
-      (local_call calls agrees facts nodes s p p sh sh made.Silent s' refl refl is_made)
+      rule_advances theory old s false p p sh sh same inside made.Silent s' p sh first
+      (local_call theory s p p sh sh made.Silent s' refl refl is_made)
 
   -- or one of a bracket, where no silent one was
-  pub glides_shown : (between s' : Machine) (e : Event) → ComesAhead calls (is_open_machine s) s.known ahead.Rule p sh
-      → MakesIfSilent nodes s false between → MakesIfShown nodes between (Some e) s'
-      → GlidesOnce calls agrees facts nodes old p sh (glided.Showed e) s'
+  pub glides_shown : (between s' : Machine) (e : Event) → ComesAhead theory.calls (is_open_machine s) s.known ahead.Rule p sh
+      → MakesIfSilent theory.code s false between → MakesIfShown theory.code between (Some e) s'
+      → GlidesOnce theory old p sh (glided.Showed e) s'
   glides_shown between s' e first none_is_made shown =
-      let is_shown : MakesShown nodes s e s' = rw none_is_made at shown in (
-        rule_advances calls agrees facts nodes old s false p p sh sh same inside (made.Shows e) s' p sh first
-            (local_call calls agrees facts nodes s p p sh sh (made.Shows e) s' refl refl is_shown.0),
+      let is_shown : MakesShown theory.code s e s' = rw none_is_made at shown in (
+        rule_advances theory old s false p p sh sh same inside (made.Shows e) s' p sh first
+            (local_call theory s p p sh sh (made.Shows e) s' refl refl is_shown.0),
         is_shown.1,
       )
 
   -- or none
-  pub glides_no_further : (between s' : Machine) → ComesAhead calls (is_open_machine s) s.known ahead.Rule p sh
-      → MakesIfSilent nodes s false between → MakesIfShown nodes between None s' → GlidesOnce calls agrees facts nodes old p sh glided.Stops s'
+  pub glides_no_further : (between s' : Machine) → ComesAhead theory.calls (is_open_machine s) s.known ahead.Rule p sh
+      → MakesIfSilent theory.code s false between → MakesIfShown theory.code between None s' → GlidesOnce theory old p sh glided.Stops s'
   glides_no_further between s' first none_is_made none_is_shown = rw (none_is_shown, none_is_made) same
 
 -- the look that comes next found a request, which was seen
-module _ {P S : Type 0} (calls : PortCalls P S) (agrees : P → List Deed → Type 0) (facts : P → Facts) (nodes : List Node) (s : Machine)
-    (p p' : P) (sh sh' : S) (next : LooksNext nodes s)
-    (first : ComesFirst calls (is_open_machine s) (is_open_machine s && (s.known || false)) (Some Request) p sh p' sh') where
-  pub look_interrupts : IsInterrupted nodes s Request
-  look_interrupts = is_interrupted calls agrees facts nodes s s false p p' sh sh' (same_here nodes s next.inside.sound) next.inside Request first
+module _ {P S : Type 0} (theory : Theory P S) (s : Machine) (p p' : P) (sh sh' : S) (next : LooksNext theory.code s)
+    (first : ComesFirst theory.calls (is_open_machine s) (is_open_machine s && (s.known || false)) (Some Request) p sh p' sh') where
+  pub look_interrupts : IsInterrupted theory.code s Request
+  look_interrupts = is_interrupted theory s s false p p' sh sh' (same_here theory.code s next.inside.sound) next.inside Request first
 
-  pub look_advances : (m : Made) (s' : Machine) → ((deeds : List Deed) → agrees p deeds → agrees p' (deeds ++ Saw ∷ [])) → facts p' ≡ facts p
-      → Interrupts nodes s Request m s' → Advances calls agrees facts nodes s p sh (made.Shows event.Seen) s' p' sh'
+  pub look_advances : (m : Made) (s' : Machine) → HasDone theory Saw p p' → theory.facts p' ≡ theory.facts p
+      → Interrupts theory.code s Request m s' → Advances theory s p sh (made.Shows event.Seen) s' p' sh'
   look_advances m s' saw framed h =
-      subst (λ (k : Made). Advances calls agrees facts nodes s p sh k s' p' sh') h.shows
-      (interrupted_advances calls agrees facts nodes s s false p p' sh sh' (same_here nodes s next.inside.sound) next.inside Request m s' first
+      subst (λ (k : Made). Advances theory s p sh k s' p' sh') h.shows
+      (interrupted_advances theory s s false p p' sh sh' (same_here theory.code s next.inside.sound) next.inside Request m s' first
       (λ e. saw) framed h)
 
 -- it found none, and serves

@@ -2,7 +2,6 @@
 use Rattle.std.proofs.Common.{◌≡◌, ℕ, Option, Some, List, [], ◌∷◌, ◌++◌, refl, append-nil}
 use Rattle.fx_term.specs.declared.outcome.Outcome.{Outcome}
 use Rattle.fx_term.specs.declared.event.Event.{Event}
-use Rattle.fx_term.specs.declared.node.Node.{Node}
 use Rattle.fx_term.specs.declared.event.Event.TheVariants as event
 use Rattle.fx_term.specs.Term.{Term}
 use Rattle.fx_fiber.specs.Deed.{Deed, FoundEnded}
@@ -13,7 +12,8 @@ use Rattle.fx_fiber.specs.MakesStep.{value_offered, PeeksLeft, IsRefused}
 use Rattle.fx_fiber.specs.Machine.{progress_of}
 use Rattle.fx_fiber.specs.Sound.{IsSoundMachine}
 use Rattle.fx_fiber.specs.Calls.{PortCalls}
-use Rattle.fx_fiber.specs.PortFacts.{Facts, facts_with}
+use Rattle.fx_fiber.specs.PortFacts.{facts_with}
+use Rattle.fx_fiber.specs.Theory.{Theory, HasDone}
 use Rattle.fx_fiber.specs.declared.machine.made.Made.{Made}
 use Rattle.fx_fiber.specs.declared.machine.made.Made.TheVariants as made
 use Rattle.fx_fiber.specs.declared.machine.Machine.{Machine}
@@ -44,13 +44,14 @@ no_deeds (made.Learns f o e) h = absurd h
 no_deeds (made.Starts x a b) h = absurd h
 no_deeds _ h = refl
 
-pub framed_nothing : {P : Type 0} (facts : P → Facts) (m : Made) (p p' : P) → IsLocal m → p' ≡ p → facts p' ≡ facts_with (label_of m) (facts p)
-framed_nothing facts (made.Shows (event.Put q n)) p p' h e = absurd h
-framed_nothing facts _ p p' h e = rw e refl
+pub framed_nothing : {P S : Type 0} (theory : Theory P S) (m : Made) (p p' : P) → IsLocal m → p' ≡ p
+    → theory.facts p' ≡ facts_with (label_of m) (theory.facts p)
+framed_nothing theory (made.Shows (event.Put q n)) p p' h e = absurd h
+framed_nothing theory _ p p' h e = rw e refl
 
-pub agreed_nothing : {P : Type 0} (agrees : P → List Deed → Type 0) (m : Made) (p p' : P) → IsLocal m → p' ≡ p
-    → (deeds : List Deed) → agrees p deeds → agrees p' (deeds ++ deeds_made m)
-agreed_nothing agrees m p p' h e deeds k = rw (no_deeds m h, append-nil, e) k
+pub agreed_nothing : {P S : Type 0} (theory : Theory P S) (m : Made) (p p' : P) → IsLocal m → p' ≡ p
+    → (deeds : List Deed) → theory.agrees p deeds → theory.agrees p' (deeds ++ deeds_made m)
+agreed_nothing theory m p p' h e deeds k = rw (no_deeds m h, append-nil, e) k
 
 module _ {P S : Type 0} (calls : PortCalls P S) where
   pub told_nothing : (leaf : Option Term) (m : Made) (p p' : P) (s s' : S) → IsLocal m → p' ≡ p → s' ≡ s → Told calls leaf m p s p' s'
@@ -64,21 +65,22 @@ module _ {P S : Type 0} (calls : PortCalls P S) where
   told_nothing leaf (made.Shows (event.Empty q)) p p' s s' h e f = absurd h
   told_nothing leaf _ p p' s s' h e f = (e, f)
 
-  pub local_call : (agrees : P → List Deed → Type 0) (facts : P → Facts) (nodes : List Node) (s : Machine) (p p' : P) (sh sh' : S) (m : Made) (s' : Machine)
-      → p' ≡ p → sh' ≡ sh → MakesRule nodes s m s' → MakesCall calls agrees facts nodes s p sh m s' p' sh'
-  local_call agrees facts nodes s p p' sh sh' m s' e f h = record {
+module _ {P S : Type 0} (theory : Theory P S) where
+  pub local_call : (s : Machine) (p p' : P) (sh sh' : S) (m : Made) (s' : Machine) → p' ≡ p → sh' ≡ sh → MakesRule theory.code s m s'
+      → MakesCall theory s p sh m s' p' sh'
+  local_call s p p' sh sh' m s' e f h = record {
     sound = h.sound;
     rule = h.rule;
     own = local_is_rule m h.is_local;
-    told = told_nothing (leaf_at (progress_of nodes s)) m p p' sh sh' h.is_local e f;
-    agreed = agreed_nothing agrees m p p' h.is_local e;
-    facts_are = framed_nothing facts m p p' h.is_local e;
+    told = told_nothing theory.calls (leaf_at (progress_of theory.code s)) m p p' sh sh' h.is_local e f;
+    agreed = agreed_nothing theory m p p' h.is_local e;
+    facts_are = framed_nothing theory m p p' h.is_local e;
   }
 
-  module _ (agrees : P → List Deed → Type 0) (facts : P → Facts) (nodes : List Node) (s s' : Machine) (p p' : P) (sh sh' : S) where
+  module _ (s s' : Machine) (p p' : P) (sh sh' : S) where
     -- a fiber that waits was refused what it waits for
-    pub waits_call : (w : Source) → WaitsFor nodes s s' w → IsRefused calls (value_offered (leaf_at (progress_of nodes s))) w p sh → p' ≡ p → sh' ≡ sh
-        → MakesCall calls agrees facts nodes s p sh (made.Waits w) s' p' sh'
+    pub waits_call : (w : Source) → WaitsFor theory.code s s' w → IsRefused theory.calls (value_offered (leaf_at (progress_of theory.code s))) w p sh
+        → p' ≡ p → sh' ≡ sh → MakesCall theory s p sh (made.Waits w) s' p' sh'
     waits_call w waits h e f = record {
       sound = waits.same.sound;
       rule = waits;
@@ -89,9 +91,8 @@ module _ {P S : Type 0} (calls : PortCalls P S) where
     }
 
     -- one that learns an outcome was told it
-    pub learns_call : (f : ℕ) (o : Outcome) (e : Event) → IsSoundMachine nodes s' → Steps nodes s (Learns f o e) s'
-        → PeeksLeft calls (Learns f o e) (leaf_at (progress_of nodes s)) p sh → calls.peeks p sh f (Some o) p' sh'
-        → ((deeds : List Deed) → agrees p deeds → agrees p' (deeds ++ FoundEnded f o ∷ []))
-        → facts p' ≡ facts p → MakesCall calls agrees facts nodes s p sh (made.Learns f o e) s' p' sh'
+    pub learns_call : (f : ℕ) (o : Outcome) (e : Event) → IsSoundMachine theory.code s' → Steps theory.code s (Learns f o e) s'
+        → PeeksLeft theory.calls (Learns f o e) (leaf_at (progress_of theory.code s)) p sh → theory.calls.peeks p sh f (Some o) p' sh'
+        → HasDone theory (FoundEnded f o) p p' → theory.facts p' ≡ theory.facts p → MakesCall theory s p sh (made.Learns f o e) s' p' sh'
     learns_call f o e sound step left told agreed framed =
         record { sound = sound; rule = step; own = tt; told = (left, told); agreed = agreed; facts_are = framed }

@@ -23,8 +23,8 @@ use Rattle.fx_fiber.specs.Made.{label_of, deeds_made}
 use Rattle.fx_fiber.specs.Places.{IsSame}
 use Rattle.fx_fiber.specs.Makes.{Steps}
 use Rattle.fx_fiber.specs.Advances.{Advances}
-use Rattle.fx_fiber.specs.Calls.{PortCalls}
 use Rattle.fx_fiber.specs.PortFacts.{Facts, first_facts}
+use Rattle.fx_fiber.specs.Theory.{Theory, HasDone}
 use Rattle.fx_fiber.specs.MakesStep.{Answers}
 use Rattle.fx_fiber.specs.Fiber.{is_fiber_number, IsKept}
 use Rattle.fx_model.proofs.Runs.{leads_on, events_append}
@@ -54,22 +54,22 @@ pub taken_fit : {c d : Counts} {p q : Progress} {l : Label} → Step c p l d q �
 taken_fit step room word f low high = let n = step_need step in lt-ltb f (2 ^ 32) (omega arith)
 
 -- one more step, after which the port has these facts
-pub kept_step : (nodes : List Node) (total : ℕ) (facts facts' : Facts) (agrees agrees' : List Deed → Type 0) (trace trace' : List Event) (s s' : Machine)
-    (l : Label) (es : List Deed) → AreDeedsOf nodes l es → IsKept nodes total facts agrees trace s → Steps nodes s l s' → IsSoundMachine nodes s'
-    → trace' ≡ trace ++ events (l ∷ []) → ((ds : List Deed) → agrees ds → agrees' (ds ++ es)) → facts'.beginning ≡ facts.beginning
-    → facts'.has_finished ≡ shows_end l → facts'.range ≡ range_of (counts_of s') → facts'.puts ≡ puts_with l facts.puts
-    → IsKept nodes total facts' agrees' trace' s'
-kept_step nodes total facts facts' agrees agrees' trace trace' s s' l es are k step sound t go same_begin f numbers counted = record {
+pub kept_step : {P S : Type 0} (theory : Theory P S) (p p' : P) (trace trace' : List Event) (s s' : Machine) (l : Label) (es : List Deed)
+    → AreDeedsOf theory.code l es → IsKept theory p trace s → Steps theory.code s l s' → IsSoundMachine theory.code s'
+    → trace' ≡ trace ++ events (l ∷ []) → ((ds : List Deed) → theory.agrees p ds → theory.agrees p' (ds ++ es))
+    → (theory.facts p').beginning ≡ (theory.facts p).beginning → (theory.facts p').has_finished ≡ shows_end l
+    → (theory.facts p').range ≡ range_of (counts_of s') → (theory.facts p').puts ≡ puts_with l (theory.facts p).puts → IsKept theory p' trace' s'
+kept_step theory p p' trace trace' s s' l es are k step sound t go same_begin f numbers counted = record {
   sound = sound;
   lawful = record {
     labels = k.lawful.labels ++ l ∷ [];
     run = rw same_begin (leads_on _ _ k.lawful.labels _ _ l _ _ k.lawful.run step);
     traced = events_append k.lawful.labels (l ∷ []) ∙ ap (λ (es : List Event). es ++ events (l ∷ [])) k.lawful.traced ∙ sym t;
     deeds = k.lawful.deeds ++ es;
-    are_deeds = deeds_more nodes k.lawful.labels k.lawful.deeds l es k.lawful.are_deeds are;
+    are_deeds = deeds_more theory.code k.lawful.labels k.lawful.deeds l es k.lawful.are_deeds are;
     agreed = go k.lawful.deeds k.lawful.agreed;
   };
-  countable = let p = step_work step in let q = k.countable in let r = counted ∙ puts_more l facts.puts in omega arith;
+  countable = let works = step_work step in let q = k.countable in let r = counted ∙ puts_more l (theory.facts p).puts in omega arith;
   scoped = (step_over is_fiber_number step (taken_fit step k.room k.word) k.scoped).0;
   room = let n = step_need step in let e = (step_tells step).end in let r = k.room in omega arith;
   word = let e = (step_tells step).end in let w = k.word in omega arith;
@@ -79,9 +79,9 @@ kept_step nodes total facts facts' agrees agrees' trace trace' s s' l es are k s
 }
 
 -- a fiber that has come no further
-pub kept_same : (nodes : List Node) (total : ℕ) (facts : Facts) (agrees : List Deed → Type 0) (trace trace' : List Event) (s s' : Machine)
-    → IsKept nodes total facts agrees trace s → IsSame nodes s s' → trace' ≡ trace → IsKept nodes total facts agrees trace' s'
-kept_same nodes total facts agrees trace trace' s s' k same t = record {
+pub kept_same : {P S : Type 0} (theory : Theory P S) (p : P) (trace trace' : List Event) (s s' : Machine) → IsKept theory p trace s
+    → IsSame theory.code s s' → trace' ≡ trace → IsKept theory p trace' s'
+kept_same theory p trace trace' s s' k same t = record {
   sound = same.sound;
   lawful = record {
     labels = k.lawful.labels;
@@ -113,11 +113,13 @@ are_deeds_made nodes (made.Learns f o e) on = refl
 are_deeds_made nodes _ on = refl
 
 -- a fiber before its first step
-pub kept_at_first : (nodes : List Node) (total : ℕ) (facts : Facts) (agrees : List Deed → Type 0) (trace : List Event) (s : Machine)
-    → work_left (Runs (origin_of nodes facts.beginning).term) < 2 ^ 63 → IsScopedOver is_fiber_number (origin_of nodes facts.beginning).term
-    → HasRoom (origin_of nodes facts.beginning) → facts.beginning.end < 2 ^ 32 → facts.beginning.end ≤ total → agrees []
-    → facts ≡ first_facts facts.number facts.beginning → trace ≡ [] → IsFirstMachine nodes facts.beginning s → IsKept nodes total facts agrees trace s
-kept_at_first nodes total facts agrees trace s few over room word within a fresh t first = record {
+pub kept_at_first : {P S : Type 0} (theory : Theory P S) (p : P) (trace : List Event) (s : Machine)
+    → work_left (Runs (origin_of theory.code (theory.facts p).beginning).term) < 2 ^ 63
+    → IsScopedOver is_fiber_number (origin_of theory.code (theory.facts p).beginning).term
+    → HasRoom (origin_of theory.code (theory.facts p).beginning) → (theory.facts p).beginning.end < 2 ^ 32 → (theory.facts p).beginning.end ≤ theory.total
+    → theory.agrees p [] → theory.facts p ≡ first_facts (theory.facts p).number (theory.facts p).beginning → trace ≡ []
+    → IsFirstMachine theory.code (theory.facts p).beginning s → IsKept theory p trace s
+kept_at_first theory p trace s few over room word within a fresh t first = record {
   sound = first.sound;
   lawful = record {
     labels = [];
@@ -130,15 +132,15 @@ kept_at_first nodes total facts agrees trace s few over room word within a fresh
   countable =
       let masks : s.masks.entries ≡ 0 = ap (λ (c : Counts). c.masks) first.counts in
       let acquired : s.acquired ≡ 0 = ap (λ (c : Counts). c.acquired) first.counts in
-      let puts : facts.puts ≡ 0 = ap (λ (f : Facts). f.puts) fresh in
+      let puts : (theory.facts p).puts ≡ 0 = ap (λ (f : Facts). f.puts) fresh in
       rw (masks, acquired, puts, first.progress) (omega arith);
   scoped = rw first.progress over;
   room =
-      let next : s.next ≡ facts.beginning.next = ap (λ (c : Counts). c.next) first.counts in
-      let end : s.end ≡ facts.beginning.end = ap (λ (c : Counts). c.end) first.counts in
+      let next : s.next ≡ (theory.facts p).beginning.next = ap (λ (c : Counts). c.next) first.counts in
+      let end : s.end ≡ (theory.facts p).beginning.end = ap (λ (c : Counts). c.end) first.counts in
       rw (next, end, first.progress) room;
-  word = let end : s.end ≡ facts.beginning.end = ap (λ (c : Counts). c.end) first.counts in rw end word;
-  within = let end : s.end ≡ facts.beginning.end = ap (λ (c : Counts). c.end) first.counts in rw end within;
+  word = let end : s.end ≡ (theory.facts p).beginning.end = ap (λ (c : Counts). c.end) first.counts in rw end word;
+  within = let end : s.end ≡ (theory.facts p).beginning.end = ap (λ (c : Counts). c.end) first.counts in rw end within;
   ended = ap (λ (f : Facts). f.has_finished) fresh ∙ rw first.progress refl;
   numbers = ap (λ (f : Facts). f.range) fresh ∙ sym (ap range_of first.counts);
 }
@@ -152,23 +154,23 @@ made_keeps_range made.Yielded step = step_keeps_range step refl
 made_keeps_range (made.Waits w) step = step_keeps_range step refl
 made_keeps_range (made.Starts h a b) step = step_keeps_range step refl
 
-module _ {P S : Type 0} (nodes : List Node) (total : ℕ) (calls : PortCalls P S) (agrees : P → List Deed → Type 0) (facts : P → Facts)
-    (p p' : P) (sh sh' : S) (trace trace' : List Event) (s s' : Machine) (kept : IsKept nodes total (facts p) (agrees p) trace s) where
+module _ {P S : Type 0} (theory : Theory P S) (p p' : P) (sh sh' : S) (trace trace' : List Event) (s s' : Machine)
+    (kept : IsKept theory p trace s) where
   -- a step that was not the last keeps the fiber
-  pub kept_going : (m : Made) → has_ended (progress_of nodes s) ≡ false → Advances calls agrees facts nodes s p sh m s' p' sh' → Steps nodes s (label_of m) s'
-      → shows_end (label_of m) ≡ false → trace' ≡ trace ++ events (label_of m ∷ []) → IsKept nodes total (facts p') (agrees p') trace' s'
+  pub kept_going : (m : Made) → has_ended (progress_of theory.code s) ≡ false → Advances theory s p sh m s' p' sh' → Steps theory.code s (label_of m) s'
+      → shows_end (label_of m) ≡ false → trace' ≡ trace ++ events (label_of m ∷ []) → IsKept theory p' trace' s'
   kept_going m going a step on t =
-      kept_step nodes total (facts p) (facts p') (agrees p) (agrees p') trace trace' s s' (label_of m) (deeds_made m) (are_deeds_made nodes m on)
+      kept_step theory p p' trace trace' s s' (label_of m) (deeds_made m) (are_deeds_made theory.code m on)
       kept step a.sound t a.agreed (ap (λ (f : Facts). f.beginning) a.facts_are)
       (ap (λ (f : Facts). f.has_finished) a.facts_are ∙ kept.ended ∙ going ∙ sym on)
       (ap (λ (f : Facts). f.range) a.facts_are ∙ kept.numbers ∙ sym (made_keeps_range m step)) (ap (λ (f : Facts). f.puts) a.facts_are)
 
   -- so does the last one
-  pub kept_ended : (o : Outcome) (p'' : P) → Advances calls agrees facts nodes s p sh (made.Shows (event.Ended o)) s' p' sh'
-      → facts p'' ≡ record (facts p') { has_finished = true } → ((ds : List Deed) → agrees p' ds → agrees p'' (ds ++ Ended o ∷ []))
-      → trace' ≡ trace ++ event.Ended o ∷ [] → IsKept nodes total (facts p'') (agrees p'') trace' s'
+  pub kept_ended : (o : Outcome) (p'' : P) → Advances theory s p sh (made.Shows (event.Ended o)) s' p' sh'
+      → theory.facts p'' ≡ record (theory.facts p') { has_finished = true } → HasDone theory (Ended o) p' p''
+      → trace' ≡ trace ++ event.Ended o ∷ [] → IsKept theory p'' trace' s'
   kept_ended o p'' a told tells t =
-      kept_step nodes total (facts p) (facts p'') (agrees p) (agrees p'') trace trace' s s' (Shows (event.Ended o)) (Ended o ∷ []) refl
+      kept_step theory p p'' trace trace' s s' (Shows (event.Ended o)) (Ended o ∷ []) refl
       kept a.rule a.sound t (λ ds h. tells ds (rw a.asks.1.0 h))
       (ap (λ (f : Facts). f.beginning) told ∙ ap (λ (f : Facts). f.beginning) a.facts_are) (ap (λ (f : Facts). f.has_finished) told)
       (ap (λ (f : Facts). f.range) told ∙ ap (λ (f : Facts). f.range) a.facts_are ∙ kept.numbers ∙ sym (made_keeps_range (made.Shows (event.Ended o)) a.rule))

@@ -8,9 +8,6 @@ use Rattle.fx_model.specs.Row.{Shows, Starts}
 use Rattle.fx_model.specs.Step.{leaf_at, has_ended}
 use Rattle.fx_model.specs.Run.{events}
 use Rattle.fx_model.specs.declared.source.Source.{Source}
-use Rattle.fx_fiber.specs.Deed.{Deed}
-use Rattle.fx_fiber.specs.Calls.{PortCalls}
-use Rattle.fx_fiber.specs.PortFacts.{Facts}
 use Rattle.fx_fiber.specs.declared.machine.Machine.{Machine}
 use Rattle.fx_fiber.specs.declared.machine.made.Made.{Made}
 use Rattle.fx_fiber.specs.declared.machine.made.Made.TheVariants as made
@@ -30,6 +27,7 @@ use Rattle.fx_fiber.specs.MakesStep.{Answers, MakesStep, DoesStep}
 use Rattle.fx_fiber.specs.Fiber.{FiberView, IsKept, IsUnchanged, fiber_at}
 use Rattle.fx_fiber.specs.MakesStart.{MakesStart}
 use Rattle.fx_fiber.specs.Telling.{IsMade, answer_to, TellsMade}
+use Rattle.fx_fiber.specs.Theory.{Theory}
 use Rattle.fx_model.proofs.Ends.{shows_end}
 use Rattle.fx_fiber.proofs.Keeping.{kept_going, kept_ended, kept_same}
 use Rattle.fx_fiber.proofs.Looks.{calls_of_asks, calls_of_end}
@@ -40,10 +38,10 @@ is_made (made.Starts h a b) other = other h a b refl
 is_made _ other = tt
 
 -- an event that is no end is told to the trace alone
-pub tells_nothing : {P S : Type 0} (calls : PortCalls P S) (agrees : P → List Deed → Type 0) (facts : P → Facts) (e : Event) (p : P) (s : S)
-    → shows_end (Shows e) ≡ false → TellsMade calls agrees facts (made.Shows e) p s p s
-tells_nothing calls agrees facts (event.Ended o) p s on = absurd (let no : true ≡ false = on in cc)
-tells_nothing calls agrees facts _ p s on = (refl, refl)
+pub tells_nothing : {P S : Type 0} (theory : Theory P S) (e : Event) (p : P) (s : S) → shows_end (Shows e) ≡ false
+    → TellsMade theory (made.Shows e) p s p s
+tells_nothing theory (event.Ended o) p s on = absurd (let no : true ≡ false = on in cc)
+tells_nothing theory _ p s on = (refl, refl)
 
 pub went_on : {P S : Type 0} (e : Event) → shows_end (Shows e) ≡ false → Went ≡ answer_to {P = P} {S = S} (made.Shows e)
 went_on (event.Ended o) on = absurd (let no : true ≡ false = on in cc)
@@ -62,55 +60,53 @@ same_is_unchanged nodes p p' trace trace' s s' source source' same port t =
     record { port = port; trace = t; counts = same.counts; progress_is = same.progress }
 
 -- and keeps what its type says
-pub same_is_kept : {P : Type 0} (nodes : List Node) (total : ℕ) (facts : P → Facts) (agrees : P → List Deed → Type 0) (p p' : P) (trace trace' : List Event)
-    (s s' : Machine) → IsKept nodes total (facts p) (agrees p) trace s → IsSame nodes s s' → p' ≡ p → trace' ≡ trace
-    → IsKept nodes total (facts p') (agrees p') trace' s'
-same_is_kept nodes total facts agrees p p' trace trace' s s' kept same port t =
-    rw port (kept_same nodes total (facts p) (agrees p) trace trace' s s' kept same t)
+pub same_is_kept : {P S : Type 0} (theory : Theory P S) (p p' : P) (trace trace' : List Event) (s s' : Machine) → IsKept theory p trace s
+    → IsSame theory.code s s' → p' ≡ p → trace' ≡ trace → IsKept theory p' trace' s'
+same_is_kept theory p p' trace trace' s s' kept same port t = rw port (kept_same theory p trace trace' s s' kept same t)
 
-module _ {P S : Type 0} (calls : PortCalls P S) (agrees : P → List Deed → Type 0) (facts : P → Facts) (nodes : List Node) (p p' p'' : P)
+module _ {P S : Type 0} (theory : Theory P S) (p p' p'' : P)
     (sh sh' sh'' : S) (trace trace' : List Event) (s s' : Machine) where
-  module _ (total : ℕ) (kept : IsKept nodes total (facts p) (agrees p) trace s) (going : has_ended (progress_of nodes s) ≡ false) where
-    keeps_on : (m : Made) → shows_end (label_of m) ≡ false → Advances calls agrees facts nodes s p sh m s' p' sh' → Steps nodes s (label_of m) s'
-        → p'' ≡ p' → trace' ≡ trace ++ events (label_of m ∷ []) → IsKept nodes total (facts p'') (agrees p'') trace' s'
-    keeps_on m on a step same t = rw same (kept_going nodes total calls agrees facts p p' sh sh' trace trace' s s' kept m going a step on t)
+  module _ (kept : IsKept theory p trace s) (going : has_ended (progress_of theory.code s) ≡ false) where
+    keeps_on : (m : Made) → shows_end (label_of m) ≡ false → Advances theory s p sh m s' p' sh' → Steps theory.code s (label_of m) s'
+        → p'' ≡ p' → trace' ≡ trace ++ events (label_of m ∷ []) → IsKept theory p'' trace' s'
+    keeps_on m on a step same t = rw same (kept_going theory p p' sh sh' trace trace' s s' kept m going a step on t)
 
     -- so it keeps what the fiber's type says
-    pub told_keeps : (m : Made) → IsMade m → Advances calls agrees facts nodes s p sh m s' p' sh' → TellsMade calls agrees facts m p' sh' p'' sh''
-        → trace' ≡ trace ++ events (label_of m ∷ []) → IsKept nodes total (facts p'') (agrees p'') trace' s'
+    pub told_keeps : (m : Made) → IsMade m → Advances theory s p sh m s' p' sh' → TellsMade theory m p' sh' p'' sh''
+        → trace' ≡ trace ++ events (label_of m ∷ []) → IsKept theory p'' trace' s'
     told_keeps (made.Waits w) is a told t =
-        rw (told.0, a.asks.1.1) (kept_same nodes total (facts p) (agrees p) trace trace' s s' kept a.rule.same (t ∙ append-nil trace))
+        rw (told.0, a.asks.1.1) (kept_same theory p trace trace' s s' kept a.rule.same (t ∙ append-nil trace))
     told_keeps made.Silent is a told t = keeps_on made.Silent refl a a.rule.1 told.0 t
     told_keeps made.Yielded is a told t = keeps_on made.Yielded refl a a.rule.1 told.0 t
     told_keeps (made.Learns g o e) is a told t = keeps_on (made.Learns g o e) refl a a.rule told.0 t
     told_keeps (made.Starts h x y) is a told t = absurd is
     told_keeps (made.Shows (event.Ended o)) is a told t =
-        kept_ended nodes total calls agrees facts p p' sh sh' trace trace' s s' kept o p'' a told.facts_are told.agreed t
+        kept_ended theory p p' sh sh' trace trace' s s' kept o p'' a told.facts_are told.agreed t
     told_keeps (made.Shows e) is a told t = keeps_on (made.Shows e) refl a a.rule told.0 t
 
   -- and over a port of the same number and beginning
-  pub told_same : (m : Made) → Advances calls agrees facts nodes s p sh m s' p' sh' → TellsMade calls agrees facts m p' sh' p'' sh''
-      → ((facts p'').number ≡ (facts p).number) × ((facts p'').beginning ≡ (facts p).beginning)
+  pub told_same : (m : Made) → Advances theory s p sh m s' p' sh' → TellsMade theory m p' sh' p'' sh''
+      → ((theory.facts p'').number ≡ (theory.facts p).number) × ((theory.facts p'').beginning ≡ (theory.facts p).beginning)
   told_same (made.Shows (event.Ended o)) a told = rw (told.facts_are, a.facts_are) (refl, refl)
   told_same m a told = rw (told.0, a.facts_are) (refl, refl)
 
   module _ (source source' : Option Source) where
-    makes_on : (m : Made) (answer : Stepped P S) → shows_end (label_of m) ≡ false → Advances calls agrees facts nodes s p sh m s' p' sh'
-        → Steps nodes s (label_of m) s' → Answers nodes (leaf_at (progress_of nodes s)) (label_of m) answer → p'' ≡ p' → sh'' ≡ sh'
+    makes_on : (m : Made) (answer : Stepped P S) → shows_end (label_of m) ≡ false → Advances theory s p sh m s' p' sh'
+        → Steps theory.code s (label_of m) s' → Answers theory.code (leaf_at (progress_of theory.code s)) (label_of m) answer → p'' ≡ p' → sh'' ≡ sh'
         → trace' ≡ trace ++ events (label_of m ∷ [])
-        → MakesStep calls facts nodes (fiber_at p trace s source) sh answer (fiber_at p'' trace' s' source') sh''
+        → MakesStep theory (fiber_at p trace s source) sh answer (fiber_at p'' trace' s' source') sh''
     makes_on m answer on a step answers same same_shared t = record {
       label = label_of m;
       step = step;
       trace = t;
       answers = answers;
-      calls_are = rw (same, same_shared) (calls_of_asks calls facts nodes _ _ m answer p p' sh sh' a.own on a.asks);
+      calls_are = rw (same, same_shared) (calls_of_asks theory _ _ m answer p p' sh sh' a.own on a.asks);
     }
 
     -- and is a step
-    told_does : (m : Made) → IsMade m → Advances calls agrees facts nodes s p sh m s' p' sh' → TellsMade calls agrees facts m p' sh' p'' sh''
+    told_does : (m : Made) → IsMade m → Advances theory s p sh m s' p' sh' → TellsMade theory m p' sh' p'' sh''
         → trace' ≡ trace ++ events (label_of m ∷ [])
-        → DoesStep calls facts nodes (fiber_at p trace s source) sh (answer_to m) (fiber_at p'' trace' s' source') sh''
+        → DoesStep theory (fiber_at p trace s source) sh (answer_to m) (fiber_at p'' trace' s' source') sh''
     told_does (made.Waits w) is a told t = record {
       waits = a.rule.leaf;
       free = a.rule.free;
@@ -133,24 +129,23 @@ module _ {P S : Type 0} (calls : PortCalls P S) (agrees : P → List Deed → Ty
       step = a.rule;
       trace = t;
       answers = refl;
-      calls_are = calls_of_end calls facts nodes _ _ _ o p p' p'' sh sh' sh'' a.asks told.told;
+      calls_are = calls_of_end theory _ _ _ o p p' p'' sh sh' sh'' a.asks told.told;
     }
     told_does (made.Shows e) is a told t = makes_on (made.Shows e) _ refl a a.rule refl told.0 told.1 t
 
     -- the same of the machine and the answer that are left
     pub told_steps : (m : Made) (answer : Stepped P S) (t : Machine) → answer ≡ answer_to m → t ≡ s' → IsMade m
-        → Advances calls agrees facts nodes s p sh m s' p' sh' → TellsMade calls agrees facts m p' sh' p'' sh'' → trace' ≡ trace ++ events (label_of m ∷ [])
-        → DoesStep calls facts nodes (fiber_at p trace s source) sh answer (fiber_at p'' trace' t source') sh''
+        → Advances theory s p sh m s' p' sh' → TellsMade theory m p' sh' p'' sh'' → trace' ≡ trace ++ events (label_of m ∷ [])
+        → DoesStep theory (fiber_at p trace s source) sh answer (fiber_at p'' trace' t source') sh''
     told_steps m answer t e f is a told items = rw (e, f) (told_does m is a told items)
 
 -- a start that was due and made its rule is a step
-pub start_does : {P S : Type 0} (calls : PortCalls P S) (agrees : P → List Deed → Type 0) (facts : P → Facts)
-    (nodes : List Node) (p p' p'' : P) (sh sh' sh'' : S) (trace trace' trace'' : List Event) (s s' s'' : Machine) (source source' : Option Source)
-    (h : ℕ) (a b : NodeId) (child : FiberView P)
-    → Advances calls agrees facts nodes s p sh (made.Starts h a b) s' p' sh'
-    → MakesStart calls facts nodes s' p' sh' trace' child s'' p'' sh'' trace'' → trace' ≡ trace
-    → DoesStep calls facts nodes (fiber_at p trace s source) sh (Child child) (fiber_at p'' trace'' s'' source') sh''
-start_does calls agrees facts nodes p p' p'' sh sh' sh'' trace trace' trace'' s s' s'' source source' h a b child done started items = record {
+pub start_does : {P S : Type 0} (theory : Theory P S) (p p' p'' : P) (sh sh' sh'' : S) (trace trace' trace'' : List Event)
+    (s s' s'' : Machine) (source source' : Option Source) (h : ℕ) (a b : NodeId) (child : FiberView P)
+    → Advances theory s p sh (made.Starts h a b) s' p' sh'
+    → MakesStart theory s' p' sh' trace' child s'' p'' sh'' trace'' → trace' ≡ trace
+    → DoesStep theory (fiber_at p trace s source) sh (Child child) (fiber_at p'' trace'' s'' source') sh''
+start_does theory p p' p'' sh sh' sh'' trace trace' trace'' s s' s'' source source' h a b child done started items = record {
   label = Starts s'.next started.origin;
   step = rw (done.rule.same.counts, done.rule.same.progress) at started.rule;
   trace = rw items at started.traced;

@@ -1,12 +1,12 @@
 -- What a fiber makes in a step before its end is told, and what it asks of the port for it.
 use Rattle.std.specs.Prelude.{◌≡◌, Bool, true, Option, List, ◌++◌}
-use Rattle.fx_term.specs.declared.node.Node.{Node}
 use Rattle.fx_term.specs.declared.event.Event.TheVariants as event
 use Rattle.fx_term.specs.Term.{Term}
 use Rattle.fx_model.specs.Step.{leaf_at, looks_first}
 use Rattle.fx_fiber.specs.Deed.{Deed}
 use Rattle.fx_fiber.specs.Calls.{PortCalls}
-use Rattle.fx_fiber.specs.PortFacts.{Facts, facts_with}
+use Rattle.fx_fiber.specs.PortFacts.{facts_with}
+use Rattle.fx_fiber.specs.Theory.{Theory}
 use Rattle.fx_fiber.specs.MakesStep.{LooksInVain}
 use Rattle.fx_fiber.specs.declared.machine.made.Made.{Made}
 use Rattle.fx_fiber.specs.declared.machine.made.Made.TheVariants as made
@@ -23,12 +23,11 @@ module _ {P S : Type 0} (calls : PortCalls P S) where
   Asks due leaf (made.Shows event.Seen) p s p' s' = calls.looks p s true p' s'
   Asks due leaf m p s p' s' = LooksInVain calls due p s × Told calls leaf m p s p' s'
 
-  -- what a fiber makes in a step before its end is told, and what it asks for it
-  pub record Advances (agrees : P → List Deed → Type 0) (facts : P → Facts) (nodes : List Node) (s : Machine) (p : P) (sh : S) (m : Made) (s' : Machine)
-      (p' : P) (sh' : S) : Type 0 where
-    pub sound : IsSoundMachine nodes s'
-    pub rule : Makes nodes s m s'
-    pub own : IsOwnMade m
-    pub asks : Asks (looks_first s.known (progress_of nodes s)) (leaf_at (progress_of nodes s)) m p sh p' sh'
-    pub agreed : (deeds : List Deed) → agrees p deeds → agrees p' (deeds ++ deeds_made m)
-    pub facts_are : facts p' ≡ facts_with (label_of m) (facts p)
+-- what a fiber makes in a step before its end is told, and what it asks for it
+pub record Advances {P S : Type 0} (theory : Theory P S) (s : Machine) (p : P) (sh : S) (m : Made) (s' : Machine) (p' : P) (sh' : S) : Type 0 where
+  pub sound : IsSoundMachine theory.code s'
+  pub rule : Makes theory.code s m s'
+  pub own : IsOwnMade m
+  pub asks : Asks theory.calls (looks_first s.known (progress_of theory.code s)) (leaf_at (progress_of theory.code s)) m p sh p' sh'
+  pub agreed : (deeds : List Deed) → theory.agrees p deeds → theory.agrees p' (deeds ++ deeds_made m)
+  pub facts_are : theory.facts p' ≡ facts_with (label_of m) (theory.facts p)

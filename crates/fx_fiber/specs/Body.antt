@@ -16,6 +16,13 @@ pub record IsFirstMachine (nodes : List Node) (begin : Begin) (s : Machine) : Ty
   pub counts : counts_of s ≡ first_counts (origin_of nodes begin)
   pub progress : progress_of nodes s ≡ Runs (origin_of nodes begin).term
 
+-- with these numbers for the names in scope
+abbrev pub with_registers : List ℕ → Machine → Machine
+with_registers ns s = record s { registers = ns }
+
+abbrev pub with_slots : List ℕ → Body → Body
+with_slots ns b = record b { machine = with_registers ns b.machine }
+
 -- that of a fiber with this number: it has shown nothing, and registered for nothing
 pub record IsFirstBody (nodes : List Node) (id : ℕ) (begin : Begin) (b : Body) : Type 0 where
   pub number : b.id ≡ id

@@ -7,8 +7,7 @@ use Rattle.fx_term.specs.declared.event.Event.TheVariants as event
 use Rattle.fx_model.specs.Row.{Label, Silent, Shows}
 use Rattle.fx_model.specs.declared.source.Source.{Source}
 use Rattle.fx_fiber.specs.Calls.{PortCalls}
-use Rattle.fx_fiber.specs.PortFacts.{Facts}
-use Rattle.fx_fiber.specs.Deed.{Deed}
+use Rattle.fx_fiber.specs.Theory.{Theory}
 use Rattle.fx_fiber.specs.Fiber.{FiberView, fiber_at, IsUnchanged, IsKept}
 use Rattle.fx_fiber.specs.MakesStep.{MakesStep}
 use Rattle.fx_fiber.specs.Places.{IsSame, IsInside, is_open_machine}
@@ -34,20 +33,20 @@ IsAlone Silent = Unit {0}
 IsAlone (Shows e) = IsOfBracket e
 IsAlone l = ⊥
 
-module _ {P S : Type 0} (calls : PortCalls P S) (facts : P → Facts) (nodes : List Node) where
+module _ {P S : Type 0} (theory : Theory P S) where
   -- a step by a rule with this label, which answers that it went
   pub record GoesBy (label : Label) (old : FiberView P) (shared : S) (new : FiberView P) (shared' : S) : Type 0 where
-    pub does : MakesStep calls facts nodes old shared Went new shared'
+    pub does : MakesStep theory old shared Went new shared'
     pub by : does.label ≡ label
 
   -- a step that needs no other fiber, which answers that it went, with what is shared as it was
   pub record StepsAlone (old : FiberView P) (shared : S) (new : FiberView P) : Type 0 where
-    pub does : MakesStep calls facts nodes old shared Went new shared
+    pub does : MakesStep theory old shared Went new shared
     pub alone : IsAlone does.label
 
   -- so many of these, one after the other
   abbrev pub GoesAlone : ℕ → FiberView P → S → FiberView P → Type 0
-  GoesAlone zero old shared new = IsUnchanged nodes old new
+  GoesAlone zero old shared new = IsUnchanged theory.code old new
   GoesAlone (suc n) old shared new = (between : FiberView P) × GoesAlone n old shared between × StepsAlone between shared new
 
   -- one step less of these, and then the one that sees a request
@@ -89,13 +88,13 @@ pub record LooksNext (nodes : List Node) (s : Machine) : Type 0 where
   pub opened : is_open_machine s ≡ true
   pub unknown : s.known ≡ false
 
-module _ {P S : Type 0} (calls : PortCalls P S) (agrees : P → List Deed → Type 0) (facts : P → Facts) (nodes : List Node) where
+module _ {P S : Type 0} (theory : Theory P S) where
   -- what one turn of a burst does: a silent rule is made, or one that shows this of a bracket, or none, since a look comes first or the burst ends
   abbrev pub GlidesOnce : Machine → P → S → Glided → Machine → Type 0
-  GlidesOnce s p sh glided.Went s' = Advances calls agrees facts nodes s p sh made.Silent s' p sh
-  GlidesOnce s p sh (glided.Showed e) s' = Advances calls agrees facts nodes s p sh (made.Shows e) s' p sh × IsOfBracket e
-  GlidesOnce s p sh glided.Looks s' = IsSame nodes s s' × LooksNext nodes s'
-  GlidesOnce s p sh glided.Stops s' = IsSame nodes s s'
+  GlidesOnce s p sh glided.Went s' = Advances theory s p sh made.Silent s' p sh
+  GlidesOnce s p sh (glided.Showed e) s' = Advances theory s p sh (made.Shows e) s' p sh × IsOfBracket e
+  GlidesOnce s p sh glided.Looks s' = IsSame theory.code s s' × LooksNext theory.code s'
+  GlidesOnce s p sh glided.Stops s' = IsSame theory.code s s'
 
 -- where a fiber stood as its burst began, with its port and what is shared, which stay so until a request is seen
 pub record Outset (P S : Type 0) : Type 0 where
@@ -109,21 +108,20 @@ abbrev pub outset_at : {P S : Type 0} → P → S → Body → Outset P S
 outset_at p s body = record { port = p; shared = s; machine = body.machine; trace = body.trace.items; source = body.source }
 
 -- so many steps lead to a machine that the fiber's type allows, and to this trace
-pub record GlidesTo {P S : Type 0} (calls : PortCalls P S) (facts : P → Facts) (nodes : List Node) (total : ℕ) (agrees : P → List Deed → Type 0)
-    (trace : List Event) (source : Option Source) (n : ℕ) (s : Machine) (p : P) (sh : S) (s' : Machine) (trace' : List Event) : Type 0 where
-  pub rules : GoesAlone calls facts nodes n (fiber_at p trace s source) sh (fiber_at p trace' s' source)
-  pub kept : IsKept nodes total (facts p) (agrees p) trace' s'
+pub record GlidesTo {P S : Type 0} (theory : Theory P S) (trace : List Event) (source : Option Source) (n : ℕ) (s : Machine) (p : P) (sh : S)
+    (s' : Machine) (trace' : List Event) : Type 0 where
+  pub rules : GoesAlone theory n (fiber_at p trace s source) sh (fiber_at p trace' s' source)
+  pub kept : IsKept theory p trace' s'
 
-module _ {P S : Type 0} (calls : PortCalls P S) (facts : P → Facts) (nodes : List Node) (total : ℕ) (agrees : P → List Deed → Type 0)
-    (outset : Outset P S) where
+module _ {P S : Type 0} (theory : Theory P S) (outset : Outset P S) where
   -- so many steps lead from there to here
   abbrev pub LeadsTo : ℕ → Machine → List Event → Type 0
-  LeadsTo n s trace = GlidesTo calls facts nodes total agrees outset.trace outset.source n outset.machine outset.port outset.shared s trace
+  LeadsTo n s trace = GlidesTo theory outset.trace outset.source n outset.machine outset.port outset.shared s trace
 
   -- so many steps were made, of at most so many, with room for an event where a look comes next
   abbrev pub Reaches : ℕ → Reached → Body → Type 0
   Reaches most (reached.Looks n) body =
-      (n < most) × LeadsTo n body.machine body.trace.items × LooksNext nodes body.machine × (vec_len body.trace < vec_capacity body.trace)
+      (n < most) × LeadsTo n body.machine body.trace.items × LooksNext theory.code body.machine × (vec_len body.trace < vec_capacity body.trace)
   Reaches most (reached.Stops n) body = (n ≤ most) × LeadsTo n body.machine body.trace.items
 
   -- memory was refused after fewer than so many

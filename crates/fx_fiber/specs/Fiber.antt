@@ -19,7 +19,7 @@ use Rattle.fx_fiber.specs.declared.machine.unwound.Unwound.{Unwound}
 use Rattle.fx_fiber.specs.declared.machine.Machine.{Machine}
 use Rattle.fx_fiber.specs.Machine.{counts_of, progress_at, progress_of}
 use Rattle.fx_fiber.specs.Sound.{IsSoundMachine}
-use Rattle.fx_fiber.specs.PortFacts.{Facts}
+use Rattle.fx_fiber.specs.Theory.{Theory}
 
 -- a fiber: its port, its trace, what it keeps beside its term, where it stands, and what it last registered for and has not yielded since
 pub record FiberView (P : Type 0) : Type 0 where
@@ -82,13 +82,13 @@ is_fiber_number f = nat_lt f (2 ^ 32)
 -- what a fiber's parts keep: they are sound, lawful, its masks, resources and puts can be counted, its names are bound and those of fibers stand for numbers of
 -- fibers, its range has room for all that it can start and holds no number from the total on, and its port knows whether it has ended, and the numbers that
 -- are left
-pub record IsKept (nodes : List Node) (total : ℕ) (facts : Facts) (agrees : List Deed → Type 0) (trace : List Event) (s : Machine) : Type 0 where
-  pub sound : IsSoundMachine nodes s
-  pub lawful : IsLawful nodes facts.beginning agrees trace (counts_of s) (progress_of nodes s)
-  pub countable : s.masks.entries + s.acquired + facts.puts + work_left (progress_of nodes s) < 2 ^ 63
-  pub scoped : IsProgressScopedOver is_fiber_number (progress_of nodes s)
-  pub room : s.next + need_left (progress_of nodes s) ≤ s.end
+pub record IsKept {P S : Type 0} (theory : Theory P S) (port : P) (trace : List Event) (s : Machine) : Type 0 where
+  pub sound : IsSoundMachine theory.code s
+  pub lawful : IsLawful theory.code (theory.facts port).beginning (theory.agrees port) trace (counts_of s) (progress_of theory.code s)
+  pub countable : s.masks.entries + s.acquired + (theory.facts port).puts + work_left (progress_of theory.code s) < 2 ^ 63
+  pub scoped : IsProgressScopedOver is_fiber_number (progress_of theory.code s)
+  pub room : s.next + need_left (progress_of theory.code s) ≤ s.end
   pub word : s.end < 2 ^ 32
-  pub within : s.end ≤ total
-  pub ended : facts.has_finished ≡ has_ended (progress_of nodes s)
-  pub numbers : facts.range ≡ range_of (counts_of s)
+  pub within : s.end ≤ theory.total
+  pub ended : (theory.facts port).has_finished ≡ has_ended (progress_of theory.code s)
+  pub numbers : (theory.facts port).range ≡ range_of (counts_of s)

@@ -1,6 +1,7 @@
 pub mod Deed
 pub mod Calls
 pub mod PortFacts
+pub mod Theory
 pub mod Machine
 pub mod Sound
 pub mod Body

@@ -1,6 +1,5 @@
 -- What the rule of a place asks of the port.
 use Rattle.std.specs.Prelude.{◌≡◌, Option, Some, None, List, ◌++◌}
-use Rattle.fx_term.specs.declared.node.Node.{Node}
 use Rattle.fx_term.specs.declared.event.Event.TheVariants as event
 use Rattle.fx_term.specs.declared.offered.Offered.TheVariants as offered
 use Rattle.fx_term.specs.Term.{Term}
@@ -8,7 +7,8 @@ use Rattle.fx_model.specs.Row.{Learns}
 use Rattle.fx_model.specs.Step.{leaf_at}
 use Rattle.fx_fiber.specs.Deed.{Deed}
 use Rattle.fx_fiber.specs.Calls.{PortCalls}
-use Rattle.fx_fiber.specs.PortFacts.{Facts, facts_with}
+use Rattle.fx_fiber.specs.PortFacts.{facts_with}
+use Rattle.fx_fiber.specs.Theory.{Theory}
 use Rattle.fx_fiber.specs.MakesStep.{value_offered, PeeksLeft, IsRefused}
 use Rattle.fx_fiber.specs.declared.machine.made.Made.{Made}
 use Rattle.fx_fiber.specs.declared.machine.made.Made.TheVariants as made
@@ -30,12 +30,11 @@ module _ {P S : Type 0} (calls : PortCalls P S) where
   Told leaf (made.Learns f o e) p s p' s' = PeeksLeft calls (Learns f o e) leaf p s × calls.peeks p s f (Some o) p' s'
   Told leaf _ p s p' s' = (p' ≡ p) × (s' ≡ s)
 
-  -- the rule of a place was made, with what it asks of the port, or the fiber waits
-  pub record MakesCall (agrees : P → List Deed → Type 0) (facts : P → Facts) (nodes : List Node) (s : Machine) (p : P) (sh : S) (m : Made) (s' : Machine)
-      (p' : P) (sh' : S) : Type 0 where
-    pub sound : IsSoundMachine nodes s'
-    pub rule : Makes nodes s m s'
-    pub own : IsRuleMade m
-    pub told : Told (leaf_at (progress_of nodes s)) m p sh p' sh'
-    pub agreed : (deeds : List Deed) → agrees p deeds → agrees p' (deeds ++ deeds_made m)
-    pub facts_are : facts p' ≡ facts_with (label_of m) (facts p)
+-- the rule of a place was made, with what it asks of the port, or the fiber waits
+pub record MakesCall {P S : Type 0} (theory : Theory P S) (s : Machine) (p : P) (sh : S) (m : Made) (s' : Machine) (p' : P) (sh' : S) : Type 0 where
+  pub sound : IsSoundMachine theory.code s'
+  pub rule : Makes theory.code s m s'
+  pub own : IsRuleMade m
+  pub told : Told theory.calls (leaf_at (progress_of theory.code s)) m p sh p' sh'
+  pub agreed : (deeds : List Deed) → theory.agrees p deeds → theory.agrees p' (deeds ++ deeds_made m)
+  pub facts_are : theory.facts p' ≡ facts_with (label_of m) (theory.facts p)

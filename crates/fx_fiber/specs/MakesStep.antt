@@ -10,7 +10,8 @@ use Rattle.fx_model.specs.Step.{leaf_at, must_cancel_at, looks_first, Step}
 use Rattle.fx_model.specs.Run.{events}
 use Rattle.fx_model.specs.Origin.{Origin, origin_of}
 use Rattle.fx_fiber.specs.Calls.{PortCalls}
-use Rattle.fx_fiber.specs.PortFacts.{Facts, first_facts}
+use Rattle.fx_fiber.specs.PortFacts.{first_facts}
+use Rattle.fx_fiber.specs.Theory.{Theory}
 use Rattle.fx_model.specs.declared.source.Source.{Source}
 use Rattle.fx_model.specs.declared.source.Source.TheVariants.{Nothing, Outcome, Either, Room, Element}
 use Rattle.fx_model.specs.Waiting.{wait_at}
@@ -68,53 +69,53 @@ module _ {P S : Type 0} (calls : PortCalls P S) where
   IsRefused n (Room q) p s = calls.offers p s q n Full p s
   IsRefused n (Element q) p s = calls.takes p s q None p s
 
+module _ {P S : Type 0} (theory : Theory P S) where
   -- no rule, since the fiber waits for that: a look in vain, where one is due, the refusals that this stands for, and nothing has changed
-  pub record OnlyWaits (nodes : List Node) (old : FiberView P) (shared : S) (wait : Source) (new : FiberView P) (shared' : S) : Type 0 where
-    pub waits : option_and_then wait_at (leaf_at (progress nodes old)) ≡ Some wait
-    pub free : must_cancel_at old.counts.known (progress nodes old) ≡ false
-    pub looked : LooksInVain (looks_first old.counts.known (progress nodes old)) old.port shared
-    pub refused : IsRefused (value_offered (leaf_at (progress nodes old))) wait old.port shared
-    pub unchanged : IsUnchanged nodes old new
+  pub record OnlyWaits (old : FiberView P) (shared : S) (wait : Source) (new : FiberView P) (shared' : S) : Type 0 where
+    pub waits : option_and_then wait_at (leaf_at (progress theory.code old)) ≡ Some wait
+    pub free : must_cancel_at old.counts.known (progress theory.code old) ≡ false
+    pub looked : LooksInVain theory.calls (looks_first old.counts.known (progress theory.code old)) old.port shared
+    pub refused : IsRefused theory.calls (value_offered (leaf_at (progress theory.code old))) wait old.port shared
+    pub unchanged : IsUnchanged theory.code old new
     pub shared_is : shared' ≡ shared
 
-module _ {P S : Type 0} (calls : PortCalls P S) (facts : P → Facts) where
   -- the call that starts fiber f, which begins so, over the port of the child, which is new, of that number and that beginning
-  pub record StartsChild (nodes : List Node) (f : ℕ) (b : Origin) (child p : P) (s : S) (p' : P) (s' : S) : Type 0 where
+  pub record StartsChild (f : ℕ) (b : Origin) (child p : P) (s : S) (p' : P) (s' : S) : Type 0 where
     pub begin : Begin
-    pub begins : origin_of nodes begin ≡ b
-    pub told : calls.starts p s f begin child p' s'
-    pub facts_are : facts child ≡ first_facts f begin
+    pub begins : origin_of theory.code begin ≡ b
+    pub told : theory.calls.starts p s f begin child p' s'
+    pub facts_are : theory.facts child ≡ first_facts f begin
 
   -- the call that a step at this leaf with this label and answer tells of
-  abbrev pub Tells : List Node → Option Term → Label → Stepped P S → P → S → P → S → Type 0
-  Tells nodes leaf (Shows event.Seen) answer p s p' s' = calls.looks p s true p' s'
-  Tells nodes leaf (Shows (event.Request f)) answer p s p' s' = calls.requests p s f p' s'
-  Tells nodes leaf (Shows (event.Ended o)) answer p s p' s' = calls.finishes p s o p' s'
-  Tells nodes leaf (Learns f o e) answer p s p' s' = calls.peeks p s f (Some o) p' s'
-  Tells nodes leaf (Starts f b) (Child child) p s p' s' = StartsChild nodes f b child.port p s p' s'
-  Tells nodes leaf (Starts f b) answer p s p' s' = ⊥
-  Tells nodes leaf (Shows (event.Put q n)) answer p s p' s' = calls.offers p s q n Done p' s'
-  Tells nodes leaf (Shows (event.Got q n)) answer p s p' s' = calls.takes p s q (Some n) p' s'
-  Tells nodes leaf (Shows (event.Refused q)) answer p s p' s' = calls.offers p s q (value_offered leaf) Full p' s'
-  Tells nodes leaf (Shows (event.Empty q)) answer p s p' s' = calls.takes p s q None p' s'
-  Tells nodes leaf _ answer p s p' s' = (p' ≡ p) × (s' ≡ s)
+  abbrev pub Tells : Option Term → Label → Stepped P S → P → S → P → S → Type 0
+  Tells leaf (Shows event.Seen) answer p s p' s' = theory.calls.looks p s true p' s'
+  Tells leaf (Shows (event.Request f)) answer p s p' s' = theory.calls.requests p s f p' s'
+  Tells leaf (Shows (event.Ended o)) answer p s p' s' = theory.calls.finishes p s o p' s'
+  Tells leaf (Learns f o e) answer p s p' s' = theory.calls.peeks p s f (Some o) p' s'
+  Tells leaf (Starts f b) (Child child) p s p' s' = StartsChild f b child.port p s p' s'
+  Tells leaf (Starts f b) answer p s p' s' = ⊥
+  Tells leaf (Shows (event.Put q n)) answer p s p' s' = theory.calls.offers p s q n Done p' s'
+  Tells leaf (Shows (event.Got q n)) answer p s p' s' = theory.calls.takes p s q (Some n) p' s'
+  Tells leaf (Shows (event.Refused q)) answer p s p' s' = theory.calls.offers p s q (value_offered leaf) Full p' s'
+  Tells leaf (Shows (event.Empty q)) answer p s p' s' = theory.calls.takes p s q None p' s'
+  Tells leaf _ answer p s p' s' = (p' ≡ p) × (s' ≡ s)
 
   -- the calls of a step: the look that is due, what it asked for in vain, and the call that it tells of
-  pub record Calls (nodes : List Node) (due : Bool) (leaf : Option Term) (label : Label) (answer : Stepped P S) (p : P) (s : S) (p' : P) (s' : S)
-      : Type 0 where
-    pub looked : LooksBefore calls due label p s
-    pub left_first : PeeksLeft calls label leaf p s
-    pub told : Tells nodes leaf label answer p s p' s'
+  pub record Calls (due : Bool) (leaf : Option Term) (label : Label) (answer : Stepped P S) (p : P) (s : S) (p' : P) (s' : S) : Type 0 where
+    pub looked : LooksBefore theory.calls due label p s
+    pub left_first : PeeksLeft theory.calls label leaf p s
+    pub told : Tells leaf label answer p s p' s'
 
   -- exactly one rule, with its event in the trace, its answer, and its calls
-  pub record MakesStep (nodes : List Node) (old : FiberView P) (shared : S) (answer : Stepped P S) (new : FiberView P) (shared' : S) : Type 0 where
+  pub record MakesStep (old : FiberView P) (shared : S) (answer : Stepped P S) (new : FiberView P) (shared' : S) : Type 0 where
     pub label : Label
-    pub step : Step old.counts (progress nodes old) label new.counts (progress nodes new)
+    pub step : Step old.counts (progress theory.code old) label new.counts (progress theory.code new)
     pub trace : new.trace ≡ old.trace ++ events (label ∷ [])
-    pub answers : Answers nodes (leaf_at (progress nodes old)) label answer
-    pub calls_are : Calls nodes (looks_first old.counts.known (progress nodes old)) (leaf_at (progress nodes old)) label answer old.port shared new.port shared'
+    pub answers : Answers theory.code (leaf_at (progress theory.code old)) label answer
+    pub calls_are : Calls (looks_first old.counts.known (progress theory.code old)) (leaf_at (progress theory.code old)) label answer
+        old.port shared new.port shared'
 
   -- what a step does that answers so
-  abbrev pub DoesStep : List Node → FiberView P → S → Stepped P S → FiberView P → S → Type 0
-  DoesStep nodes old shared (Waits wait) new shared' = OnlyWaits calls nodes old shared wait new shared'
-  DoesStep nodes old shared answer new shared' = MakesStep nodes old shared answer new shared'
+  abbrev pub DoesStep : FiberView P → S → Stepped P S → FiberView P → S → Type 0
+  DoesStep old shared (Waits wait) new shared' = OnlyWaits old shared wait new shared'
+  DoesStep old shared answer new shared' = MakesStep old shared answer new shared'

@@ -2,9 +2,8 @@
 use Rattle.std.specs.Prelude.{◌≡◌, true, List, [], ◌∷◌, ◌++◌}
 use Rattle.fx_term.specs.declared.event.Event.TheVariants as event
 use Rattle.fx_term.specs.declared.outcome.Outcome.{Outcome}
-use Rattle.fx_fiber.specs.Deed.{Deed, Ended}
-use Rattle.fx_fiber.specs.Calls.{PortCalls}
-use Rattle.fx_fiber.specs.PortFacts.{Facts}
+use Rattle.fx_fiber.specs.Deed.{Ended}
+use Rattle.fx_fiber.specs.Theory.{Theory, HasDone}
 use Rattle.fx_fiber.specs.declared.machine.made.Made.{Made}
 use Rattle.fx_fiber.specs.declared.machine.made.Made.TheVariants as made
 use Rattle.fx_fiber.specs.declared.stepped.Stepped.{Stepped}
@@ -22,12 +21,12 @@ answer_to (made.Waits w) = stepped.Waits w
 answer_to (made.Shows (event.Ended o)) = stepped.Ended
 answer_to _ = stepped.Went
 
-module _ {P S : Type 0} (calls : PortCalls P S) (agrees : P → List Deed → Type 0) (facts : P → Facts) where
+module _ {P S : Type 0} (theory : Theory P S) where
   -- the end of the fiber was told to its port
   pub record TellsEnd (o : Outcome) (p : P) (s : S) (p' : P) (s' : S) : Type 0 where
-    pub told : calls.finishes p s o p' s'
-    pub facts_are : facts p' ≡ record (facts p) { has_finished = true }
-    pub agreed : (deeds : List Deed) → agrees p deeds → agrees p' (deeds ++ Ended o ∷ [])
+    pub told : theory.calls.finishes p s o p' s'
+    pub facts_are : theory.facts p' ≡ record (theory.facts p) { has_finished = true }
+    pub agreed : HasDone theory (Ended o) p p'
 
   -- that, where this is the end, and else nothing
   abbrev pub TellsMade : Made → P → S → P → S → Type 0

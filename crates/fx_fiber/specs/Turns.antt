@@ -2,31 +2,29 @@
 use Rattle.std.specs.Prelude.{◌≡◌, ℕ, suc, ◌<◌, ◌⊎◌, Bool, true, false, Option, Some, None, List}
 use Rattle.futures.specs.declared.task.Poll.{Poll}
 use Rattle.futures.specs.declared.task.Poll.TheVariants.{Ready, Pending}
-use Rattle.fx_term.specs.declared.node.Node.{Node}
 use Rattle.fx_model.specs.Step.{has_ended}
 use Rattle.fx_model.specs.declared.source.Source.{Source}
-use Rattle.fx_fiber.specs.Calls.{PortCalls}
-use Rattle.fx_fiber.specs.PortFacts.{Facts}
 use Rattle.fx_fiber.specs.Fiber.{FiberView, progress, IsUnchanged}
 use Rattle.fx_fiber.specs.MakesStep.{MakesStep, OnlyWaits}
 use Rattle.fx_fiber.specs.declared.stepped.Stepped.{Stepped}
 use Rattle.fx_fiber.specs.declared.stepped.Stepped.TheVariants as stepped
 use Rattle.fx_fiber.specs.declared.turned.Turned.{Turned}
+use Rattle.fx_fiber.specs.Theory.{Theory}
 use Rattle.fx_fiber.specs.declared.turned.Turned.TheVariants as turned
 
-module _ {P S : Type 0} (calls : PortCalls P S) (facts : P → Facts) (nodes : List Node) where
+module _ {P S : Type 0} (theory : Theory P S) where
   -- the fiber is registered with this, and nothing else of it has changed but its port
   pub record Registers (old : FiberView P) (shared : S) (wait : Source) (new : FiberView P) (shared' : S) : Type 0 where
-    pub told : calls.waits old.port shared wait new.port shared'
+    pub told : theory.calls.waits old.port shared wait new.port shared'
     pub same : new ≡ record old { port = new.port; source = Some wait }
 
   -- n steps from the first place to the last one, none of which ends the turn: each went on, or waited and the fiber was registered with what it waits for. The
   -- flag tells whether the last of them waited
   pub data Goes (first : FiberView P) (shared : S) : ℕ → Bool → FiberView P → S → Type 0 where
     begins : Goes first shared 0 false first shared
-    went : {n : ℕ} {b : Bool} {f g : FiberView P} {s t : S} → Goes first shared n b f s → MakesStep calls facts nodes f s stepped.Went g t
+    went : {n : ℕ} {b : Bool} {f g : FiberView P} {s t : S} → Goes first shared n b f s → MakesStep theory f s stepped.Went g t
         → Goes first shared (suc n) false g t
-    waited : {n : ℕ} {f g h : FiberView P} {s t u : S} {wait : Source} → Goes first shared n false f s → OnlyWaits calls nodes f s wait g t
+    waited : {n : ℕ} {f g h : FiberView P} {s t u : S} {wait : Source} → Goes first shared n false f s → OnlyWaits theory f s wait g t
         → Registers g t wait h u → Goes first shared (suc n) true h u
 
   -- after fewer than 64 such steps comes one with this answer
@@ -37,7 +35,7 @@ module _ {P S : Type 0} (calls : PortCalls P S) (facts : P → Facts) (nodes : L
     pub before : FiberView P
     pub between : S
     pub goes : Goes old shared steps was before between
-    pub last : MakesStep calls facts nodes before between answer new shared'
+    pub last : MakesStep theory before between answer new shared'
 
   -- after fewer than 64 such steps memory is refused, and the fiber stands as after the last of them
   pub record Refused (old : FiberView P) (shared : S) (new : FiberView P) (shared' : S) : Type 0 where
@@ -46,7 +44,7 @@ module _ {P S : Type 0} (calls : PortCalls P S) (facts : P → Facts) (nodes : L
     pub was : Bool
     pub before : FiberView P
     pub goes : Goes old shared steps was before shared'
-    pub unchanged : IsUnchanged nodes before new
+    pub unchanged : IsUnchanged theory.code before new
 
   -- the fiber waits: it waited in the last of fewer than 64 such steps and was registered, and one more step waits too
   pub record Waited (old : FiberView P) (shared : S) (new : FiberView P) (shared' : S) : Type 0 where
@@ -56,7 +54,7 @@ module _ {P S : Type 0} (calls : PortCalls P S) (facts : P → Facts) (nodes : L
     pub between : S
     pub goes : Goes old shared steps true before between
     pub wait : Source
-    pub last : OnlyWaits calls nodes before between wait new shared'
+    pub last : OnlyWaits theory before between wait new shared'
     pub source : new.source ≡ Some wait
 
   -- it yields, and is registered for nothing: it gave way
@@ -74,7 +72,7 @@ module _ {P S : Type 0} (calls : PortCalls P S) (facts : P → Facts) (nodes : L
 
   -- a poll of a fiber that has ended makes no step
   pub record HadEnded (old : FiberView P) (shared : S) (new : FiberView P) (shared' : S) : Type 0 where
-    pub ended : has_ended (progress nodes old) ≡ true
+    pub ended : has_ended (progress theory.code old) ≡ true
     pub same : new ≡ old
     pub shared_is : shared' ≡ shared
 

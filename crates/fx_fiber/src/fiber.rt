@@ -44,10 +44,10 @@ impl<P: Port> Model for Fiber<P> {
     ghost view = { λ f. fiber_at f.port f.body.value.trace.items f.body.value.machine
         f.body.value.source };
 
-    ghost invariant = { λ f. ((P.facts f.port).number ≡ f.body.value.id)
-        × IsKept P.code P.total (P.facts f.port) (P.agrees f.port) f.body.value.trace.items
+    ghost invariant = { λ f. ((P.theory.facts f.port).number ≡ f.body.value.id)
+        × IsKept P.theory f.port f.body.value.trace.items
         f.body.value.machine
-        × ((P.facts f.port).number < P.total) };
+        × ((P.theory.facts f.port).number < P.theory.total) };
 }
 
 impl<P: Port> Fiber<P> {
@@ -73,10 +73,10 @@ impl<P: Port> Fiber<P> {
     pub fn new(alloc: Global, code: &Code, port: P) -> Result<Fiber<P>, Memory>
     where
         P: Drop,
-        requires code { code.now.nodes ≡ P.code }
-        requires facts { P.facts port ≡ first_facts 0 (main_begin_of code.now.nodes) }
-        requires total { (main_begin_of code.now.nodes).end ≤ P.total }
-        requires fresh { P.agrees port [] }
+        requires code { code.now.nodes ≡ P.theory.code }
+        requires facts { P.theory.facts port ≡ first_facts 0 (main_begin_of code.now.nodes) }
+        requires total { (main_begin_of code.now.nodes).end ≤ P.theory.total }
+        requires fresh { P.theory.agrees port [] }
         ensures port { IfOk result (λ fiber. fiber.port ≡ port) }
         ensures trace { IfOk result (λ fiber. fiber.trace ≡ []) }
         ensures counts { IfOk result
@@ -86,31 +86,32 @@ impl<P: Port> Fiber<P> {
         ensures source { IfOk result (λ fiber. fiber.source ≡ None) }
     {
         let begin = main_begin(alloc, code);
-        let body = Body::beginning(alloc, 0, &begin)?;
+        let mut body = Body::beginning(alloc, 0, &begin)?;
+        body.have(begin.slots);
         Ok(Fiber::beginning(port, body))
     }
 
     /// The fiber over this port before its first step.
     pub(crate) fn beginning(port: P, body: Box<Body>) -> Fiber<P>
-        requires body { IsFirstBody P.code (P.facts port).number (P.facts port).beginning body.value }
-        requires countable { work_left (Runs (origin_of P.code (P.facts port).beginning).term) < 2 ^ 63 }
-        requires scoped { IsScopedOver is_fiber_number (origin_of P.code (P.facts port).beginning).term }
-        requires room { HasRoom (origin_of P.code (P.facts port).beginning) }
-        requires word { (P.facts port).beginning.end < 2 ^ 32 }
-        requires within { (P.facts port).beginning.end ≤ P.total }
-        requires below { (P.facts port).number < P.total }
-        requires facts { P.facts port ≡ first_facts (P.facts port).number (P.facts port).beginning }
-        requires fresh { P.agrees port [] }
+        requires body { IsFirstBody P.theory.code (P.theory.facts port).number (P.theory.facts port).beginning body.value }
+        requires countable { work_left (Runs (origin_of P.theory.code (P.theory.facts port).beginning).term) < 2 ^ 63 }
+        requires scoped { IsScopedOver is_fiber_number (origin_of P.theory.code (P.theory.facts port).beginning).term }
+        requires room { HasRoom (origin_of P.theory.code (P.theory.facts port).beginning) }
+        requires word { (P.theory.facts port).beginning.end < 2 ^ 32 }
+        requires within { (P.theory.facts port).beginning.end ≤ P.theory.total }
+        requires below { (P.theory.facts port).number < P.theory.total }
+        requires facts { P.theory.facts port ≡ first_facts (P.theory.facts port).number (P.theory.facts port).beginning }
+        requires fresh { P.theory.agrees port [] }
         ensures port { result.port ≡ port }
-        ensures first { IsAtFirst P.code (origin_of P.code (P.facts port).beginning) result }
+        ensures first { IsAtFirst P.theory.code (origin_of P.theory.code (P.theory.facts port).beginning) result }
     {
         Fiber { port, body }
     }
 
     /// The fiber's number.
     pub fn id(&self) -> u32
-        ensures is { result ≡ (P.facts self.now.port).number }
-        ensures below { result < P.total }
+        ensures is { result ≡ (P.theory.facts self.now.port).number }
+        ensures below { result < P.theory.total }
     {
         self.body.id
     }
@@ -134,16 +135,16 @@ impl<P: Port> Fiber<P> {
     /// The events so far, the first one first.
     pub fn trace(&self) -> &[Event]
         ensures events { result.now ≡ self.now.trace }
-        ensures lawful { IsLawful P.code (P.facts self.now.port).beginning (P.agrees self.now.port)
-            self.now.trace self.now.counts (progress P.code self.now) }
+        ensures lawful { IsLawful P.theory.code (P.theory.facts self.now.port).beginning (P.theory.agrees self.now.port)
+            self.now.trace self.now.counts (progress P.theory.code self.now) }
     {
         &self.body.trace
     }
 
     /// Whether the fiber has ended.
     pub fn has_ended(&self) -> bool
-        ensures ended { result ≡ has_ended (progress P.code self.now) }
-        ensures finished { result ≡ (P.facts self.now.port).has_finished }
+        ensures ended { result ≡ has_ended (progress P.theory.code self.now) }
+        ensures finished { result ≡ (P.theory.facts self.now.port).has_finished }
     {
         matches!(self.body.machine.focus, Focus::Ended(_))
     }
@@ -151,9 +152,9 @@ impl<P: Port> Fiber<P> {
     /// Whether the fiber can step where the outside is as a run left it: it has not ended, and is due to
     /// be canceled, or has a request to see, or what its leaf waits for is there. It makes no step.
     pub fn can_step(&self, code: &Code, closed: &Closed) -> bool
-        requires code { code.now.nodes ≡ P.code }
-        ensures { result ≡ can_step (outside_of closed.now) (P.facts self.now.port).number
-            self.now.counts (progress P.code self.now) }
+        requires code { code.now.nodes ≡ P.theory.code }
+        ensures { result ≡ can_step (outside_of closed.now) (P.theory.facts self.now.port).number
+            self.now.counts (progress P.theory.code self.now) }
     {
         self.body.machine.can_step(code, self.id(), closed)
     }
@@ -161,8 +162,8 @@ impl<P: Port> Fiber<P> {
     /// What the fiber waits for where it stands, if that is a place where a fiber can wait. A step that
     /// answers that the fiber waits answers this too.
     pub fn waits_for(&self, code: &Code) -> Option<Source>
-        requires code { code.now.nodes ≡ P.code }
-        ensures { result ≡ option_and_then wait_at (leaf_at (progress P.code self.now)) }
+        requires code { code.now.nodes ≡ P.theory.code }
+        ensures { result ≡ option_and_then wait_at (leaf_at (progress P.theory.code self.now)) }
     {
         self.body.machine.waits_for(code)
     }
@@ -176,9 +177,9 @@ impl<P: Port> Fiber<P> {
 
     /// Registers the fiber with what it waits for, by its port.
     pub fn wait_on(&mut self, shared: &mut P::Shared, source: Source)
-        ensures told { P.calls.waits self.old.port shared.old source self.new.port shared.new }
+        ensures told { P.theory.calls.waits self.old.port shared.old source self.new.port shared.new }
         ensures same { self.new ≡ record self.old { port = self.new.port; source = Some source } }
-        ensures facts { P.facts self.new.port ≡ P.facts self.old.port }
+        ensures facts { P.theory.facts self.new.port ≡ P.theory.facts self.old.port }
     {
         self.port.wait_on(shared, source);
         self.body.source = Some(source);
@@ -194,11 +195,11 @@ impl<P: Port> Fiber<P> {
     /// Requests the cancellation of a fiber from outside, by this fiber's port, and changes nothing else.
     /// Where the port has no memory for it, nothing has changed.
     pub fn outside(&mut self, shared: &mut P::Shared, id: u32) -> Result<(), Memory>
-        requires may { P.may id ≡ true }
+        requires may { P.theory.may id ≡ true }
         ensures told { OnOk result
-            (P.calls.outsides self.old.port shared.old id self.new.port shared.new) }
+            (P.theory.calls.outsides self.old.port shared.old id self.new.port shared.new) }
         ensures same { self.new ≡ record self.old { port = self.new.port } }
-        ensures facts { P.facts self.new.port ≡ P.facts self.old.port }
+        ensures facts { P.theory.facts self.new.port ≡ P.theory.facts self.old.port }
         ensures unchanged { OnErr result ((self.new ≡ self.old) × (shared.new ≡ shared.old)) }
     {
         self.port.outside(shared, id)
@@ -206,12 +207,12 @@ impl<P: Port> Fiber<P> {
 
     /// The fiber without its port, and the port.
     pub fn part(self, code: &Code) -> (Bare, P)
-        requires code { code.now.nodes ≡ P.code }
+        requires code { code.now.nodes ≡ P.theory.code }
         ensures port { result.1 ≡ self.port }
-        ensures bare { result.0 ≡ bare_of P.code (P.facts self.port).number self }
-        ensures lawful { IsLawful P.code (P.facts result.1).beginning (P.agrees result.1)
+        ensures bare { result.0 ≡ bare_of P.theory.code (P.theory.facts self.port).number self }
+        ensures lawful { IsLawful P.theory.code (P.theory.facts result.1).beginning (P.theory.agrees result.1)
             result.0.trace result.0.counts (reached result.0) }
-        ensures finished { (P.facts result.1).has_finished ≡ has_ended (reached result.0) }
+        ensures finished { (P.theory.facts result.1).has_finished ≡ has_ended (reached result.0) }
     {
         let Fiber { port, body } = self;
         (Bare::new(body, code), port)
@@ -221,14 +222,14 @@ impl<P: Port> Fiber<P> {
     /// it needs is had before anything is done through the port, so that want of memory leaves the
     /// fiber and the outside as they were.
     pub fn step(&mut self, code: &Code, shared: &mut P::Shared) -> Result<Stepped<P>, Memory>
-        requires code { code.now.nodes ≡ P.code }
-        requires going { has_ended (progress P.code self.old) ≡ false }
-        ensures ok { IfOk result (λ answer. DoesStep P.calls P.facts P.code
+        requires code { code.now.nodes ≡ P.theory.code }
+        requires going { has_ended (progress P.theory.code self.old) ≡ false }
+        ensures ok { IfOk result (λ answer. DoesStep P.theory
             self.old shared.old answer self.new shared.new) }
         ensures err { OnErr result
-            (IsUnchanged P.code self.old self.new × (shared.new ≡ shared.old)) }
-        ensures number { (P.facts self.new.port).number ≡ (P.facts self.old.port).number }
-        ensures beginning { (P.facts self.new.port).beginning ≡ (P.facts self.old.port).beginning }
+            (IsUnchanged P.theory.code self.old self.new × (shared.new ≡ shared.old)) }
+        ensures number { (P.theory.facts self.new.port).number ≡ (P.theory.facts self.old.port).number }
+        ensures beginning { (P.theory.facts self.new.port).beginning ≡ (P.theory.facts self.old.port).beginning }
         ensures source { self.new.source ≡ self.old.source }
     {
         step(&mut self.port, &mut self.body, code, shared)
@@ -240,13 +241,13 @@ impl<P: Port> Fiber<P> {
     /// its last step. It answers how many steps it made. Want of memory leaves the rules that were made
     /// before it.
     pub fn burst(&mut self, code: &Code, shared: &mut P::Shared, most: u32) -> Result<u32, Memory>
-        requires code { code.now.nodes ≡ P.code }
-        ensures ok { IfOk result (λ n. Bursts P.calls P.facts P.code most n
+        requires code { code.now.nodes ≡ P.theory.code }
+        ensures ok { IfOk result (λ n. Bursts P.theory most n
             self.old shared.old self.new shared.new) }
-        ensures err { OnErr result (BurstsShort P.calls P.facts P.code most
+        ensures err { OnErr result (BurstsShort P.theory most
             self.old shared.old self.new shared.new) }
-        ensures number { (P.facts self.new.port).number ≡ (P.facts self.old.port).number }
-        ensures beginning { (P.facts self.new.port).beginning ≡ (P.facts self.old.port).beginning }
+        ensures number { (P.theory.facts self.new.port).number ≡ (P.theory.facts self.old.port).number }
+        ensures beginning { (P.theory.facts self.new.port).beginning ≡ (P.theory.facts self.old.port).beginning }
         ensures source { self.new.source ≡ self.old.source }
     {
         burst(&mut self.port, &mut self.body, code, shared, most)

@@ -1,12 +1,12 @@
 //! What a fiber reaches of the outside.
-ghost use Rattle.std.specs.Prelude.{◌≡◌, ℕ, ◌<◌, ◌^◌, Bool, true, false, List, ◌++◌, ◌∷◌, []};
+ghost use Rattle.std.specs.Prelude.{◌≡◌, ◌<◌, ◌^◌, true, false, []};
 ghost use Rattle.std.specs.Prelude.{IfSome, IfOk, IfNone, OnOk, OnErr};
 ghost use Rattle.std.specs.Bool.{OnTrue, OnFalse};
-ghost use Rattle.fx_term.specs.declared.node.Node.{Node};
-ghost use Rattle.fx_fiber.specs.Deed.{Deed, Started, Requested, Saw, Got, FoundEmpty, FoundEnded, Ended};
+ghost use Rattle.fx_fiber.specs.Deed.{Started, Requested, Saw, Got, FoundEmpty, FoundEnded, Ended};
 ghost use Rattle.fx_fiber.specs.Deed.{deed_of_offer};
-ghost use Rattle.fx_fiber.specs.Calls.{PortCalls, HasRange, range_after, puts_after, OnFull};
-ghost use Rattle.fx_fiber.specs.PortFacts.{Facts, first_facts};
+ghost use Rattle.fx_fiber.specs.Calls.{HasRange, range_after, puts_after, OnFull};
+ghost use Rattle.fx_fiber.specs.PortFacts.{first_facts};
+ghost use Rattle.fx_fiber.specs.Theory.{Theory, HasDone, HasDoneNothing};
 
 use fx_model::Source;
 use fx_term::{Begin, Memory, Offered, Outcome};
@@ -18,17 +18,17 @@ use fx_term::{Begin, Memory, Offered, Outcome};
 ///
 /// # To write a port
 ///
-/// The ghost members say what contracts know of a port. `code`, `total`, `may` and `calls` are of its type,
-/// the others of a value:
+/// The ghost member `theory` says what contracts know of a port. The first four of its fields are of the port's
+/// type, the others of a value:
 ///
-/// | member | what it is |
+/// | field | what it is |
 /// |---|---|
 /// | `code` | the nodes of the code, mostly `J.nodes` of a type `J` that names it |
 /// | `total` | a number above that of each fiber, as the end of the main fiber's range |
 /// | `may` | which numbers `outside` may be called with: some at least, since the checker takes no contract that no call can meet |
+/// | `calls` | what each call does, by port and shared before it, what is given and answered, and both after it; a caller knows no more |
 /// | `facts` | whose port it is, and how far its fiber has come by it: a record of the five below |
 /// | `agrees` | what the port says of its fiber's deeds: of none at first, and of one more with each deed; `Unit {0}` where the calls say all |
-/// | `calls` | what each call does, by port and shared before it, what is given and answered, and both after it; a caller knows no more |
 ///
 /// The facts of a port, which are `first_facts` at first:
 ///
@@ -64,22 +64,24 @@ use fx_term::{Begin, Memory, Offered, Outcome};
 /// impl<J: CodeBrand> Port for Alone<J> {
 ///     type Shared = Global;
 ///
-///     ghost code = { J.nodes };
-///     ghost total = { 2 ^ 32 };
-///     ghost facts = { λ p. record {
-///       number = p.id;
-///       beginning = p.begin;
-///       range = record { next = p.next; end = p.begin.end };
-///       has_finished = p.has_ended;
-///       puts = 0;
-///     } };
-///     ghost agrees = { λ p deeds. Unit {0} };
-///     ghost may = { λ id. true };
-///     ghost calls = { record {
-///       looks = λ p s found p' s'. (found ≡ false) × (p' ≡ p) × (s' ≡ s);
-///       requests = λ p s id p' s'. (p' ≡ p) × (s' ≡ s);
-///       starts = λ p s id begin child p' s'. (p' ≡ record p { next = begin.end }) × (s' ≡ s);
-///       ..
+///     ghost theory = { record {
+///       code = J.nodes;
+///       total = 2 ^ 32;
+///       may = λ id. true;
+///       calls = record {
+///         looks = λ p s found p' s'. (found ≡ false) × (p' ≡ p) × (s' ≡ s);
+///         requests = λ p s id p' s'. (p' ≡ p) × (s' ≡ s);
+///         starts = λ p s id begin child p' s'. (p' ≡ record p { next = begin.end }) × (s' ≡ s);
+///         ..
+///       };
+///       facts = λ p. record {
+///         number = p.id;
+///         beginning = p.begin;
+///         range = record { next = p.next; end = p.begin.end };
+///         has_finished = p.has_ended;
+///         puts = 0;
+///       };
+///       agrees = λ p deeds. Unit {0};
 ///     } };
 ///
 ///     fn look(&mut self, _alloc: &mut Global) -> bool {
@@ -101,113 +103,93 @@ pub trait Port: Sized {
     /// What the ports of one place have in common, lent to each call.
     type Shared;
 
-    // the nodes of the code
-    ghost code: { List Node };
-
-    // above the number of each fiber
-    ghost total: { ℕ };
-
-    // whose port it is, and how far its fiber has come by it
-    ghost facts: { Self → Facts };
-
-    // what the port says of the deeds of its fiber: that of no deed is asked where a fiber is made,
-    // and each call keeps it by its deed
-    ghost agrees: { Self → List Deed → Type 0 };
-
-    // the numbers of the fibers that may be requested from outside
-    ghost may: { ℕ → Bool };
-
-    // what each call does
-    ghost calls: { PortCalls Self Self.Shared };
+    // what contracts know of a port of this type
+    ghost theory: { Theory Self Self.Shared };
 
     /// Whether the fiber's cancellation is requested.
     fn look(&mut self, shared: &mut Self::Shared) -> bool
-        ensures told { calls.looks self.old shared.old result self.new shared.new }
-        ensures facts { facts self.new ≡ facts self.old }
-        ensures deed { OnTrue result ((deeds : List Deed)
-            → agrees self.old deeds → agrees self.new (deeds ++ Saw ∷ [])) }
+        ensures told { theory.calls.looks self.old shared.old result self.new shared.new }
+        ensures facts { theory.facts self.new ≡ theory.facts self.old }
+        ensures deed { OnTrue result (HasDone theory Saw self.old self.new) }
         ensures unchanged { OnFalse result ((self.new ≡ self.old) × (shared.new ≡ shared.old)) };
 
     /// Requests the cancellation of a fiber, whatever its number is.
     fn request(&mut self, shared: &mut Self::Shared, id: u32)
-        ensures told { calls.requests self.old shared.old id self.new shared.new }
-        ensures facts { facts self.new ≡ facts self.old }
-        ensures deed { (deeds : List Deed)
-            → agrees self.old deeds → agrees self.new (deeds ++ Requested id ∷ []) };
+        ensures told { theory.calls.requests self.old shared.old id self.new shared.new }
+        ensures facts { theory.facts self.new ≡ theory.facts self.old }
+        ensures deed { HasDone theory (Requested id) self.old self.new };
 
     /// The outcome of a fiber, if it has ended, whatever its number is.
     fn peek(&mut self, shared: &mut Self::Shared, id: u32) -> Option<Outcome>
-        ensures told { calls.peeks self.old shared.old id result self.new shared.new }
-        ensures facts { facts self.new ≡ facts self.old }
-        ensures deed { IfSome result (λ outcome. (deeds : List Deed)
-            → agrees self.old deeds → agrees self.new (deeds ++ FoundEnded id outcome ∷ [])) }
+        ensures told { theory.calls.peeks self.old shared.old id result self.new shared.new }
+        ensures facts { theory.facts self.new ≡ theory.facts self.old }
+        ensures deed { IfSome result (λ outcome.
+            HasDone theory (FoundEnded id outcome) self.old self.new) }
         ensures unchanged { IfNone result ((self.new ≡ self.old) × (shared.new ≡ shared.old)) };
 
     /// Puts this value at the back of a queue, where it has room (`tryOffer`). A queue that there is
     /// not has none.
     fn offer(&mut self, shared: &mut Self::Shared, queue: u8, value: u64) -> Result<Offered, Memory>
-        requires countable { (facts self.old).puts < 2 ^ 63 }
+        requires countable { (theory.facts self.old).puts < 2 ^ 63 }
         ensures told { IfOk result (λ answer.
-            calls.offers self.old shared.old queue value answer self.new shared.new) }
-        ensures facts { IfOk result (λ answer. facts self.new
-            ≡ record (facts self.old) { puts = puts_after answer (facts self.old).puts }) }
-        ensures deed { IfOk result (λ answer. (deeds : List Deed) → agrees self.old deeds
-            → agrees self.new (deeds ++ deed_of_offer queue value answer ∷ [])) }
+            theory.calls.offers self.old shared.old queue value answer self.new shared.new) }
+        ensures facts { IfOk result (λ answer. theory.facts self.new
+            ≡ record (theory.facts self.old) { puts = puts_after answer (theory.facts self.old).puts }) }
+        ensures deed { IfOk result (λ answer.
+            HasDone theory (deed_of_offer queue value answer) self.old self.new) }
         ensures full { IfOk result (λ answer. OnFull answer
             ((self.new ≡ self.old) × (shared.new ≡ shared.old))) }
         ensures unchanged { OnErr result ((self.new ≡ self.old) × (shared.new ≡ shared.old)) };
 
     /// Takes the front of a queue, if it has one (`tryTake`). A queue that there is not has none.
     fn take(&mut self, shared: &mut Self::Shared, queue: u8) -> Option<u64>
-        ensures told { calls.takes self.old shared.old queue result self.new shared.new }
-        ensures facts { facts self.new ≡ facts self.old }
-        ensures deed { IfSome result (λ value. (deeds : List Deed)
-            → agrees self.old deeds → agrees self.new (deeds ++ Got queue value ∷ [])) }
-        ensures empty { IfNone result ((deeds : List Deed)
-            → agrees self.old deeds → agrees self.new (deeds ++ FoundEmpty queue ∷ [])) }
+        ensures told { theory.calls.takes self.old shared.old queue result self.new shared.new }
+        ensures facts { theory.facts self.new ≡ theory.facts self.old }
+        ensures deed { IfSome result (λ value.
+            HasDone theory (Got queue value) self.old self.new) }
+        ensures empty { IfNone result (HasDone theory (FoundEmpty queue) self.old self.new) }
         ensures unchanged { IfNone result ((self.new ≡ self.old) × (shared.new ≡ shared.old)) };
 
     /// The port of a child that begins so. The child has the first number that is left, and its range
     /// follows that; what comes after its range is left for other children.
     fn start(&mut self, shared: &mut Self::Shared, id: u32, begin: &Begin) -> Result<Self, Memory>
-        requires range { HasRange (facts self.old).range id begin.now }
-        requires going { (facts self.old).has_finished ≡ false }
+        requires range { HasRange (theory.facts self.old).range id begin.now }
+        requires going { (theory.facts self.old).has_finished ≡ false }
         ensures told { IfOk result (λ child.
-            calls.starts self.old shared.old id begin.now child self.new shared.new) }
-        ensures child_facts { IfOk result (λ child. facts child ≡ first_facts id begin.now) }
-        ensures child_fresh { IfOk result (λ child. agrees child []) }
-        ensures facts { IfOk result (λ child. facts self.new
-            ≡ record (facts self.old) { range = range_after begin.now (facts self.old).range }) }
-        ensures deed { IfOk result (λ child. (deeds : List Deed)
-            → agrees self.old deeds → agrees self.new (deeds ++ Started id begin.now ∷ [])) }
+            theory.calls.starts self.old shared.old id begin.now child self.new shared.new) }
+        ensures child_facts { IfOk result (λ child. theory.facts child ≡ first_facts id begin.now) }
+        ensures child_fresh { IfOk result (λ child. theory.agrees child []) }
+        ensures facts { IfOk result (λ child. theory.facts self.new
+            ≡ record (theory.facts self.old) { range = range_after begin.now (theory.facts self.old).range }) }
+        ensures deed { IfOk result (λ child.
+            HasDone theory (Started id begin.now) self.old self.new) }
         ensures unchanged { OnErr result ((self.new ≡ self.old) × (shared.new ≡ shared.old)) };
 
     /// Tells the outside how the fiber ended.
     fn finish(&mut self, shared: &mut Self::Shared, outcome: Outcome)
-        requires going { (facts self.old).has_finished ≡ false }
-        ensures told { calls.finishes self.old shared.old outcome self.new shared.new }
-        ensures facts { facts self.new ≡ record (facts self.old) { has_finished = true } }
-        ensures deed { (deeds : List Deed)
-            → agrees self.old deeds → agrees self.new (deeds ++ Ended outcome ∷ []) };
+        requires going { (theory.facts self.old).has_finished ≡ false }
+        ensures told { theory.calls.finishes self.old shared.old outcome self.new shared.new }
+        ensures facts { theory.facts self.new ≡ record (theory.facts self.old) { has_finished = true } }
+        ensures deed { HasDone theory (Ended outcome) self.old self.new };
 
     /// Requests the cancellation of a fiber from outside, whatever its number is. It is no deed of this
     /// port's fiber.
     fn outside(&mut self, shared: &mut Self::Shared, id: u32) -> Result<(), Memory>
-        requires may { may id ≡ true }
-        ensures told { OnOk result (calls.outsides self.old shared.old id self.new shared.new) }
-        ensures facts { facts self.new ≡ facts self.old }
-        ensures deed { (deeds : List Deed) → agrees self.old deeds → agrees self.new deeds }
+        requires may { theory.may id ≡ true }
+        ensures told { OnOk result (theory.calls.outsides self.old shared.old id self.new shared.new) }
+        ensures facts { theory.facts self.new ≡ theory.facts self.old }
+        ensures deed { HasDoneNothing theory self.old self.new }
         ensures unchanged { OnErr result ((self.new ≡ self.old) × (shared.new ≡ shared.old)) };
 
     /// Registers the fiber with what it waits for, so that it is woken once that may have come. It is no
     /// deed.
     fn wait_on(&mut self, shared: &mut Self::Shared, source: Source)
-        ensures told { calls.waits self.old shared.old source self.new shared.new }
-        ensures facts { facts self.new ≡ facts self.old }
-        ensures deed { (deeds : List Deed) → agrees self.old deeds → agrees self.new deeds };
+        ensures told { theory.calls.waits self.old shared.old source self.new shared.new }
+        ensures facts { theory.facts self.new ≡ theory.facts self.old }
+        ensures deed { HasDoneNothing theory self.old self.new };
 
     /// Takes out the number of a fiber that is to be woken, if one is noted.
     fn woken(shared: &mut Self::Shared) -> Option<u32>
-        ensures told { calls.wakes shared.old result shared.new }
-        ensures below { IfSome result (λ id. id < total) };
+        ensures told { theory.calls.wakes shared.old result shared.new }
+        ensures below { IfSome result (λ id. id < theory.total) };
 }

@@ -22,13 +22,13 @@ pub struct Turn<'a, P: Port> {
     fiber: &'a mut Fiber<P>,
     code: &'a Code,
     shared: &'a mut P::Shared,
-    ghost fits: { code.now.nodes ≡ P.code },
+    ghost fits: { code.now.nodes ≡ P.theory.code },
 }
 
 impl<'a, P: Port> Turn<'a, P> {
     /// A turn of this fiber, over what its port shares.
     pub fn new(fiber: &'a mut Fiber<P>, code: &'a Code, shared: &'a mut P::Shared) -> Turn<'a, P>
-        requires { code.now.nodes ≡ P.code }
+        requires { code.now.nodes ≡ P.theory.code }
         ensures fiber { (result.fiber.ghost_name ≡ fiber.entry.ghost_name)
             × (result.fiber.now ≡ fiber.entry.now) }
         ensures shared { (result.shared.ghost_name ≡ shared.entry.ghost_name)
@@ -53,10 +53,10 @@ impl<'a, P: Port> Future for Turn<'a, P> {
         ensures kept { Keeps cx.old cx.new }
         ensures same_fiber { (self.new.fiber.ghost_name ≡ self.old.fiber.ghost_name)
             × (self.new.shared.ghost_name ≡ self.old.shared.ghost_name) }
-        ensures number { (P.facts self.new.fiber.now.port).number ≡ (P.facts self.old.fiber.now.port).number }
-        ensures beginning { (P.facts self.new.fiber.now.port).beginning
-            ≡ (P.facts self.old.fiber.now.port).beginning }
-        ensures turns { Turns P.calls P.facts P.code self.old.fiber.now
+        ensures number { (P.theory.facts self.new.fiber.now.port).number ≡ (P.theory.facts self.old.fiber.now.port).number }
+        ensures beginning { (P.theory.facts self.new.fiber.now.port).beginning
+            ≡ (P.theory.facts self.old.fiber.now.port).beginning }
+        ensures turns { Turns P.theory self.old.fiber.now
             self.old.shared.now (come_to result) self.new.fiber.now self.new.shared.now }
     {
         match stepped(self.fiber, self.code, self.shared) {
@@ -69,10 +69,10 @@ impl<'a, P: Port> Future for Turn<'a, P> {
 /// Steps the fiber until its turn has come to something, or until it waits, has given way or has gone on
 /// for long enough, which is none.
 fn stepped<P: Port>(fiber: &mut Fiber<P>, code: &Code, shared: &mut P::Shared) -> Option<Turned<P>>
-    requires { code.now.nodes ≡ P.code }
-    ensures number { (P.facts fiber.new.port).number ≡ (P.facts fiber.old.port).number }
-    ensures beginning { (P.facts fiber.new.port).beginning ≡ (P.facts fiber.old.port).beginning }
-    ensures turns { Turns P.calls P.facts P.code fiber.old shared.old result
+    requires { code.now.nodes ≡ P.theory.code }
+    ensures number { (P.theory.facts fiber.new.port).number ≡ (P.theory.facts fiber.old.port).number }
+    ensures beginning { (P.theory.facts fiber.new.port).beginning ≡ (P.theory.facts fiber.old.port).beginning }
+    ensures turns { Turns P.theory fiber.old shared.old result
         fiber.new shared.new }
 {
     if fiber.has_ended() {

@@ -38,33 +38,30 @@ impl<J: CodeBrand> Alone<J> {
 impl<J: CodeBrand> Port for Alone<J> {
     type Shared = Global;
 
-    ghost code = { J.nodes };
-
-    ghost total = { 2 ^ 32 };
-
-    ghost facts = { λ p. record {
-      number = p.id;
-      beginning = p.begin;
-      range = record { next = p.next; end = p.begin.end };
-      has_finished = p.has_ended;
-      puts = 0;
-    } };
-
-    ghost agrees = { λ p deeds. Unit {0} };
-
-    ghost may = { λ id. true };
-
-    ghost calls = { record {
-      looks = λ p s found p' s'. (found ≡ false) × (p' ≡ p) × (s' ≡ s);
-      requests = λ p s id p' s'. (p' ≡ p) × (s' ≡ s);
-      peeks = λ p s id outcome p' s'. (outcome ≡ None) × (p' ≡ p) × (s' ≡ s);
-      offers = λ p s queue value answer p' s'. (answer ≡ Full) × (p' ≡ p) × (s' ≡ s);
-      takes = λ p s queue value p' s'. (value ≡ None) × (p' ≡ p) × (s' ≡ s);
-      starts = λ p s id begin child p' s'. (p' ≡ record p { next = begin.end }) × (s' ≡ s);
-      finishes = λ p s outcome p' s'. (p' ≡ record p { has_ended = true }) × (s' ≡ s);
-      outsides = λ p s id p' s'. (p' ≡ p) × (s' ≡ s);
-      waits = λ p s source p' s'. (p' ≡ p) × (s' ≡ s);
-      wakes = λ s woken s'. (woken ≡ None) × (s' ≡ s);
+    ghost theory = { record {
+      code = J.nodes;
+      total = 2 ^ 32;
+      may = λ id. true;
+      calls = record {
+        looks = λ p s found p' s'. (found ≡ false) × (p' ≡ p) × (s' ≡ s);
+        requests = λ p s id p' s'. (p' ≡ p) × (s' ≡ s);
+        peeks = λ p s id outcome p' s'. (outcome ≡ None) × (p' ≡ p) × (s' ≡ s);
+        offers = λ p s queue value answer p' s'. (answer ≡ Full) × (p' ≡ p) × (s' ≡ s);
+        takes = λ p s queue value p' s'. (value ≡ None) × (p' ≡ p) × (s' ≡ s);
+        starts = λ p s id begin child p' s'. (p' ≡ record p { next = begin.end }) × (s' ≡ s);
+        finishes = λ p s outcome p' s'. (p' ≡ record p { has_ended = true }) × (s' ≡ s);
+        outsides = λ p s id p' s'. (p' ≡ p) × (s' ≡ s);
+        waits = λ p s source p' s'. (p' ≡ p) × (s' ≡ s);
+        wakes = λ s woken s'. (woken ≡ None) × (s' ≡ s);
+      };
+      facts = λ p. record {
+        number = p.id;
+        beginning = p.begin;
+        range = record { next = p.next; end = p.begin.end };
+        has_finished = p.has_ended;
+        puts = 0;
+      };
+      agrees = λ p deeds. Unit {0};
     } };
 
     fn look(&mut self, _alloc: &mut Global) -> bool {

@@ -137,33 +137,30 @@ impl<J: CodeBrand> TestPort<J> {
 impl<J: CodeBrand> Port for TestPort<J> {
     type Shared = Looks;
 
-    ghost code = { J.nodes };
-
-    ghost total = { 2 ^ 32 };
-
-    ghost facts = { λ p. record {
-      number = p.id;
-      beginning = p.begin;
-      range = record { next = p.next; end = p.begin.end };
-      has_finished = is_some p.told;
-      puts = p.puts;
-    } };
-
-    ghost agrees = { λ p deeds. Unit {0} };
-
-    ghost may = { λ id. true };
-
-    ghost calls = { record {
-      looks = λ p s answer p' s'. (p' ≡ record p { saw = answer || p.saw }) × (s' ≡ s);
-      requests = λ p s id p' s'. (p' ≡ p) × (s' ≡ s);
-      peeks = λ p s id answer p' s'. (answer ≡ None) × (p' ≡ p) × (s' ≡ s);
-      offers = λ p s queue n answer p' s'. Unit {0};
-      takes = λ p s queue answer p' s'. Unit {0};
-      starts = λ p s id begin child p' s'. (child.begin ≡ begin) × (p' ≡ record p { next = begin.end }) × (s' ≡ s);
-      finishes = λ p s outcome p' s'. (p' ≡ record p { told = Some outcome }) × (s' ≡ s);
-      outsides = λ p s id p' s'. p' ≡ p;
-      waits = λ p s source p' s'. (p' ≡ p) × (s' ≡ s);
-      wakes = λ s woken s'. (woken ≡ None) × (s' ≡ s);
+    ghost theory = { record {
+      code = J.nodes;
+      total = 2 ^ 32;
+      may = λ id. true;
+      calls = record {
+        looks = λ p s answer p' s'. (p' ≡ record p { saw = answer || p.saw }) × (s' ≡ s);
+        requests = λ p s id p' s'. (p' ≡ p) × (s' ≡ s);
+        peeks = λ p s id answer p' s'. (answer ≡ None) × (p' ≡ p) × (s' ≡ s);
+        offers = λ p s queue n answer p' s'. Unit {0};
+        takes = λ p s queue answer p' s'. Unit {0};
+        starts = λ p s id begin child p' s'. (child.begin ≡ begin) × (p' ≡ record p { next = begin.end }) × (s' ≡ s);
+        finishes = λ p s outcome p' s'. (p' ≡ record p { told = Some outcome }) × (s' ≡ s);
+        outsides = λ p s id p' s'. p' ≡ p;
+        waits = λ p s source p' s'. (p' ≡ p) × (s' ≡ s);
+        wakes = λ s woken s'. (woken ≡ None) × (s' ≡ s);
+      };
+      facts = λ p. record {
+        number = p.id;
+        beginning = p.begin;
+        range = record { next = p.next; end = p.begin.end };
+        has_finished = is_some p.told;
+        puts = p.puts;
+      };
+      agrees = λ p deeds. Unit {0};
     } };
 
     fn look(&mut self, looks: &mut Looks) -> bool {

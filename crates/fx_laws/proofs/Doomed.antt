@@ -10,7 +10,7 @@ use Rattle.fx_model.specs.Path.{LetIn, cleanup_terms, is_open, must_cancel}
 use Rattle.fx_model.specs.Row.{Counts, Label, Shows, known_canceled, Row}
 use Rattle.fx_model.specs.Step.{Progress, Runs, Unwinds, Step, cancelled, seen, row, succeeds, errs}
 use Rattle.fx_model.specs.Run.{Leads}
-use Rattle.fx_laws.proofs.Views.{HasRun, IsMatched, rests, silent_first}
+use Rattle.fx_laws.proofs.Views.{HasRun, IsMatched, stays, silent_first}
 use Rattle.fx_laws.proofs.SilentRows.{LeadsSilently, let_value_leads, handle_value_leads, handle_error_leads, pure_leads, leads_placed, silent_step}
 use Rattle.fx_laws.proofs.Forced.{IsForced, AreMatched, hidden_right, unwound_both}
 use Rattle.fx_laws.proofs.Looking.{looking}
@@ -42,7 +42,7 @@ module _ {t u : Term} (s : LeadsSilently t u) (opened : is_open t ≡ true) (cle
   to_doom d c free ls e r h = silent_first looking (silent_step s free) ((next d c).0 ls e r h)
 
   from_doom : (d c : Counts) → must_cancel c.known t ≡ false → IsMatched looking c (Runs t) d (Unwinds [])
-  from_doom d c free [] e r h = rests looking
+  from_doom d c free [] e r h = stays looking
   from_doom d c free (l ∷ ls) e r h = by_step h.2 refl h.3
     where
       by_step : {x : Term} {m : Progress} {a : Counts} {l : Label} → Step c (Runs x) l a m → x ≡ t → Leads a m ls e r

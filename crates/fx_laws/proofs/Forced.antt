@@ -12,7 +12,7 @@ use Rattle.fx_model.specs.Step as step
 use Rattle.fx_model.specs.Run.{Leads}
 use Rattle.fx_model.proofs.Paths.{result_has_no_row}
 use Rattle.fx_model.proofs.ShownRuns.{closed_must, never_canceled, closed_row}
-use Rattle.fx_laws.proofs.Views.{View, HasRun, IsMatched, rests, step_like, hidden_first, of_hidden}
+use Rattle.fx_laws.proofs.Views.{View, HasRun, IsMatched, stays, step_like, hidden_first, of_hidden}
 
 -- this step leads on from here, and no other
 pub record IsForced (c : Counts) (p : Progress) (l : Label) (d : Counts) (q : Progress) : Type 0 where
@@ -29,7 +29,7 @@ module _ (v : View) where
 
   after_forced : {c d c' : Counts} {p q p' : Progress} {l : Label} → IsForced c p l d q → ((ls : List Label) (e : Counts) (r : Progress)
       → Leads d q ls e r → HasRun v c' p' (v.of (l ∷ ls))) → IsMatched v c p c' p'
-  after_forced f next [] e r h = rests v
+  after_forced f next [] e r h = stays v
   after_forced {d = d} {q = q} f next (m ∷ ls) e r h =
       let o = f.only m h.0 h.1 h.2 in
       let go : Leads d q ls e r = rw (sym o.1, sym o.2) h.3 in
@@ -105,7 +105,7 @@ unwound c = record { step = step.unwound; only = λ m e r s. one s }
 -- fibers with no clean-up left, and fibers that have ended, are alike, whatever they count
 module _ (v : View) where
   pub ended_matched : (c c' : Counts) (o : Outcome) → IsMatched v c (HasEnded o) c' (HasEnded o)
-  ended_matched c c' o [] d q h = rests v
+  ended_matched c c' o [] d q h = stays v
   ended_matched c c' o (l ∷ ls) d q h = absurd (none h.2)
     where
       none : {l : Label} {e : Counts} {q : Progress} → Step c (HasEnded o) l e q → ⊥

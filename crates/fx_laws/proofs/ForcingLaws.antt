@@ -11,7 +11,7 @@ use Rattle.fx_model.specs.Run.{Leads, shown}
 use Rattle.fx_model.specs.MaskLaws.{BeginsWithSeen, forced_after}
 use Rattle.fx_laws.specs.Everywhere.{placed, CanShowFrom, ShowTheSameEverywhere, ShowsAllOfEverywhere, ShowTheSameEverywhereUnlessSeenFirst}
 use Rattle.fx_laws.proofs.Placed.{must_placed}
-use Rattle.fx_laws.proofs.Views.{HasRun, IsMatched, itself, rests, silent_first}
+use Rattle.fx_laws.proofs.Views.{HasRun, IsMatched, itself, stays, silent_first}
 use Rattle.fx_laws.proofs.SilentRows.{LeadsSilently, pure_leads, raise_leads, let_value_leads, handle_value_leads, handle_error_leads}
 use Rattle.fx_laws.proofs.SilentRows.{leads_placed, silent_step}
 use Rattle.fx_laws.proofs.SameHere.{AreSameHere, same_itself, same_too, both_lead, one_leads, same_inside}
@@ -20,7 +20,7 @@ use Rattle.fx_laws.proofs.Showing.{showing, shows_too, everywhere}
 -- what a run shows that makes a silent step first, unless it sees a request, a run from there shows
 shows_next : (c : Counts) {t u : Term} → LeadsSilently t u → must_cancel c.known t ≡ false → (ls : List Label) (d : Counts) (q : Progress)
     → Leads c (Runs t) ls d q → (BeginsWithSeen (shown ls) → ⊥) → HasRun showing c (Runs u) (shown ls)
-shows_next c s free [] d q h unseen = rests showing
+shows_next c s free [] d q h unseen = stays showing
 shows_next c {t} {u} s free (l ∷ ls) d q h unseen = by_step h.2 refl h.3 unseen
   where
     by_step : {x : Term} {m : Progress} {e : Counts} {l : Label} → Step c (Runs x) l e m → x ≡ t → Leads e m ls d q → (BeginsWithSeen (shown (l ∷ ls)) → ⊥)

@@ -9,7 +9,7 @@ use Rattle.fx_model.specs.Step.{Progress, Runs, Unwinds, Step, cancelled, seen, 
 use Rattle.fx_model.specs.Run.{Leads}
 use Rattle.fx_laws.specs.Everywhere.{placed}
 use Rattle.fx_laws.proofs.Placed.{result_placed, row_placed, RowOfPlaced, moves_in, result_in, row_of_placed}
-use Rattle.fx_laws.proofs.Views.{View, HasRun, IsMatched, rests, step_first, step_like}
+use Rattle.fx_laws.proofs.Views.{View, HasRun, IsMatched, stays, step_first, step_like}
 
 module _ (v : View) (Near : Counts → Counts → Type 0) (Same : Term → Term → Type 0) where
   -- of a row of the second fiber, at counts that go with the first one's, the same is seen
@@ -58,7 +58,7 @@ module _ (v : View) (Near : Counts → Counts → Type 0) (Same : Term → Term 
         result_matched c c' t t' near same w (sym at) (l ∷ ls) e q whole
 
     pub inside_matched : (c c' : Counts) (t t' : Term) → Near c c' → Same t t' → IsMatched v c (Runs (placed fs t)) c' (Runs (placed gs t'))
-    inside_matched c c' t t' near same [] d q h = rests v
+    inside_matched c c' t t' near same [] d q h = stays v
     inside_matched c c' t t' near same (l ∷ ls) d q h = by_step h.2 refl h.3 h (λ e e' w w' n s k. inside_matched e e' w w' n s ls d q k)
       where
         by_step : {x : Term} {m : Progress} {e : Counts} {l : Label} → Step c (Runs x) l e m → x ≡ placed fs t → Leads e m ls d q

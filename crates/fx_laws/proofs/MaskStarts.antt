@@ -12,7 +12,7 @@ use Rattle.fx_model.specs.Run.{Leads}
 use Rattle.fx_laws.specs.Everywhere.{placed}
 use Rattle.fx_laws.specs.Others.{visible, IsCanceledAlone}
 use Rattle.fx_laws.proofs.Placed.{leaf_placed, result_placed, row_placed}
-use Rattle.fx_laws.proofs.Views.{HasRun, IsMatched, rests, silent_first}
+use Rattle.fx_laws.proofs.Views.{HasRun, IsMatched, stays, silent_first}
 use Rattle.fx_laws.proofs.Forced.{unwound}
 use Rattle.fx_laws.proofs.OnlyRows.{mask_row_placed}
 use Rattle.fx_laws.proofs.Looking.{looking}
@@ -52,7 +52,7 @@ module _ (fs : List Context) (p : ℕ) (t : Term) (c : Counts) (unknown : c.know
 
   seen_first : (d e : Counts) (q r : Progress) (ls : List Label) → Leads (known_canceled c) (Runs (placed fs (Mask p t))) ls e r
       → (IsCanceledAlone (visible ls) → ⊥) → HasRun looking d q (visible ls)
-  seen_first d e q r [] h other = rests looking
+  seen_first d e q r [] h other = stays looking
   seen_first d e q r (l ∷ ls) h other =
       let o = (must_forced (known_canceled c) (placed fs (Mask p t)) must_once_known).only l h.0 h.1 h.2 in
       let at : h.1 ≡ Unwinds [] = o.2 ∙ ap Unwinds clean in
@@ -60,14 +60,14 @@ module _ (fs : List Context) (p : ℕ) (t : Term) (c : Counts) (unknown : c.know
       rw o.0 (by_sight (unwound_sees (known_canceled c) e r ls go) (rw o.0 at other))
     where
       by_sight : SeesEndAlone ls → (IsCanceledAlone (visible ls) → ⊥) → HasRun looking d q (visible ls)
-      by_sight (nothing_yet e) other = rw e (rests looking)
+      by_sight (nothing_yet e) other = rw e (stays looking)
       by_sight (its_end e) other = absurd (other e)
 
   -- nothing else is seen, but that the fiber was canceled before
   pub sees_no_more : (d : Counts) (q : Progress) → IsMatched looking (one_more_mask c) (Runs (placed fs (Masked c.masks (put p c.masks t)))) d q
       → (ls : List Label) (e : Counts) (r : Progress) → Leads c (Runs (placed fs (Mask p t))) ls e r → (IsCanceledAlone (visible ls) → ⊥)
       → HasRun looking d q (visible ls)
-  sees_no_more d q next [] e r h other = rests looking
+  sees_no_more d q next [] e r h other = stays looking
   sees_no_more d q next (l ∷ ls) e r h other = by_step h.2 refl h.3 other
     where
       by_step : {x : Term} {m : Progress} {a : Counts} {l : Label} → Step c (Runs x) l a m → x ≡ placed fs (Mask p t) → Leads a m ls e r

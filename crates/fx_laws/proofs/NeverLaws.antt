@@ -17,13 +17,13 @@ use Rattle.fx_laws.proofs.Showing.{showing, everywhere}
 never_has_no_row : {k : Bool} {c d : Counts} {l : Label} {u : Term} → Row k c Never l d u → ⊥
 never_has_no_row (inside f e g r) = no_context f _ _ refl e
 
-never_rests : {k : Bool} {c d : Counts} {l : Label} {x u : Term} {fs : List Context} → RowOfPlaced k c fs x l d u → x ≡ Never → ⊥
-never_rests {k} {c} (moves_in {w = w} {l = l} {d = d} r) at = never_has_no_row (subst (λ (z : Term). Row k c z l d w) at r)
-never_rests (result_in {w = w}) at = cc
+never_has_no_rule : {k : Bool} {c d : Counts} {l : Label} {x u : Term} {fs : List Context} → RowOfPlaced k c fs x l d u → x ≡ Never → ⊥
+never_has_no_rule {k} {c} (moves_in {w = w} {l = l} {d = d} r) at = never_has_no_row (subst (λ (z : Term). Row k c z l d w) at r)
+never_has_no_rule (result_in {w = w}) at = cc
 
 never_moves : {c d : Counts} {l : Label} {q : Progress} {x : Term} (fs : List Context) → Moves c x l d q → x ≡ placed fs Never → ⊥
 never_moves {c} {x = x} fs (by_row {u = u} {l = l} {d = d} free r) at =
-    never_rests (row_of_placed fs Never (subst (λ (z : Term). Row (not (is_open x)) c z l d u) at r)) refl
+    never_has_no_rule (row_of_placed fs Never (subst (λ (z : Term). Row (not (is_open x)) c z l d u) at r)) refl
 never_moves fs (by_end {w = w} free f k) at = let e = (result_placed fs Never w (sym f ∙ at)).1 in cc
 
 never_alone : (v : View) (fs gs : List Context) → IsSamePlace (placed gs Never) Never → AreSameHere v fs (placed gs Never) Never

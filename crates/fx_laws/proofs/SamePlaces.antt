@@ -11,7 +11,7 @@ use Rattle.fx_model.specs.Step.{Progress, Runs, Unwinds, HasEnded, Step, cancell
 use Rattle.fx_model.specs.Run.{Leads}
 use Rattle.fx_laws.specs.Everywhere.{placed}
 use Rattle.fx_laws.proofs.Placed.{cleanups_placed, open_placed, must_placed}
-use Rattle.fx_laws.proofs.Views.{View, HasRun, IsMatched, itself, rests, step_first}
+use Rattle.fx_laws.proofs.Views.{View, HasRun, IsMatched, itself, stays, step_first}
 
 -- the same closes both, both are at `canceled` or neither is, and the same clean-ups stand round them
 pub record IsSamePlace (t u : Term) : Type 0 where
@@ -59,7 +59,7 @@ module _ (v : View) (Near : Counts → Counts → Type 0) (knows : (c c' : Count
     (moves : (c c' d e : Counts) (l : Label) (q r : Progress) (ls : List Label) → Near c c' → Moves c t l d q → Leads d q ls e r
     → HasRun v c' (Runs u) (v.of (l ∷ ls))) where
   pub wholes_matched : (c c' : Counts) → Near c c' → IsMatched v c (Runs t) c' (Runs u)
-  wholes_matched c c' near [] d q h = rests v
+  wholes_matched c c' near [] d q h = stays v
   wholes_matched c c' near (l ∷ ls) d q h = by_step h.2 refl h.3 (λ e e' n k. wholes_matched e e' n ls d q k)
     where
       by_step : {x : Term} {m : Progress} {e : Counts} {l : Label} → Step c (Runs x) l e m → x ≡ t → Leads e m ls d q

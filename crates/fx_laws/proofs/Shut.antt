@@ -11,7 +11,7 @@ use Rattle.fx_model.specs.Run.{Leads}
 use Rattle.fx_model.proofs.ShownRuns.{closed_must, never_canceled, closed_row}
 use Rattle.fx_laws.specs.Everywhere.{placed}
 use Rattle.fx_laws.proofs.Placed.{result_placed, row_placed, RowOfPlaced, moves_in, result_in, row_of_placed}
-use Rattle.fx_laws.proofs.Views.{View, HasRun, IsMatched, rests, step_like}
+use Rattle.fx_laws.proofs.Views.{View, HasRun, IsMatched, stays, step_like}
 use Rattle.fx_laws.proofs.Inside.{RowsAreFollowed, ResultsAreResults}
 
 -- a step is a row of the term, unless that is a result
@@ -79,7 +79,7 @@ module _ (v : View) (Near : Counts → Counts → Type 0) (Same : Term → Term 
     (fits : (t t' : Term) → Same t t' → Fits t × Fits' t')
     (ends : (c c' : Counts) → Near c c' → (w : Done) → IsMatched v c (at (Finished w)) c' (at' (Finished w))) where
   pub shut_matched : (c c' : Counts) (t t' : Term) → Near c c' → Same t t' → IsMatched v c (at t) c' (at' t')
-  shut_matched c c' t t' near same [] d q h = rests v
+  shut_matched c c' t t' near same [] d q h = stays v
   shut_matched c c' t t' near same (l ∷ ls) d q h =
       by_step (shut.only c h.0 l t h.1 (fits t t' same).0 h.2) refl h.3 h (λ e e' w w' n s k. shut_matched e e' w w' n s ls d q k)
     where

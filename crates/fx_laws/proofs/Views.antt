@@ -27,8 +27,8 @@ module _ (v : View) where
   pub itself : {c : Counts} {p : Progress} → IsMatched c p c p
   itself ls d q h = record { labels = ls; counts = d; progress = q; leads = h; seen_is = refl }
 
-  pub rests : {c : Counts} {p : Progress} → HasRun c p (v.of [])
-  rests {c} {p} = record { labels = []; counts = c; progress = p; leads = (refl, refl); seen_is = refl }
+  pub stays : {c : Counts} {p : Progress} → HasRun c p (v.of [])
+  stays {c} {p} = record { labels = []; counts = c; progress = p; leads = (refl, refl); seen_is = refl }
 
   -- one step, and then the rest
   pub step_first : {c d : Counts} {p q : Progress} {l : Label} (ls : List Label) → Step c p l d q → HasRun d q (v.of ls) → HasRun c p (v.of (l ∷ ls))

@@ -85,4 +85,4 @@ module _ (s : ScriptView) (may : ℕ → Bool) (r : ReportView) (scoped : IsScop
       let own = runs.run f x at in
       stands (final_outside s r) f (runs.counts f) (runs.progress f)
       (run_stays_scoped any (runs.origin f) (runs.labels f) (runs.counts f) (runs.progress f) (begins_scoped f x at) (λ g low high. refl) own.run)
-      own.rests
+      own.unable

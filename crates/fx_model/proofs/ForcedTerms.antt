@@ -11,7 +11,7 @@ use Rattle.fx_model.specs.Run.{Leads, shown}
 use Rattle.fx_model.specs.MaskLaws.{CanShow, BeginsWithSeen, ShowsAllOf, ShowTheSameUnlessSeenFirst, forced_after}
 use Rattle.fx_model.proofs.MaskEntering.{counts_at}
 use Rattle.fx_model.proofs.Paths.{no_context, part_row, row_plug, result_has_no_row}
-use Rattle.fx_model.proofs.ShownRuns.{Reaches, rests, steps, and_then, HasRun, can_show, before}
+use Rattle.fx_model.proofs.ShownRuns.{Reaches, stays, steps, and_then, HasRun, can_show, before}
 
 -- a row that shows nothing, changes no count, and leads there
 abbrev IsSilentTo : Counts → Term → Label → Counts → Term → Type 0
@@ -64,7 +64,7 @@ module _ (c : Counts) (t : Term) where
   -- and so from a place whose one row leads there silently
   one_before : (w v : Term) → must_cancel c.known w ≡ false → ((x : Done) → w ≡ Finished x → ⊥)
       → ((k : Bool) (l : Label) (d : Counts) (u : Term) → Row k c w l d u → IsSilentTo c v l d u) → ShowsNoMore v → ShowsNoMore w
-  one_before w v free going only rest [] d q h unseen = record { counts = c; progress = Runs t; reaches = rests }
+  one_before w v free going only rest [] d q h unseen = record { counts = c; progress = Runs t; reaches = stays }
   one_before w v free going only rest (l ∷ ls) d q h unseen = by_step h.2 refl h.3 unseen
     where
       by_step : {p m : Progress} {e : Counts} {l : Label} → Step c p l e m → p ≡ Runs w → Leads e m ls d q → (BeginsWithSeen (shown (l ∷ ls)) → ⊥)

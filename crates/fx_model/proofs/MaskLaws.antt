@@ -17,7 +17,7 @@ use Rattle.fx_term.proofs.NameUses.{put_other_poll, name_is}
 use Rattle.fx_model.proofs.Alike.{next_regions, Alike, plain_alike}
 use Rattle.fx_model.proofs.Wrapped.{Wrap, Closes, Opens, Cleans, wrapped}
 use Rattle.fx_model.proofs.Paths.{no_context}
-use Rattle.fx_model.proofs.ShownRuns.{Reaches, rests, steps, and_then, HasRun, can_show, after, before, enters_silently}
+use Rattle.fx_model.proofs.ShownRuns.{Reaches, stays, steps, and_then, HasRun, can_show, after, before, enters_silently}
 use Rattle.fx_model.proofs.MaskedRuns.{entering, inside, goes_along}
 use Rattle.fx_model.proofs.AlikePlaces.{AreMatching, AreInside}
 use Rattle.fx_model.proofs.MaskEntering.{counts_at, MaskLeadsInto, enters_mask, enters_own_poll, enters_finalizer, enters_two, enters_inverse}
@@ -34,7 +34,7 @@ module _ (next end : ℕ) where
   -- fibers that are known to be canceled before they enter their first mask end alike
   canceled_show : (p r : ℕ) (a b : Term) (ls : List Label) (d : Counts) (q : Progress) → Leads (canceled_at next end) (Runs (Mask p a)) ls d q
       → HasRun (canceled_at next end) (Runs (Mask r b)) (shown ls)
-  canceled_show p r a b [] d q h = record { counts = canceled_at next end; progress = Runs (Mask r b); reaches = rests }
+  canceled_show p r a b [] d q h = record { counts = canceled_at next end; progress = Runs (Mask r b); reaches = stays }
   canceled_show p r a b (l ∷ ls) d q h = by_step h.2 h.3
     where
       by_step : {e : Counts} {m : Progress} {l : Label} → Step (canceled_at next end) (Runs (Mask p a)) l e m → Leads e m ls d q
@@ -57,7 +57,7 @@ module _ (next end : ℕ) where
       → ShowsSeen Wanted (Mask p a) second → (ls : List Label) (d : Counts) (q : Progress) → Leads (counts_at 0 next end) (Runs (Mask p a)) ls d q
       → Wanted (shown ls)
       → HasRun (counts_at 0 next end) (Runs second) (shown ls)
-  mask_shows ws' second Wanted sides same into way found [] d q h wanted = record { counts = counts_at 0 next end; progress = Runs second; reaches = rests }
+  mask_shows ws' second Wanted sides same into way found [] d q h wanted = record { counts = counts_at 0 next end; progress = Runs second; reaches = stays }
   mask_shows {n} {n'} {p} {ws} {a} {t} ws' second Wanted sides same into way found (l ∷ ls) d q h wanted = by_step h.2 h.3 wanted
     where
       by_step : {e : Counts} {m : Progress} {l : Label} → Step (counts_at 0 next end) (Runs (Mask p a)) l e m → Leads e m ls d q → Wanted (shown (l ∷ ls))
@@ -158,7 +158,7 @@ module _ (scope : ℕ → Option NameKind) (p : ℕ) (t : Term) (plain : IsPlain
         to h =
             let unseen' = subst (λ (ms : List Label). BeginsWithSeen ms → ⊥) (sym h.shown_is) unseen in
             can_show h.shown_is
-            (mask_shows next end [] t (λ ms. BeginsWithSeen ms → ⊥) own_poll_sides (alike_itself 1 0) into_own_poll rests (λ ms d q k w. absurd (w tt))
+            (mask_shows next end [] t (λ ms. BeginsWithSeen ms → ⊥) own_poll_sides (alike_itself 1 0) into_own_poll stays (λ ms d q k w. absurd (w tt))
             h.labels h.counts h.progress h.run unseen')
 
     -- a finalizer directly inside a mask whose poll is not used

@@ -16,7 +16,7 @@ use Rattle.fx_model.proofs.AlikePlaces.{AreInside, bare_results, place_alike, le
 use Rattle.fx_model.proofs.Wrapped.{Wrap, wrapped, finished_wrapped, row_wrapped, RowOfWrapped, moves, leaves, row_of_wrapped}
 use Rattle.fx_model.proofs.WrappedEnds.{AreShut, shut_place}
 use Rattle.fx_model.proofs.Paths.{result_has_no_row}
-use Rattle.fx_model.proofs.ShownRuns.{Reaches, rests, steps, and_then, row_step, Enters, entered, enters, never_canceled, closed_row, HasRun, after}
+use Rattle.fx_model.proofs.ShownRuns.{Reaches, stays, steps, and_then, row_step, Enters, entered, enters, never_canceled, closed_row, HasRun, after}
 
 module _ (low low' : ℕ) where
   -- the second fiber is where the first one is: inside its masks, which the first still enters, or both are inside; past them, which the first still leaves; in
@@ -116,7 +116,7 @@ module _ (low low' : ℕ) where
     answer_entering ws ws' {d} {e} {t' = t'} {l = l} (enters closed r only rest) i s (step.row {t' = u} free h) =
         let forced = only l d u (closed_row closed h) in
         rw (forced.0, forced.1, forced.2)
-        (record { counts = with_masks m e; progress = Runs (wrapped ws' t'); reaches = rests; beside = entering ws ws' rest i s })
+        (record { counts = with_masks m e; progress = Runs (wrapped ws' t'); reaches = stays; beside = entering ws ws' rest i s })
     answer_entering ws ws' (enters closed r only rest) i s (step.succeeds free) = absurd (result_has_no_row r refl)
     answer_entering ws ws' (enters closed r only rest) i s (step.errs free) = absurd (result_has_no_row r refl)
 
@@ -124,7 +124,7 @@ module _ (low low' : ℕ) where
     row_leaving : {k : Bool} {d : Counts} {l : Label} {u : Term} {v : Done} (w : Wrap) (ws : List Wrap) → AreShut (w ∷ ws) → IsSameRegion low low' c.masks m
         → RowOfWrapped k c (w ∷ ws) (Finished v) l d u → GoesAlong (with_masks m c) (Runs (Finished v)) l d (Runs u)
     row_leaving w ws shut s (moves r) = absurd (result_has_no_row r refl)
-    row_leaving w ws shut s (leaves {v = v}) = record { counts = with_masks m c; progress = Runs (Finished v); reaches = rests; beside = left ws shut.1 s }
+    row_leaving w ws shut s (leaves {v = v}) = record { counts = with_masks m c; progress = Runs (Finished v); reaches = stays; beside = left ws shut.1 s }
 
     answer_leaving : {d : Counts} {whole : Term} {v : Done} {l : Label} {q : Progress} (w : Wrap) (ws : List Wrap) → AreShut (w ∷ ws)
         → whole ≡ wrapped (w ∷ ws) (Finished v) → IsSameRegion low low' c.masks m → Step c (Runs whole) l d q
@@ -154,7 +154,7 @@ module _ (low low' : ℕ) where
 
   -- and so it shows what any run of the first shows
   pub goes_along : (c c' d : Counts) (p p' q : Progress) (ls : List Label) → Beside c p c' p' → Leads c p ls d q → HasRun c' p' (shown ls)
-  goes_along c c' d p p' q [] b h = record { counts = c'; progress = p'; reaches = rests }
+  goes_along c c' d p p' q [] b h = record { counts = c'; progress = p'; reaches = stays }
   goes_along c c' d p p' q (l ∷ ls) b h =
       let along = answer b h.2 in
       after l ls along.reaches (goes_along h.0 along.counts d h.1 along.progress q ls along.beside h.3)

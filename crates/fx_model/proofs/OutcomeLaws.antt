@@ -100,9 +100,9 @@ end_shown (Shows (event.Ended v)) ls o e = e
 end_shown _ ls o e = absurd (none-some o e)
 
 -- no steps come after an end
-rests_at_end : (c d : Counts) (p q : Progress) (ls : List Label) (o : Outcome) → Leads c p ls d q → outcome_at p ≡ Some o → outcome_at q ≡ Some o
-rests_at_end c d p q [] o r e = ap outcome_at r.1 ∙ e
-rests_at_end c d p q (l ∷ ls) o r e = absurd (no_step_after_end o r.2 e)
+pub stays_ended : (c d : Counts) (p q : Progress) (ls : List Label) (o : Outcome) → Leads c p ls d q → outcome_at p ≡ Some o → outcome_at q ≡ Some o
+stays_ended c d p q [] o r e = ap outcome_at r.1 ∙ e
+stays_ended c d p q (l ∷ ls) o r e = absurd (no_step_after_end o r.2 e)
 
 leads_outcome : (c d : Counts) (p q : Progress) (ls : List Label) → Leads c p ls d q → outcome_at p ≡ None → outcome_shown (events ls) ≡ outcome_at q
 leads_outcome c d p q [] r e = sym (ap outcome_at r.1 ∙ e)
@@ -111,7 +111,7 @@ leads_outcome c d p q (l ∷ ls) r e = by_end (end_of l) refl (λ none. leads_ou
     by_end : (o : Option Outcome) → end_of l ≡ o → (outcome_at r.1 ≡ None → outcome_shown (events ls) ≡ outcome_at q)
         → outcome_shown (events (l ∷ ls)) ≡ outcome_at q
     by_end None is rest = label_shown l ls (step_tells r.2).proper is ∙ rest (step_end_of r.2 ∙ is)
-    by_end (Some o) is rest = end_shown l ls o is ∙ sym (rests_at_end r.0 d r.1 q ls o r.3 (step_end_of r.2 ∙ is))
+    by_end (Some o) is rest = end_shown l ls o is ∙ sym (stays_ended r.0 d r.1 q ls o r.3 (step_end_of r.2 ∙ is))
 
 -- the trace of a run tells the outcome with which the fiber has ended, and none where it has not
 pub run_outcome : (b : Origin) (ls : List Label) (c : Counts) (p : Progress) → IsRun b ls c p → outcome_shown (events ls) ≡ outcome_at p

@@ -25,8 +25,8 @@ pub record Reaches (c : Counts) (p : Progress) (shows : List Label) (d : Counts)
   pub leads : Leads c p labels d q
   pub shown_is : shown labels ≡ shows
 
-pub rests : {c : Counts} {p : Progress} → Reaches c p [] c p
-rests = record { labels = []; leads = (refl, refl); shown_is = refl }
+pub stays : {c : Counts} {p : Progress} → Reaches c p [] c p
+stays = record { labels = []; leads = (refl, refl); shown_is = refl }
 
 pub steps : {c d : Counts} {p q : Progress} {l : Label} → Step c p l d q → Reaches c p (shown (l ∷ [])) d q
 steps {d = d} {q = q} {l = l} s = record { labels = l ∷ []; leads = (d, q, s, (refl, refl)); shown_is = refl }
@@ -80,6 +80,6 @@ pub closed_row : {c d : Counts} {l : Label} {t u : Term} → is_open t ≡ false
 closed_row {c} {d} {l} {t} {u} h r = subst (λ (b : Bool). Row (not b) c t l d u) h r
 
 pub enters_silently : {c d : Counts} {t u : Term} → Enters c t d u → Reaches c (Runs t) [] d (Runs u)
-enters_silently entered = rests
+enters_silently entered = stays
 enters_silently {c} (enters {d = d} {t = t} {u = u} closed r only rest) =
     and_then (steps {l = Silent} (row (closed_must c.known t closed) (rw closed r))) (enters_silently rest)

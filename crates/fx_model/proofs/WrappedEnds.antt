@@ -7,7 +7,7 @@ use Rattle.fx_model.specs.Path.{is_open, must_cancel}
 use Rattle.fx_model.specs.Row.{Counts, Silent, masked_ends, opened_ends, oncancel_ends}
 use Rattle.fx_model.specs.Step.{Runs, row}
 use Rattle.fx_model.proofs.Wrapped.{Wrap, Closes, Opens, Cleans, wrapped, closes, open_wrapped, row_wrapped}
-use Rattle.fx_model.proofs.ShownRuns.{Reaches, rests, steps, and_then, closed_must}
+use Rattle.fx_model.proofs.ShownRuns.{Reaches, stays, steps, and_then, closed_must}
 
 -- each place inside one of them is closed
 abbrev pub AreShut : List Wrap → Type 0
@@ -29,7 +29,7 @@ leaves_one c (Opens r) ws v free = steps {l = Silent} (row free (row_wrapped ws 
 leaves_one c (Cleans f) ws v free = steps {l = Silent} (row free (row_wrapped ws oncancel_ends))
 
 leaves_shut : (c : Counts) (ws : List Wrap) (v : Done) → AreShut ws → Reaches c (Runs (wrapped ws (Finished v))) [] c (Runs (Finished v))
-leaves_shut c [] v shut = rests
+leaves_shut c [] v shut = stays
 leaves_shut c (w ∷ ws) v shut =
     let free = closed_must c.known (wrapped (w ∷ ws) (Finished v)) (shut_place w ws v shut) in
     and_then (leaves_one c w ws v free) (leaves_shut c ws v shut.1)
@@ -37,5 +37,5 @@ leaves_shut c (w ∷ ws) v shut =
 -- where the fiber may leave the innermost, it leaves all of them silently
 pub leaves_all : (c : Counts) (ws : List Wrap) (v : Done) → AreShutBelow ws → must_cancel c.known (wrapped ws (Finished v)) ≡ false
     → Reaches c (Runs (wrapped ws (Finished v))) [] c (Runs (Finished v))
-leaves_all c [] v shut free = rests
+leaves_all c [] v shut free = stays
 leaves_all c (w ∷ ws) v shut free = and_then (leaves_one c w ws v free) (leaves_shut c ws v shut)

@@ -44,7 +44,7 @@ pub record HasRun (s : ScriptView) (r : ReportView) (f : ℕ) (x : FiberReportVi
   pub run : IsRun b ls c p
   pub trace : events ls ≡ x.trace
   pub state : has_ended p ≡ x.has_ended
-  pub rests : can_step (final_outside s r) f c p ≡ false
+  pub unable : can_step (final_outside s r) f c p ≡ false
 
 -- each fiber has a run of its own, from what that fiber began with
 pub record HasRuns (s : ScriptView) (r : ReportView) : Type 0 where

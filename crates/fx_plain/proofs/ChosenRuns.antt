@@ -20,7 +20,7 @@ chosen_leads s (chosen.no_step e rest) = chosen_leads s rest
 chosen_leads s (chosen.request lt rest) = (_, (lt, refl), chosen_leads s rest)
 chosen_leads s (chosen.no_request le rest) = chosen_leads s rest
 chosen_leads s (chosen.least {m' = m'} none c rest) = (m', c.steps, chosen_leads s rest)
-chosen_leads s (chosen.rests none) = refl
+chosen_leads s (chosen.halts none) = refl
 
 pub chosen_settles : (s : ScriptView) {ps : List Pick} {m last : WholeMachine} {vs : List Move} → IsChosen s ps m vs last → IsSettled s last
 chosen_settles s (chosen.step c rest) = chosen_settles s rest
@@ -28,7 +28,7 @@ chosen_settles s (chosen.no_step e rest) = chosen_settles s rest
 chosen_settles s (chosen.request lt rest) = chosen_settles s rest
 chosen_settles s (chosen.no_request le rest) = chosen_settles s rest
 chosen_settles s (chosen.least none c rest) = chosen_settles s rest
-chosen_settles s (chosen.rests none) = none
+chosen_settles s (chosen.halts none) = none
 
 -- so what is true of the report of each such run is true of a replay's
 pub replay_settles : (s : ScriptView) (ps : List Pick) (r : ReportView) → IsReplay s ps r → HasSettledRun s r

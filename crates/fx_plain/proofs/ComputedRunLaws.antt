@@ -30,7 +30,7 @@ use Rattle.fx_model.proofs.Mapped.{mapped}
 use Rattle.fx_model.proofs.Moves.{Moved, done_of, ends, moved_in, move_in, loop_move}
 use Rattle.fx_model.proofs.ComputedSteps.{Answers, Next, if_move, canceled_move, join_move, await_move, first_move, offer_move}
 use Rattle.fx_model.proofs.ComputedSteps.{try_offer_move, take_move, try_take_move, move, runs_on, cleans_on, running, looking, at_place, cleaning, next}
-use Rattle.fx_plain.proofs.ComputedRuns.{answers_of, MoveMade, went, stepped_fiber, step_of, least_able, RunTo, after, and_then, run_to_rest, replayed}
+use Rattle.fx_plain.proofs.ComputedRuns.{answers_of, MoveMade, went, stepped_fiber, step_of, least_able, RunTo, after, and_then, run_to_halt, replayed}
 use Rattle.fx_plain.proofs.LawfulRuns.{IsKept, step_keeps, request_keeps}
 
 -- a result is that one
@@ -296,16 +296,16 @@ module _ (s : ScriptView) where
   IsRun : List Pick → WholeMachine → RunTo → Type 0
   IsRun ps m d = IsChosen s ps m d.moves d.last
 
-  goes_out_is_chosen : (n : ℕ) (m : WholeMachine) (d : RunTo) → IsKept s m → run_to_rest s n m ≡ Some d → IsChosen s [] m d.moves d.last
+  goes_out_is_chosen : (n : ℕ) (m : WholeMachine) (d : RunTo) → IsKept s m → run_to_halt s n m ≡ Some d → IsChosen s [] m d.moves d.last
   goes_out_is_chosen zero m d k e = absurd (none-some d e)
   goes_out_is_chosen (suc n) m d k e = by_least (least_able s m (total s) 0) refl (λ m' d' k' e'. goes_out_is_chosen n m' d' k' e') e
     where
       by_step : (f : ℕ) → IsLeastAble m 0 f → (o : Option MoveMade) → step_of s m f ≡ o
-          → ((m' : WholeMachine) (d' : RunTo) → IsKept s m' → run_to_rest s n m' ≡ Some d' → IsChosen s [] m' d'.moves d'.last)
-          → and_then o (run_to_rest s n) ≡ Some d → IsChosen s [] m d.moves d.last
+          → ((m' : WholeMachine) (d' : RunTo) → IsKept s m' → run_to_halt s n m' ≡ Some d' → IsChosen s [] m' d'.moves d'.last)
+          → and_then o (run_to_halt s n) ≡ Some d → IsChosen s [] m d.moves d.last
       by_step f l None is rest e = absurd (none-some d e)
       by_step f l (Some g) is rest e =
-          let p = mapped (after g.move) (run_to_rest s n g.machine) e in
+          let p = mapped (after g.move) (run_to_halt s n g.machine) e in
           let h = step_is_chosen s m f g l.can is in
           let kept = step_keeps s m f h.label g.machine h.step.steps k in
           subst (λ (x : RunTo). IsChosen s [] m x.moves x.last) (same_Some _ d p.to)
@@ -313,11 +313,11 @@ module _ (s : ScriptView) where
           (chosen.least (λ i lt. l.least i (omega arith) lt) h.step (rest g.machine p.part kept p.was)))
 
       by_least : (o : Option ℕ) → least_able s m (total s) 0 ≡ o
-          → ((m' : WholeMachine) (d' : RunTo) → IsKept s m' → run_to_rest s n m' ≡ Some d' → IsChosen s [] m' d'.moves d'.last)
-          → elim o [ None ↦ Some (record { moves = []; last = m }) | Some f ↦ and_then (step_of s m f) (run_to_rest s n) ] ≡ Some d
+          → ((m' : WholeMachine) (d' : RunTo) → IsKept s m' → run_to_halt s n m' ≡ Some d' → IsChosen s [] m' d'.moves d'.last)
+          → elim o [ None ↦ Some (record { moves = []; last = m }) | Some f ↦ and_then (step_of s m f) (run_to_halt s n) ] ≡ Some d
           → IsChosen s [] m d.moves d.last
       by_least None is rest e = subst (λ (x : RunTo). IsChosen s [] m x.moves x.last) (same_Some _ d e)
-          (chosen.rests (λ h. elim (cases_lt h (total s)) [ inl lt ↦ none_able m (total s) 0 is h (omega arith) (omega arith) | inr le ↦ beyond m k h le ]))
+          (chosen.halts (λ h. elim (cases_lt h (total s)) [ inl lt ↦ none_able m (total s) 0 is h (omega arith) (omega arith) | inr le ↦ beyond m k h le ]))
       by_least (Some f) is rest e = by_step f (least_able_is m (total s) 0 f is) (step_of s m f) refl rest e
 
   -- the computed run is chosen

@@ -48,14 +48,14 @@ and_then None rest = None
 and_then (Some w) rest = option_map (after w.move) (rest w.machine)
 
 -- the run after the last pick, within so many steps
-abbrev pub run_to_rest : ScriptView → ℕ → WholeMachine → Option RunTo
-run_to_rest s zero m = None
-run_to_rest s (suc n) m =
-    elim (least_able s m (total s) 0) [ None ↦ Some (record { moves = []; last = m }) | Some f ↦ and_then (step_of s m f) (run_to_rest s n) ]
+abbrev pub run_to_halt : ScriptView → ℕ → WholeMachine → Option RunTo
+run_to_halt s zero m = None
+run_to_halt s (suc n) m =
+    elim (least_able s m (total s) 0) [ None ↦ Some (record { moves = []; last = m }) | Some f ↦ and_then (step_of s m f) (run_to_halt s n) ]
 
 -- the run that the picks choose, within so many steps after the last pick
 abbrev pub replayed : ScriptView → ℕ → List Pick → WholeMachine → Option RunTo
-replayed s n [] m = run_to_rest s n m
+replayed s n [] m = run_to_halt s n m
 replayed s n (pick.Step f ∷ ps) m = elim (can_step_in s m f) [ true ↦ and_then (step_of s m f) (replayed s n ps) | false ↦ replayed s n ps m ]
 replayed s n (pick.Cancel f ∷ ps) m =
     elim (nat_lt f (total s)) [ true ↦ option_map (after (Requests f)) (replayed s n ps (requested_from_outside f m)) | false ↦ replayed s n ps m ]

@@ -239,7 +239,7 @@ module _ (s : ScriptView) (m : WholeMachine) (r : ReportView) (rep : IsReportOf 
           run = kept.family.runs f y o.at;
           trace = sym (ap (λ (z : FiberReportView). z.trace) o.is);
           state = sym (ap (λ (z : FiberReportView). z.has_ended) o.is);
-          rests = ap (λ (out : Outside). can_step out f y.counts y.progress) outside_same ∙ sym (ap (can_step_fiber (outside_of s m) f) o.at) ∙ none f;
+          unable = ap (λ (out : Outside). can_step out f y.counts y.progress) outside_same ∙ sym (ap (can_step_fiber (outside_of s m) f) o.at) ∙ none f;
         } in
         rw o.at run
 

@@ -34,4 +34,4 @@ module _ (s : ScriptView) (all : List Pick) where
 
     -- where none can step any more, the report of the machine is that of the replay
     pub way_ends : (r : ReportView) → ((f : ℕ) → can_step_in s m f ≡ false) → IsReportOf s m r → IsReplay s all r
-    way_ends r none report = let run = way [] m (chosen.rests none) in record { moves = run.0; last = m; chosen = run.1; report = report }
+    way_ends r none report = let run = way [] m (chosen.halts none) in record { moves = run.0; last = m; chosen = run.1; report = report }

@@ -17,7 +17,7 @@ use Rattle.fx_plain.specs.Chosen.{LooksLeftFirst, ChosenStep, IsChosen}
 use Rattle.fx_plain.specs.Chosen as chosen
 use Rattle.fx_model.proofs.NextSteps.{step_is_next}
 use Rattle.fx_model.proofs.NextSteps as by_answers
-use Rattle.fx_plain.proofs.ComputedRuns.{answers_of, MoveMade, went, stepped_fiber, step_of, least_able, RunTo, after, and_then, run_to_rest, replayed}
+use Rattle.fx_plain.proofs.ComputedRuns.{answers_of, MoveMade, went, stepped_fiber, step_of, least_able, RunTo, after, and_then, run_to_halt, replayed}
 use Rattle.fx_plain.proofs.LawfulRuns.{IsKept, step_keeps, request_keeps}
 
 module _ (s : ScriptView) (m : WholeMachine) (f : ℕ) where
@@ -93,13 +93,13 @@ module _ (s : ScriptView) where
       ∙ chosen_is_computed rest k n lt
   chosen_is_computed (chosen.least none c rest) k zero lt = absurd (omega arith)
   chosen_is_computed (chosen.least {f = f} {l = l} {m = m} {m' = m'} none c rest) k (suc n) lt =
-      ap (λ (o : Option ℕ). elim o [ None ↦ Some (done [] m) | Some g ↦ and_then (step_of s m g) (run_to_rest s n) ])
+      ap (λ (o : Option ℕ). elim o [ None ↦ Some (done [] m) | Some g ↦ and_then (step_of s m g) (run_to_halt s n) ])
       (least_is_least m (total s) 0 f (omega arith) (let p = able_below m k f c.can in omega arith) c.can none)
-      ∙ ap (λ (o : Option MoveMade). and_then o (run_to_rest s n)) (chosen_step_is s m f l m' c)
+      ∙ ap (λ (o : Option MoveMade). and_then o (run_to_halt s n)) (chosen_step_is s m f l m' c)
       ∙ ap (option_map (after (Steps f l))) (chosen_is_computed rest (step_keeps s m f l m' c.steps k) n (omega arith))
-  chosen_is_computed (chosen.rests none) k zero lt = absurd (omega arith)
-  chosen_is_computed (chosen.rests {m = m} none) k (suc n) lt =
-      ap (λ (o : Option ℕ). elim o [ None ↦ Some (done [] m) | Some g ↦ and_then (step_of s m g) (run_to_rest s n) ]) (none_is_least m (total s) 0 none)
+  chosen_is_computed (chosen.halts none) k zero lt = absurd (omega arith)
+  chosen_is_computed (chosen.halts {m = m} none) k (suc n) lt =
+      ap (λ (o : Option ℕ). elim o [ None ↦ Some (done [] m) | Some g ↦ and_then (step_of s m g) (run_to_halt s n) ]) (none_is_least m (total s) 0 none)
 
   -- two runs that the same picks choose are one
   pub one_run : {ps : List Pick} {m last last' : WholeMachine} {vs vs' : List Move} → IsKept s m → IsChosen s ps m vs last → IsChosen s ps m vs' last'

@@ -20,7 +20,7 @@ use Rattle.fx_plain.specs.WholeMachine.{WholeMachine}
 use Rattle.fx_plain.specs.OnTheWay.{IsOnTheWay}
 use Rattle.fx_plain.specs.ClassSets.{class_at, is_able}
 use Rattle.fx_plain.specs.World.{WorldView, is_ready_in}
-use Rattle.fx_plain.specs.PlainCalls.{PortView, facts_of, plain_calls}
+use Rattle.fx_plain.specs.PlainCalls.{PortView, plain_theory}
 use Rattle.fx_plain.specs.PlainMachine.{all_held, StandsForRun, StandsForSome, GoesOn, stays, goes, IsUnderWay, Tries, steps}
 use Rattle.fx_plain.proofs.OnTheWay.{after_least}
 use Rattle.fx_plain.proofs.WorldClasses.{unready_cannot}
@@ -90,7 +90,7 @@ module _ {J : Type 0} (nodes : List Node) (s : ScriptView) (f : ℕ) where
 
     -- one step more that answers that it went, and leaves the port and the world as they were
     one_more : (v w : FiberView PortView) (world' : WorldView) (p' : PlainMachine J) → Comes v (with_fiber v)
-        → MakesStep plain_calls facts_of nodes v p.world Went w world' → w.port ≡ v.port → world' ≡ p.world → Holds w p' → Comes w p'
+        → MakesStep (plain_theory nodes) v p.world Went w world' → w.port ≡ v.port → world' ≡ p.world → Holds w p' → Comes w p'
     one_more v w world' p' come does port same held =
         let q = with_fiber v in
         let there : at_number nodes q f ≡ Some (record { parent = x.parent; fiber = v }) = get_or-set_same p.fibers.items f _ None long in
@@ -101,14 +101,14 @@ module _ {J : Type 0} (nodes : List Node) (s : ScriptView) (f : ℕ) where
 
     -- a step of a burst tells the port nothing
     tells_nothing : (v w : FiberView PortView) (l : Label) → IsAlone l
-        → Tells plain_calls facts_of nodes (leaf_at (progress nodes v)) l Went v.port p.world w.port p.world → w.port ≡ v.port
+        → Tells (plain_theory nodes) (leaf_at (progress nodes v)) l Went v.port p.world w.port p.world → w.port ≡ v.port
     tells_nothing v w Silent alone told = told.0
     tells_nothing v w (Shows (event.Acquired k)) alone told = told.0
     tells_nothing v w (Shows (event.Begin k)) alone told = told.0
     tells_nothing v w (Shows (event.End k)) alone told = told.0
     tells_nothing v w _ alone told = absurd alone
 
-    pub comes_alone : (n : ℕ) (v : FiberView PortView) → GoesAlone plain_calls facts_of nodes n x.fiber p.world v → (p' : PlainMachine J)
+    pub comes_alone : (n : ℕ) (v : FiberView PortView) → GoesAlone (plain_theory nodes) n x.fiber p.world v → (p' : PlainMachine J)
         → Holds v p' → Comes v p'
     comes_alone zero v h p' held = record {
       machine = m;
@@ -123,7 +123,7 @@ module _ {J : Type 0} (nodes : List Node) (s : ScriptView) (f : ℕ) where
         h.2.does (tells_nothing h.0 v h.2.does.label h.2.alone h.2.does.calls_are.told) refl held
 
     -- what a burst comes to
-    pub bursts_go : (most n : ℕ) (v : FiberView PortView) (world' : WorldView) → Bursts plain_calls facts_of nodes most n x.fiber p.world v world'
+    pub bursts_go : (most n : ℕ) (v : FiberView PortView) (world' : WorldView) → Bursts (plain_theory nodes) most n x.fiber p.world v world'
         → (p' : PlainMachine J) (after : Started J) → p'.fibers.items ≡ slice_set p.fibers.items f (Some after) → after.parent ≡ x.parent
         → after.fiber ≡ v → p'.world ≡ world'
         → (m' : WholeMachine) × GoesOn nodes s f m p m' p'
@@ -134,7 +134,7 @@ module _ {J : Type 0} (nodes : List Node) (s : ScriptView) (f : ℕ) where
           (come.machine, come.on)
       | inr last ↦
           let told = subst
-          (λ (l : Label). Tells plain_calls facts_of nodes (leaf_at (progress nodes last.between)) l Went last.between.port p.world v.port world')
+          (λ (l : Label). Tells (plain_theory nodes) (leaf_at (progress nodes last.between)) l Went last.between.port p.world v.port world')
           last.sees.by last.sees.does.calls_are.told in
           let come = one_more last.between v world' p'
           (comes_alone last.before last.between last.goes (with_fiber last.between)

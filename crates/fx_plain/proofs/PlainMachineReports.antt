@@ -19,7 +19,7 @@ use Rattle.fx_plain.specs.Chosen.{IsReplay}
 use Rattle.fx_plain.specs.PlainQueue.{QueueView, queue_at}
 use Rattle.fx_plain.specs.World.{HeldFiber, held_of}
 use Rattle.fx_plain.specs.OnTheWay.{IsOnTheWay}
-use Rattle.fx_plain.specs.PlainMachine.{held, reported, all_reported, all_held, StandsForRun, Rests}
+use Rattle.fx_plain.specs.PlainMachine.{held, reported, all_reported, all_held, StandsForRun, Halts}
 use Rattle.fx_plain.proofs.ComputedRuns.{report}
 use Rattle.fx_plain.proofs.ComputedReports.{report_is_report}
 use Rattle.fx_plain.proofs.LawfulRuns.{IsKept, run_keeps}
@@ -114,6 +114,6 @@ module _ {J : Type 0} (nodes : List Node) (s : ScriptView) (p : PlainMachine J) 
     is_report_of : IsReportOf s m machine_report
     is_report_of = rw is_report (report_is_report s m kept)
 
-    pub is_replay : (all : List Pick) → IsOnTheWay s all [] m → Rests p → IsReplay s all machine_report
-    is_replay all way rests =
-        way_ends s all m way machine_report (λ f. unready_cannot s p.world (all_held nodes p) m so.stands so.tells f (rests f)) is_report_of
+    pub is_replay : (all : List Pick) → IsOnTheWay s all [] m → Halts p → IsReplay s all machine_report
+    is_replay all way halts =
+        way_ends s all m way machine_report (λ f. unready_cannot s p.world (all_held nodes p) m so.stands so.tells f (halts f)) is_report_of

@@ -26,7 +26,7 @@ use Rattle.fx_plain.specs.declared.class.Class.{Class}
 use Rattle.fx_plain.specs.declared.class.Class.TheVariants.{Able}
 use Rattle.fx_plain.specs.ClassSets.{class_at, is_able}
 use Rattle.fx_plain.specs.World.{WorldView, HeldFiber, held_of, StandsFor}
-use Rattle.fx_plain.specs.PlainCalls.{PortView, facts_of, plain_calls}
+use Rattle.fx_plain.specs.PlainCalls.{PortView, plain_theory}
 use Rattle.fx_plain.specs.PlainMachine.{held, all_held, IsNumbered, StandsForRun, Tries, steps}
 use Rattle.fx_term.proofs.MapLaws.{at_that, at_other}
 use Rattle.fx_plain.proofs.LawfulRuns.{IsKept, run_keeps}
@@ -94,7 +94,7 @@ module _ {J : Type 0} (nodes : List Node) where
         (rw here at (so.numbered f)).1 q ∙ ap (λ (es : List Event). length (values_put q es)) (ap (λ (h : HeldFiber). h.trace) is.is)
 
     module _ (w' : WorldView) (answer : Stepped PortView WorldView) (new : FiberView PortView)
-        (made : MakesStep plain_calls facts_of nodes x.fiber p.world answer new w') where
+        (made : MakesStep (plain_theory nodes) x.fiber p.world answer new w') where
       abbrev y : StartedFiber
       y = is.fiber
 
@@ -114,7 +114,7 @@ module _ {J : Type 0} (nodes : List Node) where
       st : Step y.counts y.progress l new.counts (progress nodes new)
       st = rw (counts_are, progress_is) at made.step
 
-      calls : Calls plain_calls facts_of nodes (looks_first y.counts.known y.progress) (leaf_at y.progress) l answer x.fiber.port p.world new.port
+      calls : Calls (plain_theory nodes) (looks_first y.counts.known y.progress) (leaf_at y.progress) l answer x.fiber.port p.world new.port
           w'
       calls = rw (counts_are, progress_is) at made.calls_are
 

@@ -32,7 +32,7 @@ use Rattle.fx_plain.specs.Classes.{is_ready}
 use Rattle.fx_plain.specs.ClassSets.{class_at, is_able}
 use Rattle.fx_plain.specs.World.{WorldView, is_ready_in, HeldFiber, held_of, StandsFor}
 use Rattle.fx_plain.specs.WorldClasses.{TellsWhoSteps}
-use Rattle.fx_plain.specs.PlainCalls.{PortView, facts_of, plain_calls}
+use Rattle.fx_plain.specs.PlainCalls.{PortView, plain_theory}
 use Rattle.fx_plain.specs.PlainMachine.{held, all_held, IsNumbered, able_count, StandsForRun, Tries, steps, waits}
 use Rattle.fx_term.proofs.MapLaws.{at_that, at_other}
 use Rattle.fx_plain.proofs.Maps.{at_itself}
@@ -44,11 +44,11 @@ use Rattle.fx_plain.proofs.PlainMachineSteps.{step_leads, step_is_tried}
 
 -- what a step does, by another name of the world before it and of its answer
 pub does_as : (nodes : List Node) (old new : FiberView PortView) (w world w' : WorldView) (answer named : Stepped PortView WorldView) → w ≡ world
-    → answer ≡ named → DoesStep plain_calls facts_of nodes old w answer new w'
-    → DoesStep plain_calls facts_of nodes old world named new w'
+    → answer ≡ named → DoesStep (plain_theory nodes) old w answer new w'
+    → DoesStep (plain_theory nodes) old world named new w'
 does_as nodes old new w world w' answer named same is h =
-    subst (λ (v : WorldView). DoesStep plain_calls facts_of nodes old v named new w') same
-    (subst (λ (a : Stepped PortView WorldView). DoesStep plain_calls facts_of nodes old w a new w') is h)
+    subst (λ (v : WorldView). DoesStep (plain_theory nodes) old v named new w') same
+    (subst (λ (a : Stepped PortView WorldView). DoesStep (plain_theory nodes) old w a new w') is h)
 
 plus_nothing : (n : ℕ) → n + 0 ≡ n
 plus_nothing n = omega arith
@@ -66,8 +66,8 @@ module _ (nodes : List Node) (old new : FiberView PortView) (w w' : WorldView) w
   abbrev pub IsQuiet : Stepped PortView WorldView → Type 0
   IsQuiet answer = (answer ≡ Went) ⊎ (answer ≡ Gave) ⊎ (answer ≡ Ended)
 
-  quiet_is : (answer : Stepped PortView WorldView) → IsQuiet answer → DoesStep plain_calls facts_of nodes old w answer new w'
-      → MakesStep plain_calls facts_of nodes old w answer new w' × (is_child answer ≡ false)
+  quiet_is : (answer : Stepped PortView WorldView) → IsQuiet answer → DoesStep (plain_theory nodes) old w answer new w'
+      → MakesStep (plain_theory nodes) old w answer new w' × (is_child answer ≡ false)
   quiet_is Went e d = (d, refl)
   quiet_is Gave e d = (d, refl)
   quiet_is Ended e d = (d, refl)
@@ -130,12 +130,12 @@ module _ {J : Type 0} (nodes : List Node) (s : ScriptView) (p : PlainMachine J) 
     pub free : m.fibers number ≡ None
     pub below : number < total s
 
-  module _ (w' : WorldView) (new c : FiberView PortView) (made : MakesStep plain_calls facts_of nodes x.fiber p.world (Child c) new w') where
+  module _ (w' : WorldView) (new c : FiberView PortView) (made : MakesStep (plain_theory nodes) x.fiber p.world (Child c) new w') where
     pub is_beginning : IsBeginning made.label c
     is_beginning =
         let start = start_told nodes (leaf_at (progress nodes x.fiber)) f m.fibers made.label c made.answers in
-        let told : StartsChild plain_calls facts_of nodes start.number start.origin c.port x.fiber.port p.world new.port w' =
-        subst (λ (l : Label). Tells plain_calls facts_of nodes (leaf_at (progress nodes x.fiber)) l (Child c) x.fiber.port p.world new.port w')
+        let told : StartsChild (plain_theory nodes) start.number start.origin c.port x.fiber.port p.world new.port w' =
+        subst (λ (l : Label). Tells (plain_theory nodes) (leaf_at (progress nodes x.fiber)) l (Child c) x.fiber.port p.world new.port w')
         start.is made.calls_are.told in
         let free = child_is_free nodes s p m so f x here is w' (Child c) new made start.number start.origin start.is in
         record {
@@ -185,7 +185,7 @@ module _ {J : Type 0} (nodes : List Node) (s : ScriptView) (p : PlainMachine J) 
         (number : new.port.number ≡ x.fiber.port.number) (beginning : new.port.beginning ≡ x.fiber.port.beginning) where
       -- after a step that starts none
       pub step_leads_on : (answer : Stepped PortView WorldView) → IsQuiet nodes x.fiber new p.world w' answer
-          → DoesStep plain_calls facts_of nodes x.fiber p.world answer new w' → p'.fibers.items ≡ middle → p'.world ≡ w'
+          → DoesStep (plain_theory nodes) x.fiber p.world answer new w' → p'.fibers.items ≡ middle → p'.world ≡ w'
           → is_able (class_at p.world.classes f) ≡ true
           → (l : Label) × (m' : WholeMachine) × ChosenStep s m f l m' × StandsForRun nodes s p' m'
       step_leads_on answer quiet does same world able =
@@ -199,7 +199,7 @@ module _ {J : Type 0} (nodes : List Node) (s : ScriptView) (p : PlainMachine J) 
           (made.label, on.0, on.1, on.2)
 
       pub tries_step : (answer : Stepped PortView WorldView) → IsQuiet nodes x.fiber new p.world w' answer
-          → DoesStep plain_calls facts_of nodes x.fiber p.world answer new w' → p'.fibers.items ≡ middle → p'.world ≡ w'
+          → DoesStep (plain_theory nodes) x.fiber p.world answer new w' → p'.fibers.items ≡ middle → p'.world ≡ w'
           → is_able (class_at p.world.classes f) ≡ true
           → Tries nodes s m f p p'
       tries_step answer quiet does same world able =
@@ -207,7 +207,7 @@ module _ {J : Type 0} (nodes : List Node) (s : ScriptView) (p : PlainMachine J) 
           steps on.2 on.3
 
       -- after a step that starts a child, which was laid down at its number
-      module _ (c : FiberView PortView) (made : MakesStep plain_calls facts_of nodes x.fiber p.world (Child c) new w') where
+      module _ (c : FiberView PortView) (made : MakesStep (plain_theory nodes) x.fiber p.world (Child c) new w') where
         abbrev start : IsBeginning made.label c
         start = is_beginning w' new c made
 
@@ -339,7 +339,7 @@ module _ {J : Type 0} (nodes : List Node) (s : ScriptView) (p : PlainMachine J) 
         }
 
       -- after it was noted that it waits
-      module _ (source : Source) (wait : OnlyWaits plain_calls nodes x.fiber p.world source new w') (same : p'.fibers.items ≡ middle)
+      module _ (source : Source) (wait : OnlyWaits (plain_theory nodes) x.fiber p.world source new w') (same : p'.fibers.items ≡ middle)
           (world : p'.world ≡ record w' { classes = slice_set w'.classes f (class.Waits source) }) where
         world_is : p'.world ≡ record p.world { classes = slice_set p.world.classes f (class.Waits source) }
         world_is = world ∙ ap (λ (w : WorldView). record w { classes = slice_set w.classes f (class.Waits source) }) wait.shared_is

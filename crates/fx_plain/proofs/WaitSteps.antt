@@ -15,7 +15,7 @@ use Rattle.fx_plain.specs.WholeMachine.{StartedFiber, WholeMachine}
 use Rattle.fx_plain.specs.PlainQueue.{have_room, have_element}
 use Rattle.fx_plain.specs.Classes.{outcome_has_come, is_ready}
 use Rattle.fx_plain.specs.World.{WorldView, outcome_in, HeldFiber, StandsFor}
-use Rattle.fx_plain.specs.PlainCalls.{PortView, plain_calls}
+use Rattle.fx_plain.specs.PlainCalls.{PortView, plain_calls, plain_theory}
 use Rattle.fx_plain.specs.WorldClasses.{TellsWhoSteps}
 use Rattle.fx_plain.proofs.WorldClasses.{wait_tells}
 
@@ -39,7 +39,7 @@ refused_unready w p offered (Either g h) r = refl
 
 module _ (s : ScriptView) (w : WorldView) (held : List (Option HeldFiber)) (m : WholeMachine) (stands : StandsFor s w held m) (nodes : List Node)
     (f : ℕ) (lt : f < total s) (old new : FiberView PortView) (w' : WorldView) (own : old.port.number ≡ f) (source : Source)
-    (h : OnlyWaits plain_calls nodes old w source new w') where
+    (h : OnlyWaits (plain_theory nodes) old w source new w') where
   unasked : (due : Bool) → LooksInVain plain_calls due old.port w → due ≡ true → m.requested f ≡ false
   unasked true looked e = sym (stands.requested f lt) ∙ sym (rw own at looked.0)
   unasked false looked e = absurd cc

@@ -1,4 +1,4 @@
--- What a machine that rests says of its fibers' waits is so: those that it lists are the blocked ones, each with what its leaf waits for.
+-- What a machine that has halted says of its fibers' waits is so: those that it lists are the blocked ones, each with what its leaf waits for.
 use Rattle.std.proofs.Common.{◌≡◌, ℕ, suc, ◌+◌, ◌<◌, Bool, false, Option, Some, None, option_map, List, [], ◌∷◌, ◌++◌, length, take, All, refl, sym}
 use Rattle.std.proofs.Common.{◌∙◌, ap, subst, append-nil}
 use Rattle.std.specs.Prelude.{option_and_then, slice_index_or}
@@ -31,7 +31,7 @@ use Rattle.fx_plain.specs.Classes.{IsOfClass, is_ready}
 use Rattle.fx_plain.specs.ClassSets.{class_at}
 use Rattle.fx_plain.specs.PlainQueue.{have_room, have_element}
 use Rattle.fx_plain.specs.World.{HeldFiber}
-use Rattle.fx_plain.specs.PlainMachine.{reported, all_reported, wait_of, all_waits, all_held, StandsForRun, IsUnderWay, Rests}
+use Rattle.fx_plain.specs.PlainMachine.{reported, all_reported, wait_of, all_waits, all_held, StandsForRun, IsUnderWay, Halts}
 use Rattle.fx_plain.specs.Waits.{source_of_fiber, AreWaitsOf, IsReplayWithWaits}
 use Rattle.fx_plain.proofs.LawfulRuns.{opening_is_kept}
 use Rattle.fx_plain.proofs.OneRun.{one_run}
@@ -122,7 +122,7 @@ module _ {J : Type 0} (nodes : List Node) where
   sources_are m (Some x ∷ fibers) h =
       one_source m x.fiber.port.number (source_in x) (all_waits nodes fibers) (h 0).1 (sources_are m fibers (λ i. h (suc i)))
 
-  module _ (s : ScriptView) (p : PlainMachine J) (m : WholeMachine) (so : StandsForRun nodes s p m) (rests : Rests p) where
+  module _ (s : ScriptView) (p : PlainMachine J) (m : WholeMachine) (so : StandsForRun nodes s p m) (halts : Halts p) where
     said_rightly : (f : ℕ) → IsSaidRightly m (at_number nodes p f)
     said_rightly f = by_place (at_number nodes p f) refl
       where
@@ -135,7 +135,7 @@ module _ {J : Type 0} (nodes : List Node) where
             let of_class : IsOfClass (m.requested f) (Some is.fiber) (class_at p.world.classes f) =
             subst (λ (z : Option StartedFiber). IsOfClass (m.requested f) z (class_at p.world.classes f)) is.at (so.tells.are f) in
             let waits = by_class (have_room p.world.queues) (have_element p.world.queues) (m.requested f) is.fiber
-            (class_at p.world.classes f) of_class (rests f) in (
+            (class_at p.world.classes f) of_class (halts f) in (
               subst (λ (q : Progress). HasEndedOrWaits (source_at q) (has_ended q)) (sym far) waits,
               ap (λ (k : ℕ). source_of_fiber (m.fibers k)) number ∙ ap source_of_fiber is.at ∙ ap source_at (sym far),
             )
@@ -146,17 +146,17 @@ module _ {J : Type 0} (nodes : List Node) where
       sources = sources_are m p.fibers.items said_rightly;
     }
 
-  -- the report of a machine at rest on the way of the picks, and its waits
-  pub replay_with_waits : (s : ScriptView) (p : PlainMachine J) (all : List Pick) (r : ReportView) (waits : List Wait) → IsUnderWay nodes s all [] p → Rests p
+  -- the report of a machine that has halted on the way of the picks, and its waits
+  pub replay_with_waits : (s : ScriptView) (p : PlainMachine J) (all : List Pick) (r : ReportView) (waits : List Wait) → IsUnderWay nodes s all [] p → Halts p
       → IsReplay s all r → r.fibers ≡ all_reported nodes p.fibers.items → waits ≡ all_waits nodes p.fibers.items → IsReplayWithWaits s all r waits
-  replay_with_waits s p all r waits u rests h fibers are =
-      let none : IsSettled s u.machine = λ f. unready_cannot s p.world (all_held nodes p) u.machine u.stands.stands u.stands.tells f (rests f) in
-      let own = u.way [] u.machine (chosen.rests none) in
+  replay_with_waits s p all r waits u halts h fibers are =
+      let none : IsSettled s u.machine = λ f. unready_cannot s p.world (all_held nodes p) u.machine u.stands.stands u.stands.tells f (halts f) in
+      let own = u.way [] u.machine (chosen.halts none) in
       let same = (one_run s (opening_is_kept s) h.chosen own.1).1 in
       record {
         moves = h.moves;
         last = h.last;
         chosen = h.chosen;
         report = h.report;
-        waiting = rw (same, are) (waits_are s p u.machine u.stands rests r fibers);
+        waiting = rw (same, are) (waits_are s p u.machine u.stands halts r fibers);
       }

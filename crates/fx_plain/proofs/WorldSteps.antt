@@ -20,7 +20,7 @@ use Rattle.fx_plain.specs.WholeMachine.{StartedFiber, WholeMachine, front, IsAns
 use Rattle.fx_plain.specs.Chosen.{LooksLeftFirst, ChosenStep}
 use Rattle.fx_plain.specs.PutCounts.{one_more_put}
 use Rattle.fx_plain.specs.World.{WorldView, after_put, world_after, HeldFiber, held_after, StandsFor}
-use Rattle.fx_plain.specs.PlainCalls.{PortView, facts_of, plain_calls}
+use Rattle.fx_plain.specs.PlainCalls.{PortView, plain_calls, plain_theory}
 use Rattle.fx_plain.proofs.LawfulRuns.{IsKept}
 use Rattle.fx_plain.proofs.StepsCan.{steps_can}
 use Rattle.fx_term.proofs.MapLaws.{at_that, at_other}
@@ -39,7 +39,7 @@ module _ (nodes : List Node) (leaf : Option Term) (f : ℕ) (ls : List Label) (p
     (counted : (q : ℕ) → slice_index p.put_counts q ≡ length (values_put q (events ls))) where
   -- the calls of a step leave the world as its label says
   pub world_is : (l : Label) (answer : Stepped PortView WorldView) (p' : PortView) (w w' : WorldView)
-      → Tells plain_calls facts_of nodes leaf l answer p w p' w' → w' ≡ world_after f ls l w
+      → Tells (plain_theory nodes) leaf l answer p w p' w' → w' ≡ world_after f ls l w
   world_is (Learns g o e) answer p' w w' h = h.2
   world_is (Shows (event.Request g)) answer p' w w' h = h.1
   world_is (Shows event.Seen) answer p' w w' h = h.2
@@ -73,7 +73,7 @@ module _ (nodes : List Node) (leaf : Option Term) (f : ℕ) (ls : List Label) (p
 
   -- and the port, which goes on to count what its fiber puts
   counted_one : (l : Label) (answer : Stepped PortView WorldView) (p' : PortView) (w w' : WorldView) → IsProper l
-      → Tells plain_calls facts_of nodes leaf l answer p w p' w' → (q : ℕ)
+      → Tells (plain_theory nodes) leaf l answer p w p' w' → (q : ℕ)
       → slice_index p'.put_counts q ≡ length (values_put q (events ls)) + length (values_put q (events (l ∷ [])))
   counted_one (Learns g o (event.Joined k v)) answer p' w w' proper h q = unchanged p'.put_counts q (ap (λ (r : PortView). r.put_counts) h.1)
   counted_one (Learns g o (event.Awaited k)) answer p' w w' proper h q = unchanged p'.put_counts q (ap (λ (r : PortView). r.put_counts) h.1)
@@ -95,7 +95,7 @@ module _ (nodes : List Node) (leaf : Option Term) (f : ℕ) (ls : List Label) (p
   counted_one _ answer p' w w' proper h q = unchanged p'.put_counts q (ap (λ (r : PortView). r.put_counts) h.0)
 
   pub counts_after : (l : Label) (answer : Stepped PortView WorldView) (p' : PortView) (w w' : WorldView) → IsProper l
-      → Tells plain_calls facts_of nodes leaf l answer p w p' w' → (q : ℕ)
+      → Tells (plain_theory nodes) leaf l answer p w p' w' → (q : ℕ)
       → slice_index p'.put_counts q ≡ length (values_put q (events (ls ++ l ∷ [])))
   counts_after l answer p' w w' proper h q = counted_one l answer p' w w' proper h q ∙ sym (puts_counted q ls l)
 
@@ -103,7 +103,7 @@ module _ (s : ScriptView) (w : WorldView) (held : List (Option HeldFiber)) (m : 
     (f : ℕ) (lt : f < total s) (p : PortView) (own : p.number ≡ f) where
   -- the answers of the world are those of the whole machine
   answers_are_so : (leaf : Option Term) (l : Label) (answer : Stepped PortView WorldView) (p' : PortView) (w' : WorldView)
-      → Tells plain_calls facts_of nodes leaf l answer p w p' w' → IsAnswered s m f l
+      → Tells (plain_theory nodes) leaf l answer p w p' w' → IsAnswered s m f l
   answers_are_so leaf (Learns g o e) answer p' w' h = sym (stands.outcomes g) ∙ sym h.0
   answers_are_so leaf (Shows event.Seen) answer p' w' h = sym (stands.requested f lt) ∙ sym (rw own at h.0)
   answers_are_so leaf (Shows (event.Put q n)) answer p' w' h = sym (room_is s m w.queues stands.capacities stands.queues q) ∙ h.0
@@ -127,7 +127,7 @@ module _ (s : ScriptView) (w : WorldView) (held : List (Option HeldFiber)) (m : 
     (nodes : List Node) (f : ℕ) (x : StartedFiber) (l : Label) (d : Counts) (q : Progress) (at : m.fibers f ≡ Some x)
     (st : Step x.counts x.progress l d q) (answer : Stepped PortView WorldView) (p p' : PortView) (w' : WorldView) (own : p.number ≡ f)
     (counted : (r : ℕ) → slice_index p.put_counts r ≡ length (values_put r (events x.labels)))
-    (calls : Calls plain_calls facts_of nodes (looks_first x.counts.known x.progress) (leaf_at x.progress) l answer p w p' w') where
+    (calls : Calls (plain_theory nodes) (looks_first x.counts.known x.progress) (leaf_at x.progress) l answer p w p' w') where
   answered : IsAnswered s m f l
   answered = answers_are_so s w held m stands nodes f (kept.ranges.started_below f x at) p own (leaf_at x.progress) l answer p' w' calls.told
 

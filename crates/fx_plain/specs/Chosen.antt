@@ -41,7 +41,7 @@ pub data IsChosen (s : ScriptView) : List Pick → WholeMachine → List Move �
       → total s ≤ f → IsChosen s ps m vs last → IsChosen s (pick.Cancel f ∷ ps) m vs last
   least : {f : ℕ} {l : Label} {m m' last : WholeMachine} {vs : List Move}
       → IsLeast s m f → ChosenStep s m f l m' → IsChosen s [] m' vs last → IsChosen s [] m (Steps f l ∷ vs) last
-  rests : {m : WholeMachine} → IsSettled s m → IsChosen s [] m [] m
+  halts : {m : WholeMachine} → IsSettled s m → IsChosen s [] m [] m
 
 -- the run that the picks choose has this report
 pub record IsReplay (s : ScriptView) (ps : List Pick) (r : ReportView) : Type 0 where

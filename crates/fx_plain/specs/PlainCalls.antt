@@ -2,11 +2,14 @@
 use Rattle.std.specs.Prelude.{◌≡◌, ℕ, Bool, true, false, Option, Some, None, List, [], slice_index, sum}
 use Rattle.fx_term.specs.declared.begin.Begin.{Begin}
 use Rattle.fx_term.specs.declared.item.Item.{Item}
+use Rattle.fx_term.specs.declared.node.Node.{Node}
 use Rattle.fx_term.specs.declared.offered.Offered.{Offered}
 use Rattle.fx_term.specs.declared.offered.Offered.TheVariants.{Done, Full}
 use Rattle.fx_term.specs.declared.outcome.Outcome.{Outcome}
 use Rattle.fx_fiber.specs.Calls.{PortCalls, first_range, range_after}
 use Rattle.fx_fiber.specs.PortFacts.{Facts}
+use Rattle.fx_fiber.specs.Theory.{Theory}
+use Rattle.fx_model.specs.Origin.{main_begin_of}
 use Rattle.fx_model.specs.Row.{Range}
 use Rattle.fx_model.specs.declared.source.Source.{Source}
 use Rattle.fx_plain.specs.WholeMachine.{front}
@@ -88,4 +91,15 @@ plain_calls = record {
   outsides = OutsidesIn;
   waits = WaitsIn;
   wakes = WakesIn;
+}
+
+-- these ports, of fibers that run that code: the calls say all, and each number may be requested from outside
+abbrev pub plain_theory : List Node → Theory PortView WorldView
+plain_theory nodes = record {
+  code = nodes;
+  total = (main_begin_of nodes).end;
+  may = λ id. true;
+  calls = plain_calls;
+  facts = facts_of;
+  agrees = λ port deeds. Unit {0};
 }

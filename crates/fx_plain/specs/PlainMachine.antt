@@ -23,7 +23,7 @@ use Rattle.fx_plain.specs.Chosen.{ChosenStep}
 use Rattle.fx_plain.specs.declared.class.Class.{Class}
 use Rattle.fx_plain.specs.ClassSets.{is_able}
 use Rattle.fx_plain.specs.World.{WorldView, HeldFiber, is_ready_in, StandsFor}
-use Rattle.fx_plain.specs.PlainCalls.{PortView, facts_of, plain_calls}
+use Rattle.fx_plain.specs.PlainCalls.{PortView, plain_theory}
 use Rattle.fx_plain.specs.WorldClasses.{TellsWhoSteps}
 use Rattle.fx_plain.specs.OnTheWay.{IsOnTheWay}
 
@@ -32,8 +32,8 @@ abbrev pub able_count : List Class → ℕ
 able_count classes = sum_by (λ k. if is_able k then 1 else 0) classes
 
 -- no fiber is ready
-abbrev pub Rests : {J : Type 0} → PlainMachine J → Type 0
-Rests p = (f : ℕ) → is_ready_in p.world f ≡ false
+abbrev pub Halts : {J : Type 0} → PlainMachine J → Type 0
+Halts p = (f : ℕ) → is_ready_in p.world f ≡ false
 
 module _ {J : Type 0} (nodes : List Node) where
   -- a fiber that has started
@@ -86,7 +86,7 @@ module _ {J : Type 0} (nodes : List Node) where
     pub after : Started J
     pub from : old ≡ Some before
     pub to : new ≡ Some after
-    pub does : DoesStep plain_calls facts_of nodes before.fiber world answer after.fiber world'
+    pub does : DoesStep (plain_theory nodes) before.fiber world answer after.fiber world'
     pub parent : after.parent ≡ before.parent
     pub number : after.fiber.port.number ≡ before.fiber.port.number
     pub beginning : after.fiber.port.beginning ≡ before.fiber.port.beginning
@@ -98,7 +98,7 @@ module _ {J : Type 0} (nodes : List Node) where
     pub from : old ≡ Some before
     pub to : new ≡ Some after
     pub n : ℕ
-    pub does : Bursts plain_calls facts_of nodes most n before.fiber world after.fiber world'
+    pub does : Bursts (plain_theory nodes) most n before.fiber world after.fiber world'
     pub parent : after.parent ≡ before.parent
 
   -- it stands for that whole machine, to which some run leads

@@ -47,7 +47,7 @@ fn replay_named<J: CodeBrand>(
     for pick in picks {
         machine.take_pick(&script.code, *pick)?;
     }
-    machine.run_to_rest(&script.code)?;
+    machine.run_to_halt(&script.code)?;
     let waits = machine.waits(alloc, &script.code)?;
     let report = machine.into_report(alloc)?;
     Ok(Halt { report, waits })

@@ -9,12 +9,12 @@ ghost use Rattle.fx_model.specs.Step.{has_ended};
 ghost use Rattle.fx_fiber.specs.Fiber.{progress};
 ghost use Rattle.fx_fiber.specs.MakesStep.{DoesStep};
 ghost use Rattle.fx_fiber.specs.Bursts.{Bursts};
-ghost use Rattle.fx_plain.specs.PlainCalls.{facts_of, plain_calls};
+ghost use Rattle.fx_plain.specs.PlainCalls.{plain_theory};
 ghost use Rattle.fx_plain.specs.WholeMachine.{WholeMachine, opening};
 ghost use Rattle.fx_plain.specs.Chosen.{IsReplay};
 ghost use Rattle.fx_plain.specs.ClassSets.{class_at, is_able};
 ghost use Rattle.fx_plain.specs.World.{is_ready_in};
-ghost use Rattle.fx_plain.specs.PlainMachine.{reported, all_reported, StandsForRun, StandsForSome, Tries, IsUnderWay, Rests};
+ghost use Rattle.fx_plain.specs.PlainMachine.{reported, all_reported, StandsForRun, StandsForSome, Tries, IsUnderWay, Halts};
 ghost use Rattle.fx_plain.specs.PlainMachine.{IsGoingAt, StepsAt, BurstsAt, GoesOn};
 ghost use Rattle.fx_plain.specs.PlainMachine.{wait_of, all_waits};
 ghost use Rattle.fx_report.specs.Script.{script_of};
@@ -51,7 +51,7 @@ impl<J: CodeBrand> Started<J> {
     fn step(&mut self, code: &Code, world: &mut PlainWorld) -> Result<Stepped<PlainPort<J>>, Memory>
         requires code { code.now.nodes ≡ J.nodes }
         requires going { has_ended (progress J.nodes self.old.fiber) ≡ false }
-        ensures ok { IfOk result (λ answer. DoesStep plain_calls facts_of J.nodes
+        ensures ok { IfOk result (λ answer. DoesStep (plain_theory J.nodes)
             self.old.fiber world.old answer self.new.fiber world.new) }
         ensures same { self.new ≡ record self.old { fiber = self.new.fiber } }
         ensures number { self.new.fiber.port.number ≡ self.old.fiber.port.number }
@@ -64,7 +64,7 @@ impl<J: CodeBrand> Started<J> {
     /// made.
     fn burst(&mut self, code: &Code, world: &mut PlainWorld) -> Result<u32, Memory>
         requires code { code.now.nodes ≡ J.nodes }
-        ensures ok { IfOk result (λ n. Bursts plain_calls facts_of J.nodes (2 ^ 32 - 1) n
+        ensures ok { IfOk result (λ n. Bursts (plain_theory J.nodes) (2 ^ 32 - 1) n
             self.old.fiber world.old self.new.fiber world.new) }
         ensures same { self.new ≡ record self.old { fiber = self.new.fiber } }
     {
@@ -283,10 +283,10 @@ impl<J: CodeBrand> PlainMachine<J> {
     }
 
     /// Lets the ready fiber with the least number make one step, again and again, until none is ready.
-    pub fn run_to_rest(&mut self, code: &Code) -> Result<(), Memory>
+    pub fn run_to_halt(&mut self, code: &Code) -> Result<(), Memory>
         requires code { code.now.nodes ≡ J.nodes }
         requires stands { StandsForSome J.nodes self.old }
-        ensures rests { OnOk result (Rests self.new) }
+        ensures halts { OnOk result (Halts self.new) }
         ensures way { OnOk result ((s : ScriptView) (all : List Pick)
             → IsUnderWay J.nodes s all [] self.old → IsUnderWay J.nodes s all [] self.new) }
     {
@@ -307,7 +307,7 @@ impl<J: CodeBrand> PlainMachine<J> {
 
     /// The report, once no fiber is ready.
     pub fn into_report(self, alloc: Global) -> Result<Report, Memory>
-        requires { Rests self }
+        requires { Halts self }
         ensures replay { IfOk result (λ report. (s : ScriptView) (all : List Pick)
             → IsUnderWay J.nodes s all [] self → IsReplay s all report) }
         ensures fibers { IfOk result

@@ -1,5 +1,5 @@
 //! The port of a fiber of one thread.
-ghost use Rattle.std.specs.Prelude.{◌≡◌, true};
+ghost use Rattle.std.specs.Prelude.{◌≡◌};
 ghost use Rattle.fx_plain.specs.PlainCalls.{new_port};
 
 use crate::plain_world::PlainWorld;
@@ -54,25 +54,11 @@ impl<J: CodeBrand> PlainPort<J> {
 }
 
 impl<J: CodeBrand> Port for PlainPort<J> {
-    ghost use Rattle.fx_model.specs.Origin.{main_begin_of};
-    ghost use Rattle.fx_plain.specs.PlainCalls.{facts_of, plain_calls};
+    ghost use Rattle.fx_plain.specs.PlainCalls.{plain_theory};
 
     type Shared = PlainWorld;
 
-    ghost code = { J.nodes };
-
-    // one more than the need of the code's term
-    ghost total = { (main_begin_of J.nodes).end };
-
-    ghost facts = { facts_of };
-
-    // the calls say all
-    ghost agrees = { λ port deeds. Unit {0} };
-
-    // each number
-    ghost may = { λ id. true };
-
-    ghost calls = { plain_calls };
+    ghost theory = { plain_theory J.nodes };
 
     fn look(&mut self, world: &mut PlainWorld) -> bool {
         world.is_requested(self.id)

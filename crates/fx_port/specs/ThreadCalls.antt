@@ -2,12 +2,14 @@
 -- to be woken.
 use Rattle.std.specs.Prelude.{◌≡◌, ℕ, ◌<◌, ◌≤◌, Bool, true, List, Option, Some, None, IsTrue, slice_set}
 use Rattle.fx_term.specs.declared.begin.Begin.{Begin}
+use Rattle.fx_term.specs.declared.node.Node.{Node}
 use Rattle.fx_term.specs.declared.offered.Offered.{Offered}
 use Rattle.fx_term.specs.declared.offered.Offered.TheVariants.{Done, Full}
 use Rattle.fx_term.specs.declared.outcome.Outcome.{Outcome}
 use Rattle.fx_model.specs.declared.source.Source.{Source}
 use Rattle.fx_fiber.specs.Deed.{Deed}
 use Rattle.fx_fiber.specs.Calls.{PortCalls}
+use Rattle.fx_fiber.specs.Theory.{Theory}
 use Rattle.fx_word.specs.Entry.{asking, looking, finished, peeked}
 use Rattle.fx_word.specs.SeatView.{with_own, IsAsked, Knows}
 use Rattle.fx_queue.specs.Queues.{HeldPass}
@@ -15,7 +17,7 @@ use Rattle.fx_port.specs.Marks.{KeepsMarks, TakesMark}
 use Rattle.fx_port.specs.Rows.{PutsInto, GetsFrom, FoundFullAt, FoundEmptyAt}
 use Rattle.fx_port.specs.WordsAgree.{WordsAgree}
 use Rattle.fx_port.specs.PassesAgree.{PassesAgree}
-use Rattle.fx_port.specs.PortView.{PortView, with_entry, kept_port, given_port}
+use Rattle.fx_port.specs.PortView.{PortView, with_entry, kept_port, given_port, facts_of}
 
 -- exactly what the fiber did is in its seat and its passes
 pub record ThreadAgrees (p : PortView) (deeds : List Deed) : Type 0 where
@@ -77,4 +79,15 @@ thread_calls fibers = record {
   outsides = OutsidesOn fibers;
   waits = WaitsOn;
   wakes = TakesMark;
+}
+
+-- these ports, of fibers that run that code, over so many words, where these numbers may be requested from outside
+abbrev pub thread_theory : List Node → ℕ → (ℕ → Bool) → Theory PortView (List Bool)
+thread_theory nodes fibers may = record {
+  code = nodes;
+  total = fibers;
+  may = may;
+  calls = thread_calls fibers;
+  facts = facts_of nodes;
+  agrees = ThreadAgrees;
 }

@@ -104,22 +104,11 @@ impl<'a, R: Wait, N: RunBrand> ThreadPort<'a, R, N> {
 }
 
 impl<'a, R: Wait, N: RunBrand> Port for ThreadPort<'a, R, N> {
-    ghost use Rattle.fx_port.specs.PortView.{facts_of};
-    ghost use Rattle.fx_port.specs.ThreadCalls.{ThreadAgrees, thread_calls};
+    ghost use Rattle.fx_port.specs.ThreadCalls.{thread_theory};
 
     type Shared = Notes<N>;
 
-    ghost code = { N.nodes };
-
-    ghost total = { N.words.fibers };
-
-    ghost facts = { facts_of N.nodes };
-
-    ghost agrees = { ThreadAgrees };
-
-    ghost may = { N.may };
-
-    ghost calls = { thread_calls N.words.fibers };
+    ghost theory = { thread_theory N.nodes N.words.fibers N.may };
 
     fn look(&mut self, notes: &mut Notes<N>) -> bool {
         let found = self.words.look(&mut self.seat);

@@ -27,8 +27,8 @@ abbrev pub pass_of : Pass Item PassView → HeldPass
 pass_of p = record { table = p.table_id; view = view p }
 
 -- no slot of the ring is out with it, and it was not taken in
-abbrev pub IsAtRest : Pass Item PassView → Type 0
-IsAtRest p = (p.me.1 ≡ []) × ((view p).stage ≡ Live)
+abbrev pub IsIdle : Pass Item PassView → Type 0
+IsIdle p = (p.me.1 ≡ []) × ((view p).stage ≡ Live)
 
 -- the pass is the same fiber's, of the same queue, with the same range, and has split off and taken in the same
 pub record IsSameFiber (s t : HeldPass) : Type 0 where

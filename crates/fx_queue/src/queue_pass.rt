@@ -14,11 +14,11 @@ pub struct QueuePass {
 }
 
 impl Model for QueuePass {
-    ghost use Rattle.fx_queue.specs.Queues.{HeldPass, pass_of, IsAtRest};
+    ghost use Rattle.fx_queue.specs.Queues.{HeldPass, pass_of, IsIdle};
 
     ghost Value = { HeldPass };
 
     ghost view = { λ p. pass_of p.pass };
 
-    ghost invariant = { λ p. IsAtRest p.pass };
+    ghost invariant = { λ p. IsIdle p.pass };
 }

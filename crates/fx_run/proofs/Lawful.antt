@@ -194,7 +194,7 @@ module _ (s : ScriptView) (nodes : List Node) (ps : List Parted) (left : List (L
           run = p.lawful.run;
           trace = p.lawful.traced ∙ sym (ap (λ (z : FiberReportView). z.trace) o.is);
           state = sym (ap (λ (z : FiberReportView). z.has_ended) o.is);
-          rests = settled f p.bare (bare_in ps f p o.at);
+          unable = settled f p.bare (bare_in ps f p o.at);
         } in
         rw o.at run
 

@@ -7,17 +7,13 @@ use Rattle.fx_model.specs.Step.{Progress}
 use Rattle.fx_model.specs.Run.{Leads, IsRun, events}
 use Rattle.fx_model.specs.Outside.{outcome_at}
 use Rattle.fx_model.specs.LawfulReport.{EndsWith}
-use Rattle.fx_model.proofs.OutcomeLaws.{end_of, step_end_of, no_step_after_end, run_stops}
+use Rattle.fx_model.proofs.OutcomeLaws.{end_of, step_end_of, stays_ended, run_stops}
 use Rattle.fx_term.specs.Lists.{Among}
-
-rests_at_end : (c d : Counts) (p q : Progress) (ls : List Label) (o : Outcome) → Leads c p ls d q → outcome_at p ≡ Some o → outcome_at q ≡ Some o
-rests_at_end c d p q [] o r e = ap outcome_at r.1 ∙ e
-rests_at_end c d p q (l ∷ ls) o r e = absurd (no_step_after_end o r.2 e)
 
 label_ends : (c d : Counts) (p q : Progress) (ls : List Label) (l : Label) (o : Outcome) → Leads c p ls d q → Among l ls → end_of l ≡ Some o
     → outcome_at q ≡ Some o
 label_ends c d p q [] l o r i e = absurd i
-label_ends c d p q (k ∷ ls) l o r (inl same) e = rests_at_end r.0 d r.1 q ls o r.3 (step_end_of r.2 ∙ ap end_of (sym same) ∙ e)
+label_ends c d p q (k ∷ ls) l o r (inl same) e = stays_ended r.0 d r.1 q ls o r.3 (step_end_of r.2 ∙ ap end_of (sym same) ∙ e)
 label_ends c d p q (k ∷ ls) l o r (inr i) e = label_ends r.0 d r.1 q ls l o r.3 i e
 
 pub label_ends_trace : (b : Origin) (ls : List Label) (c : Counts) (p : Progress) (l : Label) (o : Outcome) → IsRun b ls c p → Among l ls

@@ -9,7 +9,7 @@ use Rattle.fx_term.specs.declared.outcome.Outcome.{Outcome}
 use Rattle.fx_term.specs.Script.{ScriptView}
 use Rattle.fx_fiber.specs.Fiber.{FiberView}
 use Rattle.fx_port.specs.PortView.{PortView}
-use Rattle.fx_run.specs.Between.{ClosedLists, can_go, rests_still, closed_of, NoneCanGo, IsSwept, events_of}
+use Rattle.fx_run.specs.Between.{ClosedLists, can_go, is_unable, closed_of, NoneCanGo, IsSwept, events_of}
 use Rattle.fx_run.specs.Told.{ToldView, nothing_told, with_live, with_lives}
 use Rattle.fx_run.specs.Flows.{with_moves, rests_in, rests_of}
 use Rattle.fx_run.proofs.BetweenLaws.{told_outcomes, told_requested}
@@ -32,19 +32,19 @@ module _ {A : Type 0} (test : A → Bool) where
         whole = ap (λ b. cond (not b) (x ∷ filter (λ x. not (test x)) xs) (filter (λ x. not (test x)) xs)) is ∙ ap (λ ys. x ∷ ys) (rest e).whole;
       }
 
-module _ (nodes : List Node) (s : ScriptView) (resting : List (FiberView PortView)) (swept : IsSwept nodes s [] resting) where
+module _ (nodes : List Node) (s : ScriptView) (unable : List (FiberView PortView)) (swept : IsSwept nodes s [] unable) where
   none : NonePasses (can_go nodes (closed_of s swept.fibers)) swept.fibers
   none = none_passes (can_go nodes (closed_of s swept.fibers)) swept.fibers (sym swept.able_are)
 
-  all_rest : swept.fibers ≡ resting
-  all_rest = sym (swept.resting_are ∙ none.whole)
+  all_unable : swept.fibers ≡ unable
+  all_unable = sym (swept.unable_are ∙ none.whole)
 
-  pub still_ascending : IsStrictlyIncreasing (map (λ (f : FiberView PortView). f.port.words.own.id) resting)
+  pub still_ascending : IsStrictlyIncreasing (map (λ (f : FiberView PortView). f.port.words.own.id) unable)
   still_ascending =
-      subst (λ (fs : List (FiberView PortView)). IsStrictlyIncreasing (map (λ (f : FiberView PortView). f.port.words.own.id) fs)) all_rest swept.ascending
+      subst (λ (fs : List (FiberView PortView)). IsStrictlyIncreasing (map (λ (f : FiberView PortView). f.port.words.own.id) fs)) all_unable swept.ascending
 
-  pub none_can_go : NoneCanGo nodes s resting
-  none_can_go = subst (λ (fs : List (FiberView PortView)). NoneCanGo nodes s fs) all_rest none.each
+  pub none_can_go : NoneCanGo nodes s unable
+  none_can_go = subst (λ (fs : List (FiberView PortView)). NoneCanGo nodes s fs) all_unable none.each
 
 -- the queues' counters have what the events of all fibers told
 pub lives_moved : (fs : List (FiberView PortView)) (t : ToldView) → (with_lives fs t).flows ≡ with_moves (events_of fs) t.flows
@@ -69,16 +69,16 @@ closed_parts s fs c t told caps rests outcomes requested =
     by_parts p q r u = cc
 
 -- fibers that were parted by what they have come to are swept
-pub swept_so : (nodes : List Node) (s : ScriptView) (fs seen able resting : List (FiberView PortView)) (lists : ClosedLists)
+pub swept_so : (nodes : List Node) (s : ScriptView) (fs seen able unable : List (FiberView PortView)) (lists : ClosedLists)
     → IsStrictlyIncreasing (map (λ (f : FiberView PortView). f.port.words.own.id) fs) → seen ≡ fs → lists ≡ closed_of s seen
-    → able ≡ filter (can_go nodes lists) fs → resting ≡ filter (rests_still nodes lists) fs → IsSwept nodes s able resting
-swept_so nodes s fs seen able resting lists rise is come able_are resting_are =
+    → able ≡ filter (can_go nodes lists) fs → unable ≡ filter (is_unable nodes lists) fs → IsSwept nodes s able unable
+swept_so nodes s fs seen able unable lists rise is come able_are unable_are =
     let lists_are : lists ≡ closed_of s fs = come ∙ ap (closed_of s) is in
     record {
       fibers = fs;
       ascending = rise;
       able_are = able_are ∙ ap (λ (l : ClosedLists). filter (can_go nodes l) fs) lists_are;
-      resting_are = resting_are ∙ ap (λ (l : ClosedLists). filter (rests_still nodes l) fs) lists_are;
+      unable_are = unable_are ∙ ap (λ (l : ClosedLists). filter (is_unable nodes l) fs) lists_are;
     }
 
 no_more : {A : Type 0} (xs : List A) → length xs ≡ 0 → xs ≡ []
@@ -86,6 +86,6 @@ no_more [] e = refl
 no_more (x ∷ xs) e = absurd (omega arith)
 
 -- a sweep that found none
-pub found_none : (nodes : List Node) (s : ScriptView) (able resting : List (FiberView PortView)) → length able ≡ 0
-    → IsSwept nodes s able resting → IsSwept nodes s [] resting
-found_none nodes s able resting none swept = subst (λ (fs : List (FiberView PortView)). IsSwept nodes s fs resting) (no_more able none) swept
+pub found_none : (nodes : List Node) (s : ScriptView) (able unable : List (FiberView PortView)) → length able ≡ 0
+    → IsSwept nodes s able unable → IsSwept nodes s [] unable
+found_none nodes s able unable none swept = subst (λ (fs : List (FiberView PortView)). IsSwept nodes s fs unable) (no_more able none) swept

@@ -52,16 +52,16 @@ outside_at c = outside_of_lists c.caps c.rests c.outcomes c.requested
 abbrev pub can_go : List Node → ClosedLists → FiberView PortView → Bool
 can_go nodes c f = can_step (outside_at c) f.port.words.own.id f.counts (progress nodes f)
 
-abbrev pub rests_still : List Node → ClosedLists → FiberView PortView → Bool
-rests_still nodes c f = not (can_go nodes c f)
+abbrev pub is_unable : List Node → ClosedLists → FiberView PortView → Bool
+is_unable nodes c f = not (can_go nodes c f)
 
 -- none of the fibers can step by what they have come to
 abbrev pub NoneCanGo : List Node → ScriptView → List (FiberView PortView) → Type 0
 NoneCanGo nodes s fs = All (λ (f : FiberView PortView). can_go nodes (closed_of s fs) f ≡ false) fs
 
 -- these can step and those cannot, by what all fibers between two rounds have come to, which rise by number
-pub record IsSwept (nodes : List Node) (s : ScriptView) (able resting : List (FiberView PortView)) : Type 0 where
+pub record IsSwept (nodes : List Node) (s : ScriptView) (able unable : List (FiberView PortView)) : Type 0 where
   pub fibers : List (FiberView PortView)
   pub ascending : IsStrictlyIncreasing (map (λ (f : FiberView PortView). f.port.words.own.id) fibers)
   pub able_are : able ≡ filter (can_go nodes (closed_of s fibers)) fibers
-  pub resting_are : resting ≡ filter (rests_still nodes (closed_of s fibers)) fibers
+  pub unable_are : unable ≡ filter (is_unable nodes (closed_of s fibers)) fibers

@@ -64,7 +64,7 @@ pub fn run_rounds<
         let next = swept_round(rt, alloc, script, swept, shared, gate)?;
         if next.swept.able.is_empty() {
             return Ok(RanFibers {
-                fibers: next.swept.resting,
+                fibers: next.swept.unable,
                 late,
             });
         }
@@ -81,13 +81,13 @@ fn first<'a, R: Wait, N: RunBrand>(
     main: Fiber<ThreadPort<'a, R, N>>,
 ) -> Result<Swept<'a, R, N>, Memory>
     ensures able { IfOk result (λ swept. swept.able.items ≡ main.entry ∷ []) }
-    ensures resting { IfOk result (λ swept. swept.resting.items ≡ []) }
+    ensures unable { IfOk result (λ swept. swept.unable.items ≡ []) }
 {
     let mut able = Vec::new(alloc);
     able.push(main)?;
     Ok(Swept {
         able,
-        resting: Vec::new(alloc),
+        unable: Vec::new(alloc),
     })
 }
 
@@ -109,16 +109,16 @@ fn swept_round<
     requires total { N.words.fibers ≤ total (script_of (meaning script.now)) }
     requires gate { (id : ℕ) → G.may gate.now id ≡ true → N.may id ≡ true }
     ensures swept { IfOk result (λ left. IsSwept N.nodes (script_of (meaning script.now))
-        left.swept.able.items left.swept.resting.items) }
+        left.swept.able.items left.swept.unable.items) }
     ensures workers { IfOk result (λ left. vec_len left.shared ≡ vec_len shared) }
 {
-    let Swept { able, resting } = fibers;
+    let Swept { able, unable } = fibers;
     let end = round(
         rt,
         alloc,
         script.total(),
         able,
-        resting,
+        unable,
         shared,
         &script.code,
         gate,

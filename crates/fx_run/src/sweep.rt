@@ -3,7 +3,7 @@ ghost use Rattle.std.specs.Prelude.{◌≡◌, IfOk};
 ghost use Rattle.std.specs.List.{filter};
 ghost use Rattle.fx_text.specs.View.{meaning};
 ghost use Rattle.fx_report.specs.Script.{script_of};
-ghost use Rattle.fx_run.specs.Between.{lists_of, closed_of, can_go, rests_still};
+ghost use Rattle.fx_run.specs.Between.{lists_of, closed_of, can_go, is_unable};
 
 use crate::told::Told;
 use crate::whole_report::capacities;
@@ -18,7 +18,7 @@ use std::sync::Wait;
 #[derive(Drop)]
 pub(crate) struct Swept<'a, R: Wait, N: RunBrand> {
     pub able: Vec<Fiber<ThreadPort<'a, R, N>>>,
-    pub resting: Vec<Fiber<ThreadPort<'a, R, N>>>,
+    pub unable: Vec<Fiber<ThreadPort<'a, R, N>>>,
 }
 
 /// What these fibers of a script's run have come to, by their traces, and by what was requested from
@@ -52,17 +52,17 @@ pub(crate) fn sweep<'a, R: Wait, N: RunBrand>(
     requires { code.now.nodes ≡ N.nodes }
     ensures able { IfOk result (λ swept. swept.able.items
         ≡ filter (can_go N.nodes (lists_of closed.now)) fibers.entry.items) }
-    ensures resting { IfOk result (λ swept. swept.resting.items
-        ≡ filter (rests_still N.nodes (lists_of closed.now)) fibers.entry.items) }
+    ensures unable { IfOk result (λ swept. swept.unable.items
+        ≡ filter (is_unable N.nodes (lists_of closed.now)) fibers.entry.items) }
 {
     let mut able = Vec::new(alloc);
-    let mut resting = Vec::new(alloc);
+    let mut unable = Vec::new(alloc);
     for fiber in fibers {
         if fiber.can_step(code, closed) {
             able.push(fiber)?;
         } else {
-            resting.push(fiber)?;
+            unable.push(fiber)?;
         }
     }
-    Ok(Swept { able, resting })
+    Ok(Swept { able, unable })
 }

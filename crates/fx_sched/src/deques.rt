@@ -75,7 +75,7 @@ impl<T: Drop> Tasks<T> {
     }
 
     /// Counts a worker less that may have a task. The last one calls all that sleep.
-    pub(crate) fn rests(&self) {
+    pub(crate) fn goes_idle(&self) {
         if self.busy.fetch_sub(1, Ordering::SeqCst) == 1 {
             self.calls.fetch_add(1, Ordering::SeqCst);
             self.calls.wake_all();
@@ -178,7 +178,7 @@ impl<T: Drop> Owner<T> {
             if let Some(task) = self.next(rt, work) {
                 return Some(task);
             }
-            work.rests();
+            work.goes_idle();
             if !work.wait_task(rt) {
                 return None;
             }

@@ -6,7 +6,7 @@
 //! |---|---|
 //! | able to go on | in a worker's deque ([`Hand`]); before the workers begin in the injector ([`Work`]) |
 //! | in its turn | in the hand of the worker that took it |
-//! | waiting, or ended | in its place of the [`Lot`] |
+//! | waiting, or ended | in its bay of the [`Lot`] |
 //!
 //! A worker does this again and again ([`work`]):
 //!

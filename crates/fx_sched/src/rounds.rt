@@ -32,8 +32,8 @@ pub struct RoundEnd<T, S> {
 }
 
 /// Runs fibers by a worker for each element of `shared` until none is able to go on, and gives all of
-/// them back. At first those that rest are in their places, where a wake finds them, and the able ones
-/// are for whichever worker is first.
+/// them back. At first those that are unable to step are in their bays, where a wake finds them, and the
+/// able ones are for whichever worker is first.
 pub fn round<
     R: Wait + Threads + Sync + RandomSource + AllocGlobal,
     P: Port<Shared: Send + Drop> + Send + Drop,
@@ -43,21 +43,21 @@ pub fn round<
     alloc: Global,
     total: u32,
     able: Vec<Fiber<P>>,
-    resting: Vec<Fiber<P>>,
+    unable: Vec<Fiber<P>>,
     shared: Vec<P::Shared>,
     code: &Code,
     gate: &G,
 ) -> Result<RoundEnd<Fiber<P>, P::Shared>, Memory>
-    requires code { code.now.nodes ≡ P.code }
-    requires total { P.total ≤ total }
-    requires gate { (id : ℕ) → G.may gate.now id ≡ true → P.may id ≡ true }
+    requires code { code.now.nodes ≡ P.theory.code }
+    requires total { P.theory.total ≤ total }
+    requires gate { (id : ℕ) → G.may gate.now id ≡ true → P.theory.may id ≡ true }
     ensures ascending { IfOk result (λ end. IsStrictlyIncreasing
-        (map (λ (f : FiberView P). (P.facts f.port).number) end.fibers.items)) }
+        (map (λ (f : FiberView P). (P.theory.facts f.port).number) end.fibers.items)) }
     ensures workers { IfOk result (λ end. vec_len end.shared ≡ vec_len shared) }
 {
     let lot = Lot::new(alloc, total)?;
     let (all, hands) = Work::new(alloc, shared.len())?;
-    rest(rt, &all, &lot, resting)?;
+    into_lot(rt, &all, &lot, unable)?;
     inject(rt, &all, able)?;
     let ends = workers(rt, jobs(alloc, hands, shared)?, &all, &lot, code, gate)?;
     let shared = given_back(alloc, ends)?;
@@ -81,17 +81,17 @@ fn inject<R: Wait, P: Port + Drop>(
     Ok(())
 }
 
-/// Lays each of these fibers into its place: one that has ended for good, and another until it is
-/// woken. One whose place is taken is able to go on.
-fn rest<R: Wait, P: Port + Drop>(
+/// Lays each of these fibers into its bay: one that has ended for good, and another until it is woken.
+/// One whose bay is taken is able to go on.
+fn into_lot<R: Wait, P: Port + Drop>(
     rt: &R,
     all: &Work<P>,
     lot: &Lot<P>,
-    resting: Vec<Fiber<P>>,
+    unable: Vec<Fiber<P>>,
 ) -> Result<(), Memory>
-    requires { P.total ≤ lot.now }
+    requires { P.theory.total ≤ lot.now }
 {
-    for fiber in resting {
+    for fiber in unable {
         if fiber.has_ended() {
             lot.settle(rt, fiber);
         } else if let Some(fiber) = lot.park(rt, fiber) {
@@ -156,9 +156,9 @@ fn workers<
     code: &Code,
     gate: &G,
 ) -> Result<Vec<(WorkerEnd<P>, P::Shared)>, Memory>
-    requires code { code.now.nodes ≡ P.code }
-    requires total { P.total ≤ lot.now }
-    requires gate { (id : ℕ) → G.may gate.now id ≡ true → P.may id ≡ true }
+    requires code { code.now.nodes ≡ P.theory.code }
+    requires total { P.theory.total ≤ lot.now }
+    requires gate { (id : ℕ) → G.may gate.now id ≡ true → P.theory.may id ≡ true }
     ensures { IfOk result (λ ends. vec_len ends ≡ vec_len jobs) }
 {
     Ok(thread::map_vec(

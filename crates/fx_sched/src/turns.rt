@@ -26,12 +26,12 @@ pub fn gated_turn<P: Port, G: Gate>(
     code: &Code,
     shared: &mut P::Shared,
 ) -> Poll<Turned<P>>
-    requires code { code.now.nodes ≡ P.code }
-    requires gate { (id : ℕ) → G.may gate.now id ≡ true → P.may id ≡ true }
-    ensures number { (P.facts fiber.new.port).number ≡ (P.facts fiber.old.port).number }
-    ensures beginning { (P.facts fiber.new.port).beginning ≡ (P.facts fiber.old.port).beginning }
-    ensures turn { HasGatedTurn P.calls P.facts P.code
-        (G.answers gate.now worker ((P.facts fiber.old.port).number)) fiber.old shared.old
+    requires code { code.now.nodes ≡ P.theory.code }
+    requires gate { (id : ℕ) → G.may gate.now id ≡ true → P.theory.may id ≡ true }
+    ensures number { (P.theory.facts fiber.new.port).number ≡ (P.theory.facts fiber.old.port).number }
+    ensures beginning { (P.theory.facts fiber.new.port).beginning ≡ (P.theory.facts fiber.old.port).beginning }
+    ensures turn { HasGatedTurn P.theory
+        (G.answers gate.now worker ((P.theory.facts fiber.old.port).number)) fiber.old shared.old
         (come_to result) fiber.new shared.new }
 {
     let mut cx = solo.begin();
@@ -49,12 +49,12 @@ pub(crate) fn turn_in<P: Port, G: Gate>(
     code: &Code,
     shared: &mut P::Shared,
 ) -> Poll<Turned<P>>
-    requires code { code.now.nodes ≡ P.code }
-    requires gate { (id : ℕ) → G.may gate.now id ≡ true → P.may id ≡ true }
-    ensures number { (P.facts fiber.new.port).number ≡ (P.facts fiber.old.port).number }
-    ensures beginning { (P.facts fiber.new.port).beginning ≡ (P.facts fiber.old.port).beginning }
-    ensures turn { HasGatedTurn P.calls P.facts P.code
-        (G.answers gate.now worker ((P.facts fiber.old.port).number)) fiber.old shared.old
+    requires code { code.now.nodes ≡ P.theory.code }
+    requires gate { (id : ℕ) → G.may gate.now id ≡ true → P.theory.may id ≡ true }
+    ensures number { (P.theory.facts fiber.new.port).number ≡ (P.theory.facts fiber.old.port).number }
+    ensures beginning { (P.theory.facts fiber.new.port).beginning ≡ (P.theory.facts fiber.old.port).beginning }
+    ensures turn { HasGatedTurn P.theory
+        (G.answers gate.now worker ((P.theory.facts fiber.old.port).number)) fiber.old shared.old
         (come_to result) fiber.new shared.new }
 {
     if let Some(id) = gate.turn(worker, fiber.id()) {
@@ -78,10 +78,10 @@ fn one_turn<P: Port>(
     shared: &mut P::Shared,
     cx: &mut Context<'_>,
 ) -> Poll<Turned<P>>
-    requires { code.now.nodes ≡ P.code }
-    ensures number { (P.facts fiber.new.port).number ≡ (P.facts fiber.old.port).number }
-    ensures beginning { (P.facts fiber.new.port).beginning ≡ (P.facts fiber.old.port).beginning }
-    ensures turns { Turns P.calls P.facts P.code fiber.old shared.old
+    requires { code.now.nodes ≡ P.theory.code }
+    ensures number { (P.theory.facts fiber.new.port).number ≡ (P.theory.facts fiber.old.port).number }
+    ensures beginning { (P.theory.facts fiber.new.port).beginning ≡ (P.theory.facts fiber.old.port).beginning }
+    ensures turns { Turns P.theory fiber.old shared.old
         (come_to result) fiber.new shared.new }
 {
     let mut turn = Turn::new(fiber, code, shared);

@@ -34,9 +34,9 @@ pub fn work<R: Wait + RandomSource + AllocGlobal, P: Port + Drop, G: Gate>(
     shared: &mut P::Shared,
     gate: &G,
 ) -> WorkerEnd<P>
-    requires code { code.now.nodes ≡ P.code }
-    requires total { P.total ≤ lot.now }
-    requires gate { (id : ℕ) → G.may gate.now id ≡ true → P.may id ≡ true }
+    requires code { code.now.nodes ≡ P.theory.code }
+    requires total { P.theory.total ≤ lot.now }
+    requires gate { (id : ℕ) → G.may gate.now id ≡ true → P.theory.may id ≡ true }
 {
     let Ok(solo) = solo(rt) else {
         return WorkerEnd::Memory(None, None);
@@ -60,9 +60,9 @@ fn rounds<R: Wait, P: Port + Drop, G: Gate>(
     shared: &mut P::Shared,
     gate: &G,
 ) -> WorkerEnd<P>
-    requires code { code.now.nodes ≡ P.code }
-    requires total { P.total ≤ lot.now }
-    requires gate { (id : ℕ) → G.may gate.now id ≡ true → P.may id ≡ true }
+    requires code { code.now.nodes ≡ P.theory.code }
+    requires total { P.theory.total ≤ lot.now }
+    requires gate { (id : ℕ) → G.may gate.now id ≡ true → P.theory.may id ≡ true }
 {
     for _ in rt.forever() {
         let Some(mut fiber) = hand.wait_next(rt, all) else {
@@ -73,16 +73,16 @@ fn rounds<R: Wait, P: Port + Drop, G: Gate>(
         ) {
             Ok(answer) => answer,
             Err(woken) => {
-                all.rests();
+                all.goes_idle();
                 return WorkerEnd::Memory(Some(fiber), Some(woken));
             }
         };
         if let Err(end) = placed(rt, &mut hand, lot, fiber, answer) {
-            all.rests();
+            all.goes_idle();
             return end;
         }
         if let Err(fiber) = wakes(rt, &mut hand, lot, shared) {
-            all.rests();
+            all.goes_idle();
             return WorkerEnd::Memory(None, Some(fiber));
         }
         hand.share(all);
@@ -105,9 +105,9 @@ fn turns<R: Wait, P: Port + Drop, G: Gate>(
     code: &Code,
     shared: &mut P::Shared,
 ) -> Result<Poll<Turned<P>>, Fiber<P>>
-    requires code { code.now.nodes ≡ P.code }
-    requires total { P.total ≤ lot.now }
-    requires gate { (id : ℕ) → G.may gate.now id ≡ true → P.may id ≡ true }
+    requires code { code.now.nodes ≡ P.theory.code }
+    requires total { P.theory.total ≤ lot.now }
+    requires gate { (id : ℕ) → G.may gate.now id ≡ true → P.theory.may id ≡ true }
 {
     for _ in rt.forever() {
         let answer = turn_in(cx, gate, worker, fiber, code, shared);
@@ -129,7 +129,7 @@ fn placed<R: Wait, P: Port + Drop>(
     fiber: Fiber<P>,
     answer: Poll<Turned<P>>,
 ) -> Result<(), WorkerEnd<P>>
-    requires { P.total ≤ lot.now }
+    requires { P.theory.total ≤ lot.now }
 {
     let fiber = match answer {
         Poll::Ready(Turned::Memory) => return Err(WorkerEnd::Memory(Some(fiber), None)),
@@ -166,7 +166,7 @@ fn wakes<R: Wait, P: Port + Drop>(
     lot: &Lot<P>,
     shared: &mut P::Shared,
 ) -> Result<(), Fiber<P>>
-    requires { P.total ≤ lot.now }
+    requires { P.theory.total ≤ lot.now }
 {
     for _ in rt.forever() {
         let Some(id) = P::woken(shared) else {

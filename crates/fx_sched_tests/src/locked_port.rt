@@ -65,34 +65,31 @@ fn wake<J: CodeBrand>(board: &mut Board, notes: &mut Notes<J>, come: Source) {
 impl<'a, R: Wait, J: CodeBrand> Port for LockedPort<'a, R, J> {
     type Shared = Notes<J>;
 
-    ghost code = { J.nodes };
-
-    ghost total = { (main_begin_of J.nodes).end };
-
-    ghost facts = { λ p. record {
-      number = p.id;
-      beginning = p.begin;
-      range = record { next = p.next; end = p.begin.end };
-      has_finished = is_some p.told;
-      puts = p.puts;
-    } };
-
-    ghost agrees = { λ p deeds. Unit {0} };
-
-    ghost may = { λ id. true };
-
     // nothing is known of what stands behind a lock
-    ghost calls = { record {
-      looks = λ p s answer p' s'. Unit {0};
-      requests = λ p s id p' s'. Unit {0};
-      peeks = λ p s id answer p' s'. Unit {0};
-      offers = λ p s queue n answer p' s'. Unit {0};
-      takes = λ p s queue answer p' s'. Unit {0};
-      starts = λ p s id begin child p' s'. Unit {0};
-      finishes = λ p s outcome p' s'. Unit {0};
-      outsides = λ p s id p' s'. Unit {0};
-      waits = λ p s source p' s'. Unit {0};
-      wakes = λ s woken s'. Unit {0};
+    ghost theory = { record {
+      code = J.nodes;
+      total = (main_begin_of J.nodes).end;
+      may = λ id. true;
+      calls = record {
+        looks = λ p s answer p' s'. Unit {0};
+        requests = λ p s id p' s'. Unit {0};
+        peeks = λ p s id answer p' s'. Unit {0};
+        offers = λ p s queue n answer p' s'. Unit {0};
+        takes = λ p s queue answer p' s'. Unit {0};
+        starts = λ p s id begin child p' s'. Unit {0};
+        finishes = λ p s outcome p' s'. Unit {0};
+        outsides = λ p s id p' s'. Unit {0};
+        waits = λ p s source p' s'. Unit {0};
+        wakes = λ s woken s'. Unit {0};
+      };
+      facts = λ p. record {
+        number = p.id;
+        beginning = p.begin;
+        range = record { next = p.next; end = p.begin.end };
+        has_finished = is_some p.told;
+        puts = p.puts;
+      };
+      agrees = λ p deeds. Unit {0};
     } };
 
     fn look(&mut self, _notes: &mut Notes<J>) -> bool {

@@ -1,10 +1,10 @@
-//! A fiber in its place.
+//! A fiber in its bay.
 ghost use Rattle.std.specs.Prelude.{◌≡◌, ◌≤◌};
 
 use crate::board::Board;
 use crate::locked_port::main_fiber;
 use crate::notes::Notes;
-use crate::steps::{rested, step};
+use crate::steps::{step, unable_to_step};
 use fx_fiber::{Fiber, Port, main_begin};
 use fx_sched::Lot;
 use fx_term::{Arg, Code, CodeBrand, Memory, Node, NodeId};
@@ -22,7 +22,7 @@ const STARTS: &[Node] = &[
 
 /// The fiber, where a wake that was left gives it back, once, and a wake after that finds it parked.
 fn woken_twice<P: Port + Drop, R: Wait>(rt: &R, lot: &Lot<P>, fiber: Fiber<P>) -> Option<Fiber<P>>
-    requires total { P.total ≤ lot.now }
+    requires total { P.theory.total ≤ lot.now }
 {
     let id = fiber.id();
     if lot.wake(rt, id).is_some() {
@@ -43,14 +43,14 @@ fn lay_down<P: Port + Drop, R: Wait>(
     code: &Code,
     shared: &mut P::Shared,
 ) -> Result<(), Memory>
-    requires code { code.now.nodes ≡ P.code }
-    requires total { P.total ≤ lot.now }
+    requires code { code.now.nodes ≡ P.theory.code }
+    requires total { P.theory.total ≤ lot.now }
 {
     if let Some(child) = step(&mut main, code, shared)? {
-        lot.settle(rt, rested(child, code, shared)?);
+        lot.settle(rt, unable_to_step(child, code, shared)?);
     }
     if let Some(main) = woken_twice(rt, lot, main) {
-        lot.settle(rt, rested(main, code, shared)?);
+        lot.settle(rt, unable_to_step(main, code, shared)?);
     }
     Ok(())
 }

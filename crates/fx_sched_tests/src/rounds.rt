@@ -5,7 +5,7 @@ ghost use Rattle.fx_model.specs.Origin.{main_begin_of};
 use crate::board::Board;
 use crate::locked_port::main_fiber;
 use crate::notes::Notes;
-use crate::steps::{rested, step};
+use crate::steps::{step, unable_to_step};
 use fx_fiber::{Fiber, Port, main_begin};
 use fx_sched::{Free, Gate, round};
 use fx_term::{Arg, Code, CodeBrand, Event, Memory, Node, NodeId, Outcome};
@@ -77,17 +77,17 @@ fn begun<P: Port + Drop>(
     code: &Code,
     shared: &mut P::Shared,
 ) -> Result<(Vec<Fiber<P>>, Vec<Fiber<P>>), Memory>
-    requires code { code.now.nodes ≡ P.code }
+    requires code { code.now.nodes ≡ P.theory.code }
 {
-    let mut resting = Vec::new(alloc);
+    let mut unable = Vec::new(alloc);
     for _ in 0..starts {
         if let Some(child) = step(&mut main, code, shared)? {
-            resting.push(rested(child, code, shared)?)?;
+            unable.push(unable_to_step(child, code, shared)?)?;
         }
     }
     let mut able = Vec::new(alloc);
     able.push(main)?;
-    Ok((able, resting))
+    Ok((able, unable))
 }
 
 fn ends_from<
@@ -105,12 +105,12 @@ fn ends_from<
     code: &Code,
     gate: &G,
 ) -> Result<Ends, Memory>
-    requires code { code.now.nodes ≡ P.code }
-    requires total { P.total ≤ total }
-    requires gate { (id : ℕ) → G.may gate.now id ≡ true → P.may id ≡ true }
+    requires code { code.now.nodes ≡ P.theory.code }
+    requires total { P.theory.total ≤ total }
+    requires gate { (id : ℕ) → G.may gate.now id ≡ true → P.theory.may id ≡ true }
 {
-    let (able, resting) = begun(alloc, main, starts, code, &mut before)?;
-    let end = round(rt, alloc, total, able, resting, shared, code, gate)?;
+    let (able, unable) = begun(alloc, main, starts, code, &mut before)?;
+    let end = round(rt, alloc, total, able, unable, shared, code, gate)?;
     last_events(alloc, end.fibers)
 }
 
@@ -229,7 +229,7 @@ static WOKEN: [Option<Event>; 3] = [
 ];
 
 #[test]
-fn a_fiber_that_rests_as_the_round_begins_is_woken(rt: HostRuntime) -> Result<(), Fail> {
+fn a_fiber_that_waits_as_the_round_begins_is_woken(rt: HostRuntime) -> Result<(), Fail> {
     let ends = ends(&rt, WAITED, 1, 2, &Free)?;
     assert!(rt; ends.as_slice() == WOKEN.as_slice());
     Ok(())

@@ -10,7 +10,7 @@ pub fn step<P: Port + Drop>(
     code: &Code,
     shared: &mut P::Shared,
 ) -> Result<Option<Fiber<P>>, Memory>
-    requires code { code.now.nodes ≡ P.code }
+    requires code { code.now.nodes ≡ P.theory.code }
 {
     if fiber.has_ended() {
         return Ok(None);
@@ -26,12 +26,12 @@ pub fn step<P: Port + Drop>(
 }
 
 /// The fiber once it waits or has ended, if that is soon.
-pub fn rested<P: Port + Drop>(
+pub fn unable_to_step<P: Port + Drop>(
     mut fiber: Fiber<P>,
     code: &Code,
     shared: &mut P::Shared,
 ) -> Result<Fiber<P>, Memory>
-    requires code { code.now.nodes ≡ P.code }
+    requires code { code.now.nodes ≡ P.theory.code }
 {
     for _ in 0..9u32 {
         let _child = step(&mut fiber, code, shared)?;

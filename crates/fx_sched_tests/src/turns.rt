@@ -82,8 +82,8 @@ fn turns<P: Port + Drop, R: RandomSource + AllocGlobal>(
     code: &Code,
     shared: &mut P::Shared,
 ) -> Result<(u32, Vec<Event>), Memory>
-    requires code { code.now.nodes ≡ P.code }
-    requires may { (id : ℕ) → P.may id ≡ true }
+    requires code { code.now.nodes ≡ P.theory.code }
+    requires may { (id : ℕ) → P.theory.may id ≡ true }
 {
     let solo = solo(rt)?;
     let mut pending = 0u32;

@@ -17,7 +17,7 @@ use Rattle.fx_model.specs.Report.{ReportView, trace_in, outcome_shown, is_reques
 use Rattle.fx_model.specs.LawfulReport.{starts_of, IsLawfulReport}
 use Rattle.fx_model.proofs.ComputedSteps.{Next}
 use Rattle.fx_spawn_laws.specs.MainFiber.{MainEnds, hands_back, start_cancel_and_join, masked_start, masked_cancel}
-use Rattle.fx_spawn_laws.proofs.RestingRuns.{GoesTo, goes_to}
+use Rattle.fx_spawn_laws.proofs.HaltingRuns.{GoesTo, goes_to}
 use Rattle.fx_spawn_laws.proofs.Outcomes.{ComesTo, can_by_leaf, after_step, at_end, pure_comes}
 use Rattle.fx_spawn_laws.proofs.StartedFibers.{main_ends, main_runs, requested_never_ends}
 

@@ -1,6 +1,6 @@
 pub mod Requests
 pub mod LearntOutcomes
-pub mod RestingRuns
+pub mod HaltingRuns
 pub mod Outcomes
 pub mod CanceledChildren
 pub mod StartedFibers

@@ -16,12 +16,12 @@ use Rattle.fx_model.specs.Run.{events}
 use Rattle.fx_model.specs.Outside.{leaf_can_step, can_step}
 use Rattle.fx_model.specs.Report.{ReportView, outcome_shown, is_requested_in, final_outside}
 use Rattle.fx_model.proofs.ComputedSteps.{Next, next}
-use Rattle.fx_spawn_laws.proofs.RestingRuns.{LeftWaits, answers, RunsToRest, goes_to, stays}
+use Rattle.fx_spawn_laws.proofs.HaltingRuns.{LeftWaits, answers, RunsToHalt, goes_to, stays}
 
 module _ (s : ScriptView) (r : ReportView) (f : ℕ) where
   -- each run from here that sees no request and goes on to where the fiber cannot step shows this outcome, or none
   abbrev pub ComesTo : Counts → Progress → Option Outcome → Type 0
-  ComesTo c p v = (ls : List Label) → RunsToRest s r f c p ls → outcome_shown (events ls) ≡ v
+  ComesTo c p v = (ls : List Label) → RunsToHalt s r f c p ls → outcome_shown (events ls) ≡ v
 
   -- the next step, whatever the queues are
   abbrev pub NextIs : Counts → Progress → Next → Type 0

@@ -27,7 +27,7 @@ use Rattle.fx_model.proofs.Paths.{leaf_plug}
 use Rattle.fx_model.proofs.ComputedSteps.{Answers, Next, next}
 use Rattle.fx_model.proofs.NextSteps.{IsAnswered, LooksLeftFirst, step_is_next}
 use Rattle.fx_spawn_laws.specs.MainFiber.{MainIsBlocked}
-use Rattle.fx_spawn_laws.proofs.RestingRuns.{LeftWaits, answers, IsToldRightly, RunsToRest, GoesTo, goes_to}
+use Rattle.fx_spawn_laws.proofs.HaltingRuns.{LeftWaits, answers, IsToldRightly, RunsToHalt, GoesTo, goes_to}
 use Rattle.fx_spawn_laws.proofs.Outcomes.{ComesTo, NextIs, can_by_leaf, after_step, where_it_waits}
 use Rattle.fx_spawn_laws.proofs.StartedFibers.{main_is_blocked, main_runs, child_in_report, child_begins, canceled_child_ends, shown_at, told_by_labels}
 
@@ -182,13 +182,13 @@ module _ (s : ScriptView) (r : ReportView) where
       (silent c c (inside (If (Number n) (decided_part 2 1) (decided_part 1 2))) (inside (decided_part f g)) refl tt is later)))
 
   -- a step that such answers lead to
-  goes_by : (w : Answers) (n : Next) (c : Counts) (l : Label) (ls : List Label) → RunsToRest s r 0 c (Runs waiting) (l ∷ ls) → IsAnswered w l
+  goes_by : (w : Answers) (n : Next) (c : Counts) (l : Label) (ls : List Label) → RunsToHalt s r 0 c (Runs waiting) (l ∷ ls) → IsAnswered w l
       → LooksLeftFirst w l (Some (First (Number 1) (Number 2))) → w.is_requested ≡ false → next w c (Runs waiting) ≡ Some n
       → ((ks : List Label) → outcome_shown (events (n.label ∷ ks)) ≡ outcome_shown (events ks)) → ComesTo s r 0 n.counts n.progress None
       → outcome_shown (events (l ∷ ls)) ≡ None
   goes_by w n c l ls h answered left unasked computed shows_none later =
       ap (λ (x : Next). outcome_shown (events (x.label ∷ ls))) same ∙ shows_none ls
-      ∙ later ls (subst (λ (x : Next). RunsToRest s r 0 x.counts x.progress ls) same rest)
+      ∙ later ls (subst (λ (x : Next). RunsToHalt s r 0 x.counts x.progress ls) same rest)
     where
       made : Next
       made = record { label = l; counts = h.leads.0; progress = h.leads.1 }
@@ -196,12 +196,12 @@ module _ (s : ScriptView) (r : ReportView) where
       same : record { label = l; counts = h.leads.0; progress = h.leads.1 } ≡ n
       same = same_Some _ _ (sym (step_is_next w h.leads.2 answered left (λ look asked. absurd cc)) ∙ computed)
 
-      rest : RunsToRest s r 0 h.leads.0 h.leads.1 ls
+      rest : RunsToHalt s r 0 h.leads.0 h.leads.1 ls
       rest = record {
         counts = h.counts;
         progress = h.progress;
         leads = h.leads.3;
-        rests = h.rests;
+        unable = h.unable;
         told = All-tail (IsToldRightly s r) l ls h.told;
         unseen = All-tail IsUnrequested l ls h.unseen;
       }

@@ -24,7 +24,7 @@ use Rattle.fx_spawn_laws.proofs.LearntOutcomes.{learnt_outcome}
 use Rattle.fx_spawn_laws.specs.MainFiber.{MainEnds, MainIsBlocked, handed, hands_back, start_and_join, HandsBackItsChild}
 use Rattle.fx_spawn_laws.proofs.Requests.{AsksNone, IsBarren, BeginsAbove, leads_barren, barren_asks_none, all_both}
 use Rattle.fx_spawn_laws.proofs.Requests.{child_is_unrequested, main_is_unrequested}
-use Rattle.fx_spawn_laws.proofs.RestingRuns.{GoesTo, goes_to, runs_to_rest}
+use Rattle.fx_spawn_laws.proofs.HaltingRuns.{GoesTo, goes_to, runs_to_halt}
 use Rattle.fx_spawn_laws.proofs.Outcomes.{ComesTo, can_by_leaf, after_step, where_it_waits, pure_comes, raise_comes}
 use Rattle.fx_spawn_laws.proofs.StartedFibers.{main_ends, main_is_blocked, child_in_report, child_begins, main_runs, tells, told_by_labels, shown_at}
 
@@ -131,7 +131,7 @@ module _ (s : ScriptView) (may : ℕ → Bool) (r : ReportView) (lawful : IsLawf
     pub child_handed_back : HandsBackItsChild r t m
     child_handed_back =
         let run = lawful.runs.run 1 child.0 child.1 in
-        let rests = tells_by_run child.0 child.1 in
+        let unable = tells_by_run child.0 child.1 in
         record {
           child = child.0;
           is_child = child.1;
@@ -141,10 +141,10 @@ module _ (s : ScriptView) (may : ℕ → Bool) (r : ReportView) (lawful : IsLawf
           run = subst (λ (a : Origin). IsRun a (lawful.runs.labels 1) (lawful.runs.counts 1) (lawful.runs.progress 1)) child_is run.run;
           trace = run.trace;
           state = run.state;
-          unrequested = (runs_to_rest s may r lawful 1 child.0 child.1 child_unrequested).unseen;
+          unrequested = (runs_to_halt s may r lawful 1 child.0 child.1 child_unrequested).unseen;
           ends = λ o ends.
               hands_back_ends o (learnt_outcome s may r lawful 1 o (record { before = ends.before; is = ap trace_of_report child.1 ∙ ends.is }));
-          waits = λ blocked. hands_back_waits (rests (run.state ∙ blocked));
+          waits = λ blocked. hands_back_waits (unable (run.state ∙ blocked));
         }
       where
         tells_by_run : (x : FiberReportView) → fiber_in r 1 ≡ Some x → has_ended (lawful.runs.progress 1) ≡ false → outcome_shown (trace_in r 1) ≡ None

@@ -22,7 +22,7 @@ use Rattle.fx_model.proofs.HeadlineLaws.{begin_told}
 use Rattle.fx_report.proofs.Keys.{found_passes}
 use Rattle.fx_spawn_laws.specs.MainFiber.{MainEnds, MainIsBlocked}
 use Rattle.fx_spawn_laws.proofs.Requests.{main_is_unrequested}
-use Rattle.fx_spawn_laws.proofs.RestingRuns.{RunsToRest, runs_to_rest}
+use Rattle.fx_spawn_laws.proofs.HaltingRuns.{RunsToHalt, runs_to_halt}
 use Rattle.fx_spawn_laws.proofs.Outcomes.{ComesTo}
 use Rattle.fx_spawn_laws.proofs.CanceledChildren.{canceled_ends, requested_ends}
 
@@ -87,9 +87,9 @@ module _ (s : ScriptView) (may : ℕ → Bool) (r : ReportView) (lawful : IsLawf
 
   -- the run of a fiber that begins so and is not requested
   pub runs_from : (f : ℕ) (x : FiberReportView) → fiber_in r f ≡ Some x → (b : Origin) → lawful.runs.origin f ≡ b → is_requested_in r f ≡ false
-      → RunsToRest s r f (first_counts b) (Runs b.term) (labels_of f)
+      → RunsToHalt s r f (first_counts b) (Runs b.term) (labels_of f)
   runs_from f x at b begins none =
-      subst (λ (a : Origin). RunsToRest s r f (first_counts a) (Runs a.term) (labels_of f)) begins (runs_to_rest s may r lawful f x at none)
+      subst (λ (a : Origin). RunsToHalt s r f (first_counts a) (Runs a.term) (labels_of f)) begins (runs_to_halt s may r lawful f x at none)
 
   -- what its trace tells
   pub tells : (f : ℕ) (x : FiberReportView) → fiber_in r f ≡ Some x → (b : Origin) → lawful.runs.origin f ≡ b → is_requested_in r f ≡ false
@@ -98,7 +98,7 @@ module _ (s : ScriptView) (may : ℕ → Bool) (r : ReportView) (lawful : IsLawf
 
   -- the run of the main fiber of this script, which nobody requested
   pub main_runs : r.outside ≡ [] → (t : Term) → s.term ≡ t → IsScopedOver (nat_lt 0) t
-      → RunsToRest s r 0 (first_counts (main_origin t)) (Runs t) (labels_of 0)
+      → RunsToHalt s r 0 (first_counts (main_origin t)) (Runs t) (labels_of 0)
   main_runs alone t is scoped =
       let main = lawful.starters.main in
       runs_from 0 main.0 main.1 (main_origin t) (lawful.origins.main ∙ ap main_origin is)
@@ -113,7 +113,7 @@ module _ (s : ScriptView) (may : ℕ → Bool) (r : ReportView) (lawful : IsLawf
       let run = lawful.runs.run f x at in
       told_by_labels f x at ∙ shown_at f x at
       ∙ always (lawful.runs.counts f) (lawful.runs.progress f) (labels_of f)
-      (subst (λ (a : Origin). Leads (first_counts a) (Runs a.term) (labels_of f) (lawful.runs.counts f) (lawful.runs.progress f)) begins run.run) run.rests
+      (subst (λ (a : Origin). Leads (first_counts a) (Runs a.term) (labels_of f) (lawful.runs.counts f) (lawful.runs.progress f)) begins run.run) run.unable
 
   -- a fiber that the main one requests is requested
   pub requested_by_main : (g : ℕ) → list_any (is_request_for g) (events (labels_of 0)) ≡ true → is_requested_in r g ≡ true
@@ -128,13 +128,13 @@ module _ (s : ScriptView) (may : ℕ → Bool) (r : ReportView) (lawful : IsLawf
   requested_never_ends f n starts b is holds asks =
       let child = child_in_report f n starts in
       tells_always f child.0 child.1 b (child_begins f (record { origin = b; holds = holds })) outcome.Canceled
-      (λ d q ls leads rests. requested_ends (final_outside s r) f (requested_by_main f asks) b d q ls
-      (subst (λ (t : Term). Leads (first_counts b) (Runs t) ls d q) is leads) rests)
+      (λ d q ls leads unable. requested_ends (final_outside s r) f (requested_by_main f asks) b d q ls
+      (subst (λ (t : Term). Leads (first_counts b) (Runs t) ls d q) is leads) unable)
 
   pub canceled_child_ends : (f n : ℕ) → starts_of f (events (labels_of 0)) ≡ suc n → (b : Origin) → b.term ≡ Canceled
       → Contains (labels_of 0) (Starts f b) → outcome_shown (trace_in r f) ≡ Some outcome.Canceled
   canceled_child_ends f n starts b is holds =
       let child = child_in_report f n starts in
       tells_always f child.0 child.1 b (child_begins f (record { origin = b; holds = holds })) outcome.Canceled
-      (λ d q ls leads rests. canceled_ends (final_outside s r) f b d q ls
-      (subst (λ (t : Term). Leads (first_counts b) (Runs t) ls d q) is leads) rests)
+      (λ d q ls leads unable. canceled_ends (final_outside s r) f b d q ls
+      (subst (λ (t : Term). Leads (first_counts b) (Runs t) ls d q) is leads) unable)

@@ -4,7 +4,8 @@ ghost use Rattle.fx_fiber.specs.Sound.{IsSoundMachine};
 ghost use Rattle.fx_fiber.specs.Places.{IsSame, IsGoing, is_open_machine};
 ghost use Rattle.fx_fiber.specs.Interruption.{ComesFirst};
 ghost use Rattle.fx_fiber.specs.Advances.{Advances};
-ghost use Rattle.fx_fiber.specs.Deed.{Deed, Saw};
+ghost use Rattle.fx_fiber.specs.Deed.{Saw};
+ghost use Rattle.fx_fiber.specs.Theory.{HasDone};
 ghost use Rattle.fx_fiber.specs.Fiber.{is_fiber_number};
 ghost use Rattle.fx_model.specs.Scopes.{IsProgressScopedOver};
 ghost use Rattle.fx_fiber.specs.Machine.{progress_of};
@@ -26,11 +27,11 @@ pub(crate) fn interruption<P: Port>(
     at_canceled: bool,
 ) -> Option<Interruption>
     ensures first { let opened = is_open_machine machine.now in
-        ComesFirst P.calls opened (opened && (machine.now.known || at_canceled)) result
+        ComesFirst P.theory.calls opened (opened && (machine.now.known || at_canceled)) result
         port.old shared.old port.new shared.new }
     ensures saw { result ≡ Some Interruption.Request
-        → (deeds : List Deed) → P.agrees port.old deeds → P.agrees port.new (deeds ++ Saw ∷ []) }
-    ensures facts { P.facts port.new ≡ P.facts port.old }
+        → HasDone P.theory Saw port.old port.new }
+    ensures facts { P.theory.facts port.new ≡ P.theory.facts port.old }
 {
     if !machine.is_open() {
         return None;
@@ -52,16 +53,16 @@ pub(crate) fn advance<P: Port>(
     code: &Code,
     shared: &mut P::Shared,
 ) -> Result<Made, Memory>
-    requires code { code.now.nodes ≡ P.code }
-    requires sound { IsSoundMachine P.code machine.old }
+    requires code { code.now.nodes ≡ P.theory.code }
+    requires sound { IsSoundMachine P.theory.code machine.old }
     requires going { IsGoing machine.old.focus }
     requires masks_countable { machine.old.masks.entries < 2 ^ 63 }
     requires resources_countable { machine.old.acquired < 2 ^ 63 }
-    requires puts_countable { (P.facts port.old).puts < 2 ^ 63 }
-    requires scoped { IsProgressScopedOver is_fiber_number (progress_of P.code machine.old) }
-    ensures ok { IfOk result (λ made. Advances P.calls P.agrees P.facts P.code
+    requires puts_countable { (P.theory.facts port.old).puts < 2 ^ 63 }
+    requires scoped { IsProgressScopedOver is_fiber_number (progress_of P.theory.code machine.old) }
+    ensures ok { IfOk result (λ made. Advances P.theory
         machine.old port.old shared.old made machine.new port.new shared.new) }
-    ensures same { OnErr result (IsSame P.code machine.old machine.new) }
+    ensures same { OnErr result (IsSame P.theory.code machine.old machine.new) }
     ensures unchanged { OnErr result ((port.new ≡ port.old) × (shared.new ≡ shared.old)) }
 {
     match machine.focus {

@@ -29,8 +29,8 @@ pub(crate) enum Ahead {
 #[inline(always)]
 pub(crate) fn look_ahead<P: Port>(machine: &Machine, looked: Looked) -> Ahead
     ghost outset: { Outset P P.Shared }
-    requires looked { HasLooked P.calls looked machine.now.known outset.port outset.shared }
-    ensures { ComesAhead P.calls (is_open_machine machine.now) machine.now.known result
+    requires looked { HasLooked P.theory.calls looked machine.now.known outset.port outset.shared }
+    ensures { ComesAhead P.theory.calls (is_open_machine machine.now) machine.now.known result
         outset.port outset.shared }
 {
     if matches!(looked, Looked::InVain) || !machine.is_open() {

@@ -1,9 +1,9 @@
 //! What a fiber has beside its port.
-ghost use Rattle.std.specs.Prelude.{IfOk};
+ghost use Rattle.std.specs.Prelude.{◌≡◌, IfOk};
 
 use crate::machine::Machine;
 use fx_model::Source;
-use fx_term::{Begin, Event, Memory};
+use fx_term::{Begin, Event, Memory, Registers};
 use std::alloc::Global;
 
 /// What a fiber has beside its port. No port is named here, so a child's is made before its port is.
@@ -23,18 +23,20 @@ impl Body {
     ghost use Rattle.std.specs.Prelude.{List};
     ghost use Rattle.fx_term.specs.declared.node.Node.{Node};
     ghost use Rattle.fx_fiber.specs.Sound.{IsSoundBegin};
-    ghost use Rattle.fx_fiber.specs.Body.{IsFirstBody};
+    ghost use Rattle.fx_fiber.specs.Body.{IsFirstBody, with_slots};
 
-    /// That of a fiber with this number, which begins so, before its first step.
+    /// That of a fiber with this number, which begins so, before its first step, but for the numbers of the
+    /// names in scope: `have` moves them there once the port has seen what the fiber begins with.
     pub fn beginning(alloc: Global, id: u32, begin: &Begin) -> Result<Box<Body>, Memory>
         ghost nodes: { List Node }
         requires { IsSoundBegin nodes begin.now }
-        ensures { IfOk result (λ body. IsFirstBody nodes id begin.now body.value) }
+        ensures { IfOk result
+            (λ body. IsFirstBody nodes id begin.now (with_slots begin.now.slots body.value)) }
     {
         let mut trace = Vec::new(alloc);
         // A fiber has at least one event, its end.
         trace.reserve(1)?;
-        let machine = Machine::beginning(alloc, begin)?;
+        let machine = Machine::beginning(alloc, begin);
         let source = None;
         Ok(Box::new(
             alloc,
@@ -45,5 +47,12 @@ impl Body {
                 source,
             },
         )?)
+    }
+
+    /// Has these numbers of the names in scope.
+    pub fn have(&mut self, slots: Registers)
+        ensures { self.new ≡ with_slots slots self.old }
+    {
+        self.machine.registers = slots;
     }
 }

@@ -22,21 +22,21 @@ pub(crate) fn burst<P: Port>(
 ) -> Result<u32, Memory>
     ghost outset: { Outset P P.Shared }
     requires begins { outset ≡ outset_at port.old shared.old body.old }
-    requires code { code.now.nodes ≡ P.code }
-    requires kept { IsKept P.code P.total (P.facts port.old) (P.agrees port.old)
+    requires code { code.now.nodes ≡ P.theory.code }
+    requires kept { IsKept P.theory port.old
         body.old.trace.items body.old.machine }
-    ensures ok { IfOk result (λ n. Bursts P.calls P.facts P.code most n
+    ensures ok { IfOk result (λ n. Bursts P.theory most n
         (fiber_at port.old body.old.trace.items body.old.machine body.old.source) shared.old
         (fiber_at port.new body.new.trace.items body.new.machine body.new.source) shared.new) }
-    ensures err { OnErr result (BurstsShort P.calls P.facts P.code most
+    ensures err { OnErr result (BurstsShort P.theory most
         (fiber_at port.old body.old.trace.items body.old.machine body.old.source) shared.old
         (fiber_at port.new body.new.trace.items body.new.machine body.new.source) shared.new) }
-    ensures kept { IsKept P.code P.total (P.facts port.new) (P.agrees port.new)
+    ensures kept { IsKept P.theory port.new
         body.new.trace.items body.new.machine }
     ensures id { body.new.id ≡ body.old.id }
     ensures source { body.new.source ≡ body.old.source }
-    ensures number { (P.facts port.new).number ≡ (P.facts port.old).number }
-    ensures beginning { (P.facts port.new).beginning ≡ (P.facts port.old).beginning }
+    ensures number { (P.theory.facts port.new).number ≡ (P.theory.facts port.old).number }
+    ensures beginning { (P.theory.facts port.new).beginning ≡ (P.theory.facts port.old).beginning }
 {
     if most == 0 {
         return Ok(0);

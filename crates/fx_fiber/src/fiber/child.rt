@@ -6,7 +6,7 @@ ghost use Rattle.fx_term.specs.declared.node.NodeId.{NodeId};
 ghost use Rattle.fx_term.specs.Meaning.{term_of};
 ghost use Rattle.fx_term.specs.Need.{need};
 ghost use Rattle.fx_term.specs.Registers.{with_number};
-ghost use Rattle.fx_fiber.specs.Body.{IsFirstBody};
+ghost use Rattle.fx_fiber.specs.Body.{IsFirstBody, with_slots};
 ghost use Rattle.fx_fiber.specs.MakesStart.{child_begin};
 ghost use Rattle.fx_fiber.specs.Places.{IsEvaluating};
 
@@ -14,8 +14,8 @@ use crate::fiber::body::Body;
 use crate::machine::Machine;
 use fx_term::{Begin, Code, Memory, NodeId};
 
-/// What the child of a `start` begins with, and what it has beside its port: it is under no mask and
-/// not canceled, with the numbers of the names in scope. Its own number is had by this name.
+/// What the child of a `start` begins with, and what it has beside its port, but for the numbers of the
+/// names in scope: it is under no mask and not canceled. Its own number is had by this name.
 pub(crate) fn child_of(
     machine: &mut Machine,
     code: &Code,
@@ -30,7 +30,7 @@ pub(crate) fn child_of(
     requires word { machine.old.end < 2 ^ 32 }
     ensures begin { IfOk result (λ child. child.0 ≡ child_begin nodes machine.old started) }
     ensures body { IfOk result
-        (λ child. IsFirstBody nodes machine.old.next child.0 child.1.value) }
+        (λ child. IsFirstBody nodes machine.old.next child.0 (with_slots child.0.slots child.1.value)) }
     ensures named { OnOk result (machine.new ≡ record machine.old {
       registers = with_number (Some slot) machine.old.next machine.old.registers;
     }) }

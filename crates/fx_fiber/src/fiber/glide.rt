@@ -30,14 +30,14 @@ pub(crate) fn glide<P: Port>(
     looked: Looked,
 ) -> Result<Glided, Memory>
     ghost outset: { Outset P P.Shared }
-    requires code { code.now.nodes ≡ P.code }
-    requires sound { IsSoundMachine P.code machine.old }
+    requires code { code.now.nodes ≡ P.theory.code }
+    requires sound { IsSoundMachine P.theory.code machine.old }
     requires countable { machine.old.masks.entries < 2 ^ 63 }
     requires resources_countable { machine.old.acquired < 2 ^ 63 }
-    requires looked { HasLooked P.calls looked machine.old.known outset.port outset.shared }
-    ensures ok { IfOk result (λ glided. GlidesOnce P.calls P.agrees P.facts P.code
+    requires looked { HasLooked P.theory.calls looked machine.old.known outset.port outset.shared }
+    ensures ok { IfOk result (λ glided. GlidesOnce P.theory
         machine.old outset.port outset.shared glided machine.new) }
-    ensures same { OnErr result (IsSame P.code machine.old machine.new) }
+    ensures same { OnErr result (IsSame P.theory.code machine.old machine.new) }
 {
     if !machine.comes_inside(code)? {
         return Ok(Glided::Stops);

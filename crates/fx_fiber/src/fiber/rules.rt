@@ -29,15 +29,15 @@ pub(crate) fn rules<P: Port>(
     looked: Looked,
 ) -> Result<Reached, Memory>
     ghost outset: { Outset P P.Shared }
-    requires code { code.now.nodes ≡ P.code }
+    requires code { code.now.nodes ≡ P.theory.code }
     requires few { from ≤ most }
-    requires to { LeadsTo P.calls P.facts P.code P.total P.agrees outset from
+    requires to { LeadsTo P.theory outset from
         body.old.machine body.old.trace.items }
     requires room { from < most → vec_len body.old.trace < vec_capacity body.old.trace }
-    requires looked { HasLooked P.calls looked body.old.machine.known outset.port outset.shared }
-    ensures ok { IfOk result (λ reached. Reaches P.calls P.facts P.code P.total P.agrees outset most
+    requires looked { HasLooked P.theory.calls looked body.old.machine.known outset.port outset.shared }
+    ensures ok { IfOk result (λ reached. Reaches P.theory outset most
         reached body.new) }
-    ensures err { OnErr result (ReachesShort P.calls P.facts P.code P.total P.agrees outset most body.new) }
+    ensures err { OnErr result (ReachesShort P.theory outset most body.new) }
     ensures id { body.new.id ≡ body.old.id }
     ensures source { body.new.source ≡ body.old.source }
 {
@@ -65,14 +65,14 @@ pub(crate) fn rules_before_look<P: Port>(
     most: u32,
 ) -> Result<Reached, Memory>
     ghost outset: { Outset P P.Shared }
-    requires code { code.now.nodes ≡ P.code }
+    requires code { code.now.nodes ≡ P.theory.code }
     requires some { 0 < most }
-    requires to { LeadsTo P.calls P.facts P.code P.total P.agrees outset 0
+    requires to { LeadsTo P.theory outset 0
         body.old.machine body.old.trace.items }
     requires room { vec_len body.old.trace < vec_capacity body.old.trace }
-    ensures ok { IfOk result (λ reached. Reaches P.calls P.facts P.code P.total P.agrees outset most
+    ensures ok { IfOk result (λ reached. Reaches P.theory outset most
         reached body.new) }
-    ensures err { OnErr result (ReachesShort P.calls P.facts P.code P.total P.agrees outset most body.new) }
+    ensures err { OnErr result (ReachesShort P.theory outset most body.new) }
     ensures id { body.new.id ≡ body.old.id }
     ensures source { body.new.source ≡ body.old.source }
 {

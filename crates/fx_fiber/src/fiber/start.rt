@@ -26,31 +26,32 @@ pub(crate) fn start<P: Port>(
     started: NodeId,
     then: NodeId,
 ) -> Result<Fiber<P>, Memory>
-    requires code { code.now.nodes ≡ P.code }
+    requires code { code.now.nodes ≡ P.theory.code }
     requires stands { (id : NodeId)
-        × StandsAt P.code body.old.machine id (node.Start slot started then) }
-    requires kept { IsKept P.code P.total (P.facts port.old) (P.agrees port.old)
+        × StandsAt P.theory.code body.old.machine id (node.Start slot started then) }
+    requires kept { IsKept P.theory port.old
         body.old.trace.items body.old.machine }
-    requires going { (P.facts port.old).has_finished ≡ false }
+    requires going { (P.theory.facts port.old).has_finished ≡ false }
     requires room { vec_len body.old.trace < vec_capacity body.old.trace }
-    ensures started { IfOk result (λ child. MakesStart P.calls P.facts P.code body.old.machine port.old
+    ensures started { IfOk result (λ child. MakesStart P.theory body.old.machine port.old
         shared.old body.old.trace.items child body.new.machine port.new shared.new
         body.new.trace.items) }
-    ensures kept { IfOk result (λ child. IsKept P.code P.total (P.facts port.new) (P.agrees port.new)
+    ensures kept { IfOk result (λ child. IsKept P.theory port.new
         body.new.trace.items body.new.machine) }
-    ensures same { OnErr result (IsSame P.code body.old.machine body.new.machine) }
+    ensures same { OnErr result (IsSame P.theory.code body.old.machine body.new.machine) }
     ensures trace { OnErr result (body.new.trace.items ≡ body.old.trace.items) }
     ensures unchanged { OnErr result ((port.new ≡ port.old) × (shared.new ≡ shared.old)) }
     ensures id { body.new.id ≡ body.old.id }
     ensures source { body.new.source ≡ body.old.source }
-    ensures number { (P.facts port.new).number ≡ (P.facts port.old).number }
-    ensures beginning { (P.facts port.new).beginning ≡ (P.facts port.old).beginning }
+    ensures number { (P.theory.facts port.new).number ≡ (P.theory.facts port.old).number }
+    ensures beginning { (P.theory.facts port.new).beginning ≡ (P.theory.facts port.old).beginning }
 {
     let id = body.machine.next;
-    let (begin, child) = child_of(&mut body.machine, code, slot, started)?;
+    let (begin, mut child) = child_of(&mut body.machine, code, slot, started)?;
     let own = port.start(shared, id, &begin)?;
     body.machine.next = begin.end;
     body.machine.focus = Focus::Eval(then);
     body.trace.push_reserved(Event::Start(id));
+    child.have(begin.slots);
     Ok(Fiber::beginning(own, child))
 }

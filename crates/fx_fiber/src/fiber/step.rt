@@ -22,22 +22,22 @@ pub(crate) fn step<P: Port>(
     code: &Code,
     shared: &mut P::Shared,
 ) -> Result<Stepped<P>, Memory>
-    requires code { code.now.nodes ≡ P.code }
-    requires kept { IsKept P.code P.total (P.facts port.old) (P.agrees port.old)
+    requires code { code.now.nodes ≡ P.theory.code }
+    requires kept { IsKept P.theory port.old
         body.old.trace.items body.old.machine }
-    requires going { has_ended (progress_of P.code body.old.machine) ≡ false }
-    ensures ok { IfOk result (λ answer. DoesStep P.calls P.facts P.code
+    requires going { has_ended (progress_of P.theory.code body.old.machine) ≡ false }
+    ensures ok { IfOk result (λ answer. DoesStep P.theory
         (fiber_at port.old body.old.trace.items body.old.machine body.old.source) shared.old answer
         (fiber_at port.new body.new.trace.items body.new.machine body.new.source) shared.new) }
-    ensures err { OnErr result (IsUnchanged P.code
+    ensures err { OnErr result (IsUnchanged P.theory.code
         (fiber_at port.old body.old.trace.items body.old.machine body.old.source)
         (fiber_at port.new body.new.trace.items body.new.machine body.new.source) × (shared.new ≡ shared.old)) }
-    ensures kept { IsKept P.code P.total (P.facts port.new) (P.agrees port.new)
+    ensures kept { IsKept P.theory port.new
         body.new.trace.items body.new.machine }
     ensures id { body.new.id ≡ body.old.id }
     ensures source { body.new.source ≡ body.old.source }
-    ensures number { (P.facts port.new).number ≡ (P.facts port.old).number }
-    ensures beginning { (P.facts port.new).beginning ≡ (P.facts port.old).beginning }
+    ensures number { (P.theory.facts port.new).number ≡ (P.theory.facts port.old).number }
+    ensures beginning { (P.theory.facts port.new).beginning ≡ (P.theory.facts port.old).beginning }
 {
     body.trace.reserve(1)?;
     let made = advance(port, &mut body.machine, code, shared)?;

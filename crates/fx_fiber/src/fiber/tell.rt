@@ -20,10 +20,10 @@ pub(crate) fn tell<P: Port>(
     made: Made,
 ) -> Stepped<P>
     requires made { IsMade made }
-    requires going { (P.facts port.old).has_finished ≡ false }
+    requires going { (P.theory.facts port.old).has_finished ≡ false }
     requires room { vec_len body.old.trace < vec_capacity body.old.trace }
     ensures answer { result ≡ answer_to made }
-    ensures told { TellsMade P.calls P.agrees P.facts made
+    ensures told { TellsMade P.theory made
         port.old shared.old port.new shared.new }
     ensures trace { body.new.trace.items ≡ body.old.trace.items ++ events (label_of made ∷ []) }
     ensures machine { body.new.machine ≡ body.old.machine }

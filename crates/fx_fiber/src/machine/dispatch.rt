@@ -2,7 +2,7 @@
 ghost use Rattle.std.specs.Prelude.{◌≡◌, ◌^◌, ◌<◌, Some, [], IfOk, OnErr};
 ghost use Rattle.fx_term.specs.declared.node.Node.TheVariants as node;
 ghost use Rattle.fx_fiber.specs.Leaves.{IsLeafNode, IsLocalLeaf};
-ghost use Rattle.fx_fiber.specs.Places.{IsSame, StandsAt, IsBeforeTurn, ReturnsOut};
+ghost use Rattle.fx_fiber.specs.Places.{IsSame, StandsAt, ReturnsOut};
 ghost use Rattle.fx_fiber.specs.Places.{IsReturning};
 ghost use Rattle.fx_fiber.specs.Makes.{MakesRule};
 ghost use Rattle.fx_fiber.specs.Interruption.{Interrupts, IsInterrupted};
@@ -31,14 +31,14 @@ impl Machine {
         id: NodeId,
         node: &Node,
     ) -> Result<Made, Memory>
-        requires at { StandsAt P.code self.old id node.now }
+        requires at { StandsAt P.theory.code self.old id node.now }
         requires leaf { IsLeafNode (Some node.now) }
         requires countable { self.old.masks.entries < 2 ^ 63 }
-        requires puts_countable { (P.facts port.old).puts < 2 ^ 63 }
-        requires scoped { IsProgressScopedOver is_fiber_number (progress_of P.code self.old) }
-        ensures ok { IfOk result (λ made. MakesCall P.calls P.agrees P.facts P.code
+        requires puts_countable { (P.theory.facts port.old).puts < 2 ^ 63 }
+        requires scoped { IsProgressScopedOver is_fiber_number (progress_of P.theory.code self.old) }
+        ensures ok { IfOk result (λ made. MakesCall P.theory
             self.old port.old shared.old made self.new port.new shared.new) }
-        ensures same { OnErr result (IsSame P.code self.old self.new) }
+        ensures same { OnErr result (IsSame P.theory.code self.old self.new) }
         ensures unchanged { OnErr result ((port.new ≡ port.old) × (shared.new ≡ shared.old)) }
     {
         match *node {

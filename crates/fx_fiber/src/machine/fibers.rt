@@ -42,12 +42,12 @@ impl Machine {
         id: NodeId,
         node: &Node,
     ) -> Result<Made, Memory>
-        requires at { StandsAt P.code self.old id node.now }
+        requires at { StandsAt P.theory.code self.old id node.now }
         requires join { IsJoin node.now }
-        requires scoped { IsProgressScopedOver is_fiber_number (progress_of P.code self.old) }
-        ensures ok { IfOk result (λ made. MakesCall P.calls P.agrees P.facts P.code
+        requires scoped { IsProgressScopedOver is_fiber_number (progress_of P.theory.code self.old) }
+        ensures ok { IfOk result (λ made. MakesCall P.theory
             self.old port.old shared.old made self.new port.new shared.new) }
-        ensures same { OnErr result (IsSame P.code self.old self.new) }
+        ensures same { OnErr result (IsSame P.theory.code self.old self.new) }
         ensures unchanged { OnErr result ((port.new ≡ port.old) × (shared.new ≡ shared.old)) }
     {
         let Node::Join(slot, name, success, _, failure, cancellation) = *node else {
@@ -92,9 +92,9 @@ impl Machine {
 
     /// A `cancel` requests the cancellation of the fiber, and then awaits its end.
     pub fn request<P: Port>(&mut self, port: &mut P, shared: &mut P::Shared, slot: u32) -> Made
-        requires at { (id : NodeId) × StandsAt P.code self.old id (node.Cancel slot) }
-        requires scoped { IsProgressScopedOver is_fiber_number (progress_of P.code self.old) }
-        ensures { MakesCall P.calls P.agrees P.facts P.code
+        requires at { (id : NodeId) × StandsAt P.theory.code self.old id (node.Cancel slot) }
+        requires scoped { IsProgressScopedOver is_fiber_number (progress_of P.theory.code self.old) }
+        ensures { MakesCall P.theory
             self.old port.old shared.old result self.new port.new shared.new }
     {
         let fiber = self.fiber_of(slot);
@@ -105,9 +105,9 @@ impl Machine {
 
     /// A fiber that awaits the end of one that it canceled goes on with 0, once that has ended.
     pub fn awaits<P: Port>(&mut self, port: &mut P, shared: &mut P::Shared, fiber: u32) -> Made
-        requires sound { IsSoundMachine P.code self.old }
+        requires sound { IsSoundMachine P.theory.code self.old }
         requires focus { self.old.focus ≡ Focus.Await fiber }
-        ensures { MakesCall P.calls P.agrees P.facts P.code
+        ensures { MakesCall P.theory
             self.old port.old shared.old result self.new port.new shared.new }
     {
         match port.peek(shared, fiber) {
@@ -127,9 +127,9 @@ impl Machine {
         left: u32,
         right: u32,
     ) -> Made
-        requires at { (id : NodeId) × StandsAt P.code self.old id (node.First left right) }
-        requires scoped { IsProgressScopedOver is_fiber_number (progress_of P.code self.old) }
-        ensures { MakesCall P.calls P.agrees P.facts P.code
+        requires at { (id : NodeId) × StandsAt P.theory.code self.old id (node.First left right) }
+        requires scoped { IsProgressScopedOver is_fiber_number (progress_of P.theory.code self.old) }
+        ensures { MakesCall P.theory
             self.old port.old shared.old result self.new port.new shared.new }
     {
         let left = self.fiber_of(left);

@@ -24,11 +24,11 @@ impl Machine {
         queue: u8,
         value: Arg,
     ) -> Result<Made, Memory>
-        requires at { (id : NodeId) × StandsAt P.code self.old id (node.Offer queue value) }
-        requires countable { (P.facts port.old).puts < 2 ^ 63 }
-        ensures ok { IfOk result (λ made. MakesCall P.calls P.agrees P.facts P.code
+        requires at { (id : NodeId) × StandsAt P.theory.code self.old id (node.Offer queue value) }
+        requires countable { (P.theory.facts port.old).puts < 2 ^ 63 }
+        ensures ok { IfOk result (λ made. MakesCall P.theory
             self.old port.old shared.old made self.new port.new shared.new) }
-        ensures same { OnErr result (IsSame P.code self.old self.new) }
+        ensures same { OnErr result (IsSame P.theory.code self.old self.new) }
         ensures unchanged { OnErr result ((port.new ≡ port.old) × (shared.new ≡ shared.old)) }
     {
         let value = self.registers.number_of(value);
@@ -49,11 +49,11 @@ impl Machine {
         queue: u8,
         value: Arg,
     ) -> Result<Made, Memory>
-        requires at { (id : NodeId) × StandsAt P.code self.old id (node.TryOffer queue value) }
-        requires countable { (P.facts port.old).puts < 2 ^ 63 }
-        ensures ok { IfOk result (λ made. MakesCall P.calls P.agrees P.facts P.code
+        requires at { (id : NodeId) × StandsAt P.theory.code self.old id (node.TryOffer queue value) }
+        requires countable { (P.theory.facts port.old).puts < 2 ^ 63 }
+        ensures ok { IfOk result (λ made. MakesCall P.theory
             self.old port.old shared.old made self.new port.new shared.new) }
-        ensures same { OnErr result (IsSame P.code self.old self.new) }
+        ensures same { OnErr result (IsSame P.theory.code self.old self.new) }
         ensures unchanged { OnErr result ((port.new ≡ port.old) × (shared.new ≡ shared.old)) }
     {
         let value = self.registers.number_of(value);
@@ -71,8 +71,8 @@ impl Machine {
 
     /// A `take` gives the front of the queue, once that has one.
     pub fn take<P: Port>(&mut self, port: &mut P, shared: &mut P::Shared, queue: u8) -> Made
-        requires at { (id : NodeId) × StandsAt P.code self.old id (node.Take queue) }
-        ensures { MakesCall P.calls P.agrees P.facts P.code
+        requires at { (id : NodeId) × StandsAt P.theory.code self.old id (node.Take queue) }
+        ensures { MakesCall P.theory
             self.old port.old shared.old result self.new port.new shared.new }
     {
         match port.take(shared, queue) {
@@ -92,11 +92,11 @@ impl Machine {
         id: NodeId,
         node: &Node,
     ) -> Result<Made, Memory>
-        requires at { StandsAt P.code self.old id node.now }
+        requires at { StandsAt P.theory.code self.old id node.now }
         requires try_take { IsTryTake node.now }
-        ensures ok { IfOk result (λ made. MakesCall P.calls P.agrees P.facts P.code
+        ensures ok { IfOk result (λ made. MakesCall P.theory
             self.old port.old shared.old made self.new port.new shared.new) }
-        ensures same { OnErr result (IsSame P.code self.old self.new) }
+        ensures same { OnErr result (IsSame P.theory.code self.old self.new) }
         ensures unchanged { OnErr result ((port.new ≡ port.old) × (shared.new ≡ shared.old)) }
     {
         let Node::TryTake(queue, name, part, other) = *node else {

@@ -102,7 +102,7 @@ fn step<P: Port + Drop>(
     code: &Code,
     shared: &mut P::Shared,
 ) -> Result<Option<Fiber<P>>, Memory>
-    requires code { code.now.nodes ≡ P.code }
+    requires code { code.now.nodes ≡ P.theory.code }
 {
     if fiber.has_ended() {
         return Ok(None);
@@ -124,8 +124,8 @@ fn make<P: Port + Drop>(
     shared: &mut P::Shared,
     next: Move,
 ) -> Result<(), Memory>
-    requires code { code.now.nodes ≡ P.code }
-    requires may { (id : ℕ) → P.may id ≡ true }
+    requires code { code.now.nodes ≡ P.theory.code }
+    requires may { (id : ℕ) → P.theory.may id ≡ true }
 {
     match next {
         Move::Step(number) => {
@@ -162,8 +162,8 @@ fn by_moves<P: Port<Shared: Drop> + Drop>(
     mut shared: P::Shared,
     moves: &[Move],
 ) -> Result<Seen, Memory>
-    requires code { code.now.nodes ≡ P.code }
-    requires may { (id : ℕ) → P.may id ≡ true }
+    requires code { code.now.nodes ≡ P.theory.code }
+    requires may { (id : ℕ) → P.theory.may id ≡ true }
 {
     let mut woken = Vec::new(alloc);
     let mut fibers = Vec::new(alloc);
@@ -188,7 +188,7 @@ fn beside<R: Threads + Wait + Sync, P: Port<Shared: Send + Drop> + Send + Drop>(
     mut mine: P::Shared,
     mut theirs: P::Shared,
 ) -> Result<Seen, Memory>
-    requires code { code.now.nodes ≡ P.code }
+    requires code { code.now.nodes ≡ P.theory.code }
 {
     let woken = Vec::new(alloc);
     let Some(other) = step(&mut main, code, &mut mine)? else {
@@ -198,10 +198,10 @@ fn beside<R: Threads + Wait + Sync, P: Port<Shared: Send + Drop> + Send + Drop>(
     let (one, two) = thread::join(
         rt,
         move || -> Result<Vec<Event>, Memory>
-            requires { code.now.nodes ≡ P.code }
+            requires { code.now.nodes ≡ P.theory.code }
         { to_end(rt, code, main, &mut mine) },
         move || -> Result<Vec<Event>, Memory>
-            requires { code.now.nodes ≡ P.code }
+            requires { code.now.nodes ≡ P.theory.code }
         { to_end(rt, code, other, &mut theirs) },
     );
     let _other = two?;
@@ -215,7 +215,7 @@ fn to_end<R: Wait, P: Port + Drop>(
     mut fiber: Fiber<P>,
     shared: &mut P::Shared,
 ) -> Result<Vec<Event>, Memory>
-    requires code { code.now.nodes ≡ P.code }
+    requires code { code.now.nodes ≡ P.theory.code }
 {
     for _ in rt.forever() {
         if fiber.has_ended() {

@@ -1,6 +1,7 @@
 //! The numbers of the names in scope, and what a fiber begins with.
 
-use fx_refusing::{Answer, Call, Refuser, whole_where};
+use crate::harness::{Answer, whole_where};
+use crate::refuser::Refuser;
 use fx_term::{Arg, Begin, Memory, NodeId, Registers};
 use std::alloc::Global;
 
@@ -12,27 +13,19 @@ pub enum Of {
     Begin,
 }
 
-#[derive(Clone, Copy)]
-pub struct NumbersOf {
-    pub alloc: Global,
-    pub of: Of,
-}
-
 /// Gives the first name the number 7, and again where that was refused memory.
-fn bound(alloc: Global, refuser: &Refuser) -> Result<Answer, Memory> {
+fn bound(alloc: Global, refuser: &Refuser) -> Answer {
     let mut numbers = Registers::new(alloc);
     refuser.go_on();
     let made = numbers.bind(Some(0), 7);
     refuser.hold();
     if made.is_ok() {
-        return Ok(whole_where(numbers.number_of(Arg::Slot(0)) == 7));
+        return whole_where(numbers.number_of(Arg::Slot(0)) == 7);
     }
-    numbers.bind(Some(0), 7)?;
-    Ok(if numbers.number_of(Arg::Slot(0)) == 7 {
-        Answer::Memory
-    } else {
-        Answer::Other
-    })
+    match numbers.bind(Some(0), 7) {
+        Ok(()) if numbers.number_of(Arg::Slot(0)) == 7 => Answer::Memory,
+        _ => Answer::Other,
+    }
 }
 
 /// What a copy of the number 7 answers.
@@ -67,13 +60,11 @@ fn begun(alloc: Global, refuser: &Refuser) -> Result<Answer, Memory> {
     })
 }
 
-impl Call for NumbersOf {
-    fn make(&mut self, refuser: &Refuser) -> Answer {
-        let made = match self.of {
-            Of::Bind => bound(self.alloc, refuser),
-            Of::Copied => copied(self.alloc, refuser),
-            Of::Begin => begun(self.alloc, refuser),
-        };
-        made.unwrap_or(Answer::Other)
+/// What the call answers.
+pub fn made(alloc: Global, of: Of, refuser: &Refuser) -> Answer {
+    match of {
+        Of::Bind => bound(alloc, refuser),
+        Of::Copied => copied(alloc, refuser).unwrap_or(Answer::Other),
+        Of::Begin => begun(alloc, refuser).unwrap_or(Answer::Other),
     }
 }

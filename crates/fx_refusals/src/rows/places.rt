@@ -1,32 +1,45 @@
 //! The masks and the contexts of a fiber.
 
+use crate::harness::{Answer, Call, Trial, Wrong, whole_where};
+use crate::refuser::Refuser;
 use fx_frames::{Frame, Frames};
 use fx_mask::{Masks, Region};
-use fx_refusing::{Answer, Call, Refuser, Row, Trial, Wrong};
 use fx_term::{Memory, NodeId};
 use std::alloc::Global;
 
 /// Many enough that what they stand in grows more than once.
 const MANY: u32 = 12;
 
+/// Which call is refused memory.
 #[derive(Clone, Copy)]
-pub struct Enter {
-    pub alloc: Global,
+pub enum Of {
+    Enter,
+    Seal,
+    Push,
+}
+
+/// Has the calls tried.
+pub fn tried(alloc: Global, of: Of, trial: &Trial) -> Result<bool, Wrong> {
+    match of {
+        Of::Enter => trial.of(&mut Entering {
+            masks: Masks::new(alloc),
+            entered: 0,
+        }),
+        Of::Seal => trial.of(&mut Sealing {
+            masks: Masks::new(alloc),
+            seals: 0,
+        }),
+        Of::Push => trial.of(&mut Pushing {
+            frames: Frames::new(alloc),
+            pushed: 0,
+        }),
+    }
 }
 
 #[derive(Drop)]
 struct Entering {
     masks: Masks,
     entered: u64,
-}
-
-impl Row for Enter {
-    fn go(&self, trial: &Trial) -> Result<bool, Wrong> {
-        trial.of(&mut Entering {
-            masks: Masks::new(self.alloc),
-            entered: 0,
-        })
-    }
 }
 
 impl Call for Entering {
@@ -51,24 +64,10 @@ impl Call for Entering {
     }
 }
 
-#[derive(Clone, Copy)]
-pub struct Seal {
-    pub alloc: Global,
-}
-
 #[derive(Drop)]
 struct Sealing {
     masks: Masks,
     seals: u32,
-}
-
-impl Row for Seal {
-    fn go(&self, trial: &Trial) -> Result<bool, Wrong> {
-        trial.of(&mut Sealing {
-            masks: Masks::new(self.alloc),
-            seals: 0,
-        })
-    }
 }
 
 impl Call for Sealing {
@@ -94,11 +93,6 @@ impl Call for Sealing {
     }
 }
 
-#[derive(Clone, Copy)]
-pub struct Push {
-    pub alloc: Global,
-}
-
 #[derive(Drop)]
 struct Pushing {
     frames: Frames,
@@ -110,25 +104,14 @@ fn frame(number: u32) -> Frame {
     Frame::Loop(NodeId(number), number)
 }
 
-impl Row for Push {
-    fn go(&self, trial: &Trial) -> Result<bool, Wrong> {
-        trial.of(&mut Pushing {
-            frames: Frames::new(self.alloc),
-            pushed: 0,
-        })
-    }
-}
-
-impl Pushing {
-    /// Whether the contexts come out as they went in.
-    fn comes_out(&mut self) -> bool {
-        for number in (0..MANY).rev() {
-            if self.frames.pop() != Some(frame(number)) {
-                return false;
-            }
+/// Whether the contexts come out as they went in.
+fn come_out(frames: &mut Frames) -> bool {
+    for number in (0..MANY).rev() {
+        if frames.pop() != Some(frame(number)) {
+            return false;
         }
-        self.frames.pop().is_none()
     }
+    frames.pop().is_none()
 }
 
 impl Call for Pushing {
@@ -143,11 +126,7 @@ impl Call for Pushing {
         if self.pushed < MANY {
             return Answer::Goes;
         }
-        if self.comes_out() {
-            Answer::Whole
-        } else {
-            Answer::Other
-        }
+        whole_where(come_out(&mut self.frames))
     }
 
     fn is_kept(&self) -> bool {

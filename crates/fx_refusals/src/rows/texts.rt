@@ -1,6 +1,9 @@
 //! The texts of scripts and of schedules, and the code of a script.
 
-use fx_refusing::{Answer, Call, Refuser, Worked, is_replayed};
+use crate::harness::Answer;
+use crate::refuser::Refuser;
+use crate::scripts::Worked;
+use crate::shown::is_replayed;
 use fx_term::{Arg, Code, CodeFault, Node, NodeId};
 use fx_text::{Pick, TextFault, TextKind, parse, schedule};
 use std::alloc::Global;
@@ -13,28 +16,16 @@ fn answer_of(fault: TextFault) -> Answer {
     }
 }
 
-#[derive(Clone, Copy)]
-pub struct Parse {
-    pub alloc: Global,
-    pub worked: &'static Worked,
-}
-
-impl Call for Parse {
-    fn make(&mut self, refuser: &Refuser) -> Answer {
-        refuser.go_on();
-        let read = parse(self.alloc, self.worked.text.as_bytes());
-        refuser.hold();
-        match read {
-            Ok(script) if is_replayed(self.alloc, &script, self.worked.report) => Answer::Whole,
-            Ok(_) => Answer::Other,
-            Err(fault) => answer_of(fault),
-        }
+/// What the reader of this script answers.
+pub fn parsed(alloc: Global, worked: &Worked, refuser: &Refuser) -> Answer {
+    refuser.go_on();
+    let read = parse(alloc, worked.text.as_bytes());
+    refuser.hold();
+    match read {
+        Ok(script) if is_replayed(alloc, &script, worked.report) => Answer::Whole,
+        Ok(_) => Answer::Other,
+        Err(fault) => answer_of(fault),
     }
-}
-
-#[derive(Clone, Copy)]
-pub struct Schedule {
-    pub alloc: Global,
 }
 
 static PICKS: [Pick; 7] = [
@@ -47,22 +38,16 @@ static PICKS: [Pick; 7] = [
     Pick::Cancel(0),
 ];
 
-impl Call for Schedule {
-    fn make(&mut self, refuser: &Refuser) -> Answer {
-        refuser.go_on();
-        let read = schedule(self.alloc, b"0 0 1 c1 0 1 c0");
-        refuser.hold();
-        match read {
-            Ok(picks) if picks.as_slice() == PICKS.as_slice() => Answer::Whole,
-            Ok(_) => Answer::Other,
-            Err(fault) => answer_of(fault),
-        }
+/// What the reader of a schedule answers.
+pub fn scheduled(alloc: Global, refuser: &Refuser) -> Answer {
+    refuser.go_on();
+    let read = schedule(alloc, b"0 0 1 c1 0 1 c0");
+    refuser.hold();
+    match read {
+        Ok(picks) if picks.as_slice() == PICKS.as_slice() => Answer::Whole,
+        Ok(_) => Answer::Other,
+        Err(fault) => answer_of(fault),
     }
-}
-
-#[derive(Clone, Copy)]
-pub struct Build {
-    pub alloc: Global,
 }
 
 /// `start h (pure 1) (join h (x (pure x)) (e (raise e)) (pure 2))`.
@@ -75,18 +60,17 @@ static NODES: [Node; 6] = [
     Node::Start(0, NodeId(0), NodeId(4)),
 ];
 
-impl Call for Build {
-    fn make(&mut self, refuser: &Refuser) -> Answer {
-        let Ok(nodes) = Vec::from_slice(self.alloc, &NODES) else {
-            return Answer::Other;
-        };
-        refuser.go_on();
-        let built = Code::build(self.alloc, nodes, 0);
-        refuser.hold();
-        match built {
-            Ok(code) if code.len() == 6 => Answer::Whole,
-            Err(CodeFault::Memory) => Answer::Memory,
-            _ => Answer::Other,
-        }
+/// What a code answers as it is built.
+pub fn built(alloc: Global, refuser: &Refuser) -> Answer {
+    let Ok(nodes) = Vec::from_slice(alloc, &NODES) else {
+        return Answer::Other;
+    };
+    refuser.go_on();
+    let built = Code::build(alloc, nodes, 0);
+    refuser.hold();
+    match built {
+        Ok(code) if code.len() == 6 => Answer::Whole,
+        Err(CodeFault::Memory) => Answer::Memory,
+        _ => Answer::Other,
     }
 }

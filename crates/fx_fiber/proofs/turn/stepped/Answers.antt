@@ -61,7 +61,7 @@ returns-in-Ok-Gave-clause-turns g c = inr (inl (record {
 
 pub returns-in-Err-burst-clause-turns : goal.returns-in-Err-burst-clause-turns
 returns-in-Err-burst-clause-turns g c =
-    refused_in_burst g.P.Port.calls g.P.Port.facts g.P.Port.code _ _ _ _ _ _ _ _ c.loop-steps-test.true c.loop-steps.invariant.reached
+    refused_in_burst g.P.Port.theory _ _ _ _ _ _ _ _ c.loop-steps-test.true c.loop-steps.invariant.reached
     (rw c.in-Ok-Went.field-0-is at c.in-Ok-Went.ensures.ok) _ _ _ (let few = c.loop-steps-test.true in omega arith) c.in-Err-burst.ensures.err
 
 pub loop-steps-preserved-in-Ok : goal.loop-steps-preserved-in-Ok
@@ -70,7 +70,7 @@ loop-steps-preserved-in-Ok g c =
     let burst = c.in-Ok.ensures.ok in
     let within = burst.few in
     record {
-      reached = one_more g.P.Port.calls g.P.Port.facts g.P.Port.code _ _ _ _ _ _ _ _ c.loop-steps.invariant.reached
+      reached = one_more g.P.Port.theory _ _ _ _ _ _ _ _ c.loop-steps.invariant.reached
           (rw c.in-Ok-Went.field-0-is at c.in-Ok-Went.ensures.ok) _ _ _ _ burst (c.burst.ensures.number ∙ c.step.ensures.number)
           (c.burst.ensures.beginning ∙ c.step.ensures.beginning);
       most = omega arith;
@@ -78,7 +78,7 @@ loop-steps-preserved-in-Ok g c =
 
 pub returns-then-is_registered-clause-turns : goal.returns-then-is_registered-clause-turns
 returns-then-is_registered-clause-turns g c =
-    inl (waits_on g.P.Port.calls g.P.Port.facts g.P.Port.code _ _ _ _ _ _ _ _ c.loop-steps-test.true
+    inl (waits_on g.P.Port.theory _ _ _ _ _ _ _ _ c.loop-steps-test.true
     (rw c.if-is_registered.true at c.loop-steps.invariant.reached) (rw c.in-Ok-Waits.field-0-is at c.in-Ok-Waits.ensures.ok) c.in-Ok-Waits.ensures.source)
 
 pub loop-steps-preserved : goal.loop-steps-preserved
@@ -86,7 +86,7 @@ loop-steps-preserved g c =
     let waits = rw c.in-Ok-Waits.field-0-is at c.in-Ok-Waits.ensures.ok in
     let few = c.loop-steps-test.true in
     record {
-      reached = one_wait g.P.Port.calls g.P.Port.facts g.P.Port.code _ _ _ _ _ _ _ _ _ _
+      reached = one_wait g.P.Port.theory _ _ _ _ _ _ _ _ _ _
           (rw c.if-is_registered.false at c.loop-steps.invariant.reached) waits
           (record { told = c.wait_on.ensures.told; same = c.wait_on.ensures.same })
           (ap (λ (x : Facts). x.number) c.wait_on.ensures.facts ∙ c.step.ensures.number)
@@ -98,6 +98,6 @@ pub returns-clause-turns : goal.returns-clause-turns
 returns-clause-turns g c = inr (inr (record {
   was = c.loop-steps.is_registered;
   after = c.loop-steps.fiber;
-  goes = all_steps g.P.Port.calls g.P.Port.facts g.P.Port.code _ _ _ _ _ _ c.loop-steps-test.false c.loop-steps.invariant.most c.loop-steps.invariant.reached;
+  goes = all_steps g.P.Port.theory _ _ _ _ _ _ c.loop-steps-test.false c.loop-steps.invariant.most c.loop-steps.invariant.reached;
   yields = c.yields-2.ensures;
 }))

@@ -4,7 +4,7 @@ use Rattle.fx_fiber.proofs.turn.stepped.Given as goal
 
 abbrev pub invariant-loop-steps : goal.invariant-loop-steps
 invariant-loop-steps g l = record {
-  reached : Reached g.P.Port.calls g.P.Port.facts g.P.Port.code l.fn.fiber l.fn.shared l.steps l.is_registered l.fiber l.shared;
+  reached : Reached g.P.Port.theory l.fn.fiber l.fn.shared l.steps l.is_registered l.fiber l.shared;
   most : l.steps ≤ 64;
 }
 

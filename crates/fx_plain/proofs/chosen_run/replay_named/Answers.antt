@@ -26,8 +26,8 @@ returns-clause-replayed g c =
     let picks = c.args.picks.now in
     let ended : IsUnderWay g.J.CodeBrand.nodes s picks [] c.loop-pick.machine =
     rw (drop_all c.loop-pick.pick-index picks (let end = c.loop-pick-test.false in omega arith)) at c.loop-pick.invariant.1 in
-    let under_way = c.in_ok-run_to_rest.ensures.way s picks ended in
-    replay_with_waits g.J.CodeBrand.nodes s _ picks _ _ under_way c.in_ok-run_to_rest.ensures.rests (c.in_ok-report.ensures.replay s picks under_way)
+    let under_way = c.in_ok-run_to_halt.ensures.way s picks ended in
+    replay_with_waits g.J.CodeBrand.nodes s _ picks _ _ under_way c.in_ok-run_to_halt.ensures.halts (c.in_ok-report.ensures.replay s picks under_way)
     c.in_ok-report.ensures.fibers c.in_ok-waits.ensures
 
 pub returns-clause-promised : goal.returns-clause-promised

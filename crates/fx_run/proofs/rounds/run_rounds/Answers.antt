@@ -10,17 +10,17 @@ returns-then-is_empty-clause-ascending g c =
     let nodes = g.N.RunBrand.nodes in
     let script = script_of (meaning c.args.script.now) in
     let able = c.in_ok-next.next.swept.able in
-    let resting = c.in_ok-next.next.swept.resting.items in
+    let unable = c.in_ok-next.next.swept.unable.items in
     let none : vec_len able ≡ 0 = eqb-true (vec_len able) 0 (sym c.is_empty.ensures ∙ c.if-is_empty.true) in
     let long = able.ok in
-    still_ascending nodes script resting (found_none nodes script able.items resting (omega (arith, none, long)) c.in_ok-next.ensures.swept)
+    still_ascending nodes script unable (found_none nodes script able.items unable (omega (arith, none, long)) c.in_ok-next.ensures.swept)
 
 pub returns-then-is_empty-clause-settled : goal.returns-then-is_empty-clause-settled
 returns-then-is_empty-clause-settled g c =
     let nodes = g.N.RunBrand.nodes in
     let script = script_of (meaning c.args.script.now) in
     let able = c.in_ok-next.next.swept.able in
-    let resting = c.in_ok-next.next.swept.resting.items in
+    let unable = c.in_ok-next.next.swept.unable.items in
     let none : vec_len able ≡ 0 = eqb-true (vec_len able) 0 (sym c.is_empty.ensures ∙ c.if-is_empty.true) in
     let long = able.ok in
-    none_can_go nodes script resting (found_none nodes script able.items resting (omega (arith, none, long)) c.in_ok-next.ensures.swept)
+    none_can_go nodes script unable (found_none nodes script able.items unable (omega (arith, none, long)) c.in_ok-next.ensures.swept)

@@ -14,19 +14,19 @@ use Rattle.fx_fiber.proofs.fiber.advance.advance.Goals as goal
 pub interrupted-requires : goal.interrupted-requires
 interrupted-requires g c =
     let here = c.in_ok-id-in-Eval in
-    let inside = inside_leaf g.P.Port.code c.enter.new.self here.id here.node.now _ here.ensures.at here.ensures.leaf c.is_canceled.ensures in
-    is_interrupted g.P.Port.calls g.P.Port.agrees g.P.Port.facts g.P.Port.code c.args.machine.now c.enter.new.self _ _ _ _ _
+    let inside = inside_leaf g.P.Port.theory.code c.enter.new.self here.id here.node.now _ here.ensures.at here.ensures.leaf c.is_canceled.ensures in
+    is_interrupted g.P.Port.theory c.args.machine.now c.enter.new.self _ _ _ _ _
     here.ensures.same inside c.in-Some.first c.in-Some.ensures.first
 
 pub leaf_rule-requires : goal.leaf_rule-requires
 leaf_rule-requires g c =
     let here = c.in_ok-id-in-Eval in
-    let inside = inside_leaf g.P.Port.code c.enter.new.self here.id here.node.now _ here.ensures.at here.ensures.leaf c.is_canceled.ensures in
+    let inside = inside_leaf g.P.Port.theory.code c.enter.new.self here.id here.node.now _ here.ensures.at here.ensures.leaf c.is_canceled.ensures in
     record {
       at = record {
         at = here.ensures.at;
         free =
-            is_free g.P.Port.calls g.P.Port.agrees g.P.Port.facts g.P.Port.code c.args.machine.now c.enter.new.self _ _ _ _ _ here.ensures.same inside
+            is_free g.P.Port.theory c.args.machine.now c.enter.new.self _ _ _ _ _ here.ensures.same inside
             c.in-None.ensures.first;
       };
       leaf = here.ensures.leaf;
@@ -38,48 +38,48 @@ leaf_rule-requires g c =
     }
 
 pub node-requires : goal.node-requires
-node-requires g c = rw c.requires.code (loop_number g.P.Port.code _ c.in-Turn.id (rw c.in-Turn.is at c.requires.sound.focus_in))
+node-requires g c = rw c.requires.code (loop_number g.P.Port.theory.code _ c.in-Turn.id (rw c.in-Turn.is at c.requires.sound.focus_in))
 
 pub returns-in-Some-clause-ok : goal.returns-in-Some-clause-ok
 returns-in-Some-clause-ok g c =
     let here = c.in_ok-id-in-Eval in
-    let inside = inside_leaf g.P.Port.code c.enter.new.self here.id here.node.now _ here.ensures.at here.ensures.leaf c.is_canceled.ensures in
-    IfOk-weaker c.interrupted.result (λ m. Interrupts g.P.Port.code c.enter.new.self c.in-Some.first m c.interrupted.new.self) _
-    (λ m h. interrupted_advances g.P.Port.calls g.P.Port.agrees g.P.Port.facts g.P.Port.code c.args.machine.now c.enter.new.self _ _ _ _ _
+    let inside = inside_leaf g.P.Port.theory.code c.enter.new.self here.id here.node.now _ here.ensures.at here.ensures.leaf c.is_canceled.ensures in
+    IfOk-weaker c.interrupted.result (λ m. Interrupts g.P.Port.theory.code c.enter.new.self c.in-Some.first m c.interrupted.new.self) _
+    (λ m h. interrupted_advances g.P.Port.theory c.args.machine.now c.enter.new.self _ _ _ _ _
     here.ensures.same inside c.in-Some.first m _ c.in-Some.ensures.first c.in-Some.ensures.saw c.interruption.ensures.facts h)
     c.interrupted.ensures.ok
 
 pub returns-in-None-clause-ok : goal.returns-in-None-clause-ok
 returns-in-None-clause-ok g c =
     let here = c.in_ok-id-in-Eval in
-    let inside = inside_leaf g.P.Port.code c.enter.new.self here.id here.node.now _ here.ensures.at here.ensures.leaf c.is_canceled.ensures in
+    let inside = inside_leaf g.P.Port.theory.code c.enter.new.self here.id here.node.now _ here.ensures.at here.ensures.leaf c.is_canceled.ensures in
     IfOk-weaker c.leaf_rule.result
-    (λ m. MakesCall g.P.Port.calls g.P.Port.agrees g.P.Port.facts g.P.Port.code c.enter.new.self c.interruption.new.port c.interruption.new.shared
+    (λ m. MakesCall g.P.Port.theory c.enter.new.self c.interruption.new.port c.interruption.new.shared
     m c.leaf_rule.new.self c.leaf_rule.new.port c.leaf_rule.new.shared) _
-    (λ m h. rule_advances g.P.Port.calls g.P.Port.agrees g.P.Port.facts g.P.Port.code c.args.machine.now c.enter.new.self _ _ _ _ _
+    (λ m h. rule_advances g.P.Port.theory c.args.machine.now c.enter.new.self _ _ _ _ _
     here.ensures.same inside m _ _ _ c.in-None.ensures.first h)
     c.leaf_rule.ensures.ok
 
 pub returns-in-None-interruption-clause-ok : goal.returns-in-None-interruption-clause-ok
 returns-in-None-interruption-clause-ok g c =
     let s = c.args.machine.now in
-    let inside = inside_result g.P.Port.code s c.in-Return.done c.requires.sound c.in-Return.is in
-    IfOk-weaker c.result_rule.result (λ m. MakesRule g.P.Port.code s m c.result_rule.new.self) _
-    (λ m h. rule_advances g.P.Port.calls g.P.Port.agrees g.P.Port.facts g.P.Port.code s s _ _ _ _ _
-    (same_here g.P.Port.code s c.requires.sound) inside m _ _ _ c.in-None-interruption.ensures.first
-    (local_call g.P.Port.calls g.P.Port.agrees g.P.Port.facts g.P.Port.code s _ _ _ _ m _ refl refl h))
+    let inside = inside_result g.P.Port.theory.code s c.in-Return.done c.requires.sound c.in-Return.is in
+    IfOk-weaker c.result_rule.result (λ m. MakesRule g.P.Port.theory.code s m c.result_rule.new.self) _
+    (λ m h. rule_advances g.P.Port.theory s s _ _ _ _ _
+    (same_here g.P.Port.theory.code s c.requires.sound) inside m _ _ _ c.in-None-interruption.ensures.first
+    (local_call g.P.Port.theory s _ _ _ _ m _ refl refl h))
     c.result_rule.ensures.ok
 
 pub returns-in_ok-turn_rule-in-None-interruption-2-clause-ok : goal.returns-in_ok-turn_rule-in-None-interruption-2-clause-ok
 returns-in_ok-turn_rule-in-None-interruption-2-clause-ok g c =
     let s = c.args.machine.now in
-    let inside = inside_loop g.P.Port.code s c.in-Turn.id c.in-Turn.turn c.requires.sound c.in-Turn.is in
-    rule_advances g.P.Port.calls g.P.Port.agrees g.P.Port.facts g.P.Port.code s s _ _ _ _ _
-    (same_here g.P.Port.code s c.requires.sound) inside Silent _ _ _ c.in-None-interruption-2.ensures.first
-    (local_call g.P.Port.calls g.P.Port.agrees g.P.Port.facts g.P.Port.code s _ _ _ _ Silent _ refl refl
+    let inside = inside_loop g.P.Port.theory.code s c.in-Turn.id c.in-Turn.turn c.requires.sound c.in-Turn.is in
+    rule_advances g.P.Port.theory s s _ _ _ _ _
+    (same_here g.P.Port.theory.code s c.requires.sound) inside Silent _ _ _ c.in-None-interruption-2.ensures.first
+    (local_call g.P.Port.theory s _ _ _ _ Silent _ refl refl
     c.in_ok-turn_rule-in-None-interruption-2.ensures.ok)
 
 pub returns-in-Await-clause-ok : goal.returns-in-Await-clause-ok
 returns-in-Await-clause-ok g c =
-    await_advances g.P.Port.calls g.P.Port.agrees g.P.Port.facts g.P.Port.code c.args.machine.now c.in-Await.fiber _ _ _ _ _ _ c.requires.sound c.in-Await.is
+    await_advances g.P.Port.theory c.args.machine.now c.in-Await.fiber _ _ _ _ _ _ c.requires.sound c.in-Await.is
     c.awaits.ensures

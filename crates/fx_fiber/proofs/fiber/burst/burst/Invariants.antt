@@ -7,4 +7,4 @@ abbrev pub ghost-rules_before_look : goal.ghost-rules_before_look
 ghost-rules_before_look g a = g.outset
 
 abbrev pub ghost-seen : goal.ghost-seen
-ghost-seen g a = g.P.Port.code
+ghost-seen g a = g.P.Port.theory.code

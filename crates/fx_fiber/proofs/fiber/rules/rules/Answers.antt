@@ -11,7 +11,7 @@ returns-in_err-glide-clause-err g c =
     on_any_error c.from_residual.result (
       c.loop-made.made,
       c.loop-made-test.true,
-      no_further g.P.Port.calls g.P.Port.facts g.P.Port.code g.P.Port.total g.P.Port.agrees _ _ c.loop-made.made _ _ _
+      no_further g.P.Port.theory _ _ c.loop-made.made _ _ _
           c.loop-made.body.machine c.glide.new.machine _ _ c.loop-made.invariant.to c.in_err-glide.ensures.same refl,
     )
 
@@ -22,8 +22,7 @@ returns-in_err-reserve-in-Showed-clause-err g c =
     (rw c.in_err-reserve-in-Showed.ensures.items (
       c.loop-made.made + 1,
       c.if-made-most.true,
-      rw add-one (one_more_shown g.P.Port.calls g.P.Port.facts
-          g.P.Port.code g.P.Port.total g.P.Port.agrees _ _ c.loop-made.made _ _ _ c.loop-made.body.machine c.glide.new.machine _ _ _ _ c.in-Showed.event
+      rw add-one (one_more_shown g.P.Port.theory _ _ c.loop-made.made _ _ _ c.loop-made.body.machine c.glide.new.machine _ _ _ _ c.in-Showed.event
           c.loop-made.invariant.to h.0 h.1 c.push_reserved.ensures.items),
     ))
 
@@ -31,7 +30,7 @@ pub returns-in-Looks-clause-ok : goal.returns-in-Looks-clause-ok
 returns-in-Looks-clause-ok g c =
     let h = rw c.in-Looks.is at c.in_ok-glide.ensures.ok in (
       c.loop-made-test.true,
-      no_further g.P.Port.calls g.P.Port.facts g.P.Port.code g.P.Port.total g.P.Port.agrees _ _ c.loop-made.made _ _ _
+      no_further g.P.Port.theory _ _ c.loop-made.made _ _ _
           c.loop-made.body.machine c.glide.new.machine _ _ c.loop-made.invariant.to h.0 refl,
       h.1,
       c.loop-made.invariant.room c.loop-made-test.true,
@@ -41,7 +40,7 @@ pub returns-in-Stops-clause-ok : goal.returns-in-Stops-clause-ok
 returns-in-Stops-clause-ok g c =
     let h = rw c.in-Stops.is at c.in_ok-glide.ensures.ok in (
       let lt = c.loop-made-test.true in omega arith,
-      no_further g.P.Port.calls g.P.Port.facts g.P.Port.code g.P.Port.total g.P.Port.agrees _ _ c.loop-made.made _ _ _
+      no_further g.P.Port.theory _ _ c.loop-made.made _ _ _
           c.loop-made.body.machine c.glide.new.machine _ _ c.loop-made.invariant.to h refl,
     )
 
@@ -53,9 +52,9 @@ loop-made-preserved g c =
           let h = rw w.in-Went.is at c.in_ok-glide.ensures.ok in
           rw w.body-is
           (record {
-            to = rw add-one (one_more_rule g.P.Port.calls g.P.Port.facts g.P.Port.code g.P.Port.total g.P.Port.agrees _ _ c.loop-made.made _ _ _
+            to = rw add-one (one_more_rule g.P.Port.theory _ _ c.loop-made.made _ _ _
                 c.loop-made.body.machine c.glide.new.machine _ _ _ i.to h);
-            looked = still_looked g.P.Port.calls g.P.Port.facts g.P.Port.code c.args.looked _ _ c.loop-made.body.machine c.glide.new.machine Silent
+            looked = still_looked g.P.Port.theory c.args.looked _ _ c.loop-made.body.machine c.glide.new.machine Silent
                 h.rule.1 tt i.looked;
             room = λ lt. i.room c.loop-made-test.true;
             id = i.id;
@@ -65,9 +64,9 @@ loop-made-preserved g c =
           let h = rw w.in-Showed.is at c.in_ok-glide.ensures.ok in
           rw (w.body-is, w.in_ok-reserve-in-Showed.ensures.items)
           (record {
-            to = rw add-one (one_more_shown g.P.Port.calls g.P.Port.facts g.P.Port.code g.P.Port.total g.P.Port.agrees _ _ c.loop-made.made _ _ _
+            to = rw add-one (one_more_shown g.P.Port.theory _ _ c.loop-made.made _ _ _
                 c.loop-made.body.machine c.glide.new.machine _ _ _ _ w.in-Showed.event i.to h.0 h.1 w.push_reserved.ensures.items);
-            looked = still_looked g.P.Port.calls g.P.Port.facts g.P.Port.code c.args.looked _ _ c.loop-made.body.machine c.glide.new.machine
+            looked = still_looked g.P.Port.theory c.args.looked _ _ c.loop-made.body.machine c.glide.new.machine
                 (Shows w.in-Showed.event) h.0.rule h.1 i.looked;
             room = λ lt. let ok = w.in_ok-reserve-in-Showed.ensures.ok in omega arith;
             id = i.id;
@@ -77,9 +76,9 @@ loop-made-preserved g c =
           let h = rw w.in-Showed.is at c.in_ok-glide.ensures.ok in
           rw w.body-is
           (record {
-            to = rw add-one (one_more_shown g.P.Port.calls g.P.Port.facts g.P.Port.code g.P.Port.total g.P.Port.agrees _ _ c.loop-made.made _ _ _
+            to = rw add-one (one_more_shown g.P.Port.theory _ _ c.loop-made.made _ _ _
                 c.loop-made.body.machine c.glide.new.machine _ _ _ _ w.in-Showed.event i.to h.0 h.1 w.push_reserved.ensures.items);
-            looked = still_looked g.P.Port.calls g.P.Port.facts g.P.Port.code c.args.looked _ _ c.loop-made.body.machine c.glide.new.machine
+            looked = still_looked g.P.Port.theory c.args.looked _ _ c.loop-made.body.machine c.glide.new.machine
                 (Shows w.in-Showed.event) h.0.rule h.1 i.looked;
             room = λ lt. absurd (let not = w.if-made-most.false in omega arith);
             id = i.id;

@@ -9,6 +9,6 @@ returns-in_err-comes_inside-clause-err g c =
     on_any_error c.from_residual.result (
       0,
       asked.1.0,
-      no_further g.P.Port.calls g.P.Port.facts g.P.Port.code g.P.Port.total g.P.Port.agrees _ _ 0 _ _ _ c.args.body.now.machine
+      no_further g.P.Port.theory _ _ 0 _ _ _ c.args.body.now.machine
           c.comes_inside.new.self _ _ asked.1.1.0 c.comes_inside.ensures.same refl,
     )

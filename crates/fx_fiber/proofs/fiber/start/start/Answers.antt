@@ -17,14 +17,14 @@ child_of-requires g c =
     let at = c.requires.stands.1 in
     let k = c.requires.kept in (
       c.requires.code,
-      ((c.requires.stands.0, c.args.then, at.at), (child_within g.P.Port.code c.args.body.now.machine _ _ _ _ at.at at.free k.room, k.word)),
+      ((c.requires.stands.0, c.args.then, at.at), (child_within g.P.Port.theory.code c.args.body.now.machine _ _ _ _ at.at at.free k.room, k.word)),
     )
 
 pub start-requires : goal.start-requires
 start-requires g c =
     let at = c.requires.stands.1 in
     let k = c.requires.kept in
-    let p = child_within g.P.Port.code c.args.body.now.machine _ _ _ _ at.at at.free k.room in
+    let p = child_within g.P.Port.theory.code c.args.body.now.machine _ _ _ _ at.at at.free k.room in
     record {
       range = rw (k.numbers, c.in_ok-begin.ensures.begin) (record { number = refl; follows = refl; ordered = omega arith; within = p });
       going = c.requires.going;
@@ -32,12 +32,12 @@ start-requires g c =
 
 pub returns-in_err-begin-clause-same : goal.returns-in_err-begin-clause-same
 returns-in_err-begin-clause-same g c =
-    on_any_error {P = IsSame g.P.Port.code c.args.body.now.machine c.child_of.new.machine} _
-    (rw c.in_err-begin.ensures.err (same_here g.P.Port.code c.args.body.now.machine c.requires.kept.sound))
+    on_any_error {P = IsSame g.P.Port.theory.code c.args.body.now.machine c.child_of.new.machine} _
+    (rw c.in_err-begin.ensures.err (same_here g.P.Port.theory.code c.args.body.now.machine c.requires.kept.sound))
 
 pub returns-in_err-own-clause-same : goal.returns-in_err-own-clause-same
 returns-in_err-own-clause-same g c =
-    on_any_error _ (start_stays g.P.Port.code c.args.body.now.machine _ _ _ _ c.requires.stands.1.at _ _ c.in_ok-begin.ensures.named)
+    on_any_error _ (start_stays g.P.Port.theory.code c.args.body.now.machine _ _ _ _ c.requires.stands.1.at _ _ c.in_ok-begin.ensures.named)
 
 pub push_reserved-requires : goal.push_reserved-requires
 push_reserved-requires g c = c.requires.room
@@ -48,13 +48,13 @@ beginning-requires g c =
     let k = c.requires.kept in
     let s = c.args.body.now.machine in
     let own = c.in_ok-own.ensures in
-    let p = child_within g.P.Port.code s _ _ _ _ at.at at.free k.room in
+    let p = child_within g.P.Port.theory.code s _ _ _ _ at.at at.free k.room in
     let begin = ap (λ (f : Facts). f.beginning) own.child_facts ∙ c.in_ok-begin.ensures.begin in
     record {
-      body = rw own.child_facts c.in_ok-begin.ensures.body;
-      countable = rw begin (part_works g.P.Port.code s _ _ _ _ at.at at.free _ k.countable);
-      scoped = rw begin (part_scoped g.P.Port.code s _ _ _ _ at.at at.free k.room k.word k.scoped);
-      room = let n = need_is g.P.Port.code s _ _ _ _ at.at in rw begin (omega arith);
+      body = rw (own.child_facts, c.have.ensures, c.deref_mut.ensures.value) c.in_ok-begin.ensures.body;
+      countable = rw begin (part_works g.P.Port.theory.code s _ _ _ _ at.at at.free _ k.countable);
+      scoped = rw begin (part_scoped g.P.Port.theory.code s _ _ _ _ at.at at.free k.room k.word k.scoped);
+      room = let n = need_is g.P.Port.theory.code s _ _ _ _ at.at in rw begin (omega arith);
       word = let w = k.word in rw begin (omega arith);
       within = let w = k.within in rw begin (omega arith);
       below = let w = k.within in rw own.child_facts (omega arith);
@@ -66,17 +66,18 @@ pub returns-clause-started : goal.returns-clause-started
 returns-clause-started g c =
     let at = c.requires.stands.1 in
     let s = c.args.body.now.machine in
-    let begins = begins_so g.P.Port.code s _ _ _ _ at.at in
+    let begins = begins_so g.P.Port.theory.code s _ _ _ _ at.at in
     let begun = c.in_ok-begin.ensures in
     record {
-      origin = child_origin s.next (part g.P.Port.code s c.requires.stands.0 _ _ _ at.at);
-      rule = start_makes g.P.Port.code s _ _ _ _ at.at at.free c.child_of.new.machine c.in_ok-begin.begin begun.named begun.begin;
+      origin = child_origin s.next (part g.P.Port.theory.code s c.requires.stands.0 _ _ _ at.at);
+      rule = start_makes g.P.Port.theory.code s _ _ _ _ at.at at.free c.child_of.new.machine c.in_ok-begin.begin begun.named begun.begin;
       traced = c.push_reserved.ensures.items;
-      first = subst (λ (o : Origin). IsAtFirst g.P.Port.code o c.beginning.result)
-          (ap (origin_of g.P.Port.code) (ap (λ (f : Facts). f.beginning) c.in_ok-own.ensures.child_facts ∙ begun.begin) ∙ begins) c.beginning.ensures.first;
+      first = subst (λ (o : Origin). IsAtFirst g.P.Port.theory.code o c.beginning.result)
+          (ap (origin_of g.P.Port.theory.code) (ap (λ (f : Facts). f.beginning) c.in_ok-own.ensures.child_facts ∙ begun.begin) ∙ begins)
+          c.beginning.ensures.first;
       told = record {
         begin = c.in_ok-begin.begin;
-        begins = ap (origin_of g.P.Port.code) begun.begin ∙ begins;
+        begins = ap (origin_of g.P.Port.theory.code) begun.begin ∙ begins;
         told = rw c.beginning.ensures.port c.in_ok-own.ensures.told;
         facts_are = rw c.beginning.ensures.port c.in_ok-own.ensures.child_facts;
       };
@@ -88,14 +89,14 @@ returns-clause-kept g c =
     let s = c.args.body.now.machine in
     let k = c.requires.kept in
     let begun = c.in_ok-begin.ensures in
-    let begins = ap (origin_of g.P.Port.code) begun.begin ∙ begins_so g.P.Port.code s _ _ _ _ at.at in
+    let begins = ap (origin_of g.P.Port.theory.code) begun.begin ∙ begins_so g.P.Port.theory.code s _ _ _ _ at.at in
     let begin = c.in_ok-begin.begin in
     let m = c.child_of.new.machine in
     let own = c.in_ok-own.ensures in
-    kept_step g.P.Port.code g.P.Port.total _ _ _ _ _ _ s _
-    (Starts s.next (child_origin s.next (part g.P.Port.code s _ _ _ _ at.at)))
-    (Started s.next begin ∷ []) (begin, begins, refl) k (start_makes g.P.Port.code s _ _ _ _ at.at at.free m begin begun.named begun.begin)
-    (start_sound g.P.Port.code s _ _ _ _ at.at m begin begun.named) c.push_reserved.ensures.items
+    kept_step g.P.Port.theory _ _ _ _ s _
+    (Starts s.next (child_origin s.next (part g.P.Port.theory.code s _ _ _ _ at.at)))
+    (Started s.next begin ∷ []) (begin, begins, refl) k (start_makes g.P.Port.theory.code s _ _ _ _ at.at at.free m begin begun.named begun.begin)
+    (start_sound g.P.Port.theory.code s _ _ _ _ at.at m begin begun.named) c.push_reserved.ensures.items
     own.deed (ap (λ (f : Facts). f.beginning) own.facts) (ap (λ (f : Facts). f.has_finished) own.facts ∙ c.requires.going)
-    (ap (λ (f : Facts). f.range) own.facts ∙ ap (range_after begin) k.numbers ∙ start_range g.P.Port.code s _ _ _ _ at.at m begin begun.named)
+    (ap (λ (f : Facts). f.range) own.facts ∙ ap (range_after begin) k.numbers ∙ start_range g.P.Port.theory.code s _ _ _ _ at.at m begin begun.named)
     (ap (λ (f : Facts). f.puts) own.facts)

@@ -13,7 +13,7 @@ advance-requires g c =
     record {
       code = c.requires.code;
       sound = k.sound;
-      going = going_at g.P.Port.code s.registers s.frames s.masks.regions s.cleanups s.focus c.requires.going;
+      going = going_at g.P.Port.theory.code s.registers s.frames s.masks.regions s.cleanups s.focus c.requires.going;
       masks_countable = let q = k.countable in omega arith;
       resources_countable = let q = k.countable in omega arith;
       puts_countable = let q = k.countable in omega arith;
@@ -25,13 +25,12 @@ returns-in_err-reserve g c =
     let k = c.requires.kept in
     let s = c.args.body.now.machine in
     let p = c.args.port.now in
-    let same = same_here g.P.Port.code s k.sound in
+    let same = same_here g.P.Port.theory.code s k.sound in
     let items = c.in_err-reserve.ensures.items in
     record {
       ok = IfOk-from_err c.from_residual.result _ c.from_residual.ensures.0;
-      err = on_any_error c.from_residual.result (same_is_unchanged g.P.Port.code p p _ _ s s _ _ same refl items, refl);
-      kept = same_is_kept g.P.Port.code g.P.Port.total g.P.Port.facts g.P.Port.agrees
-          p p _ _ s s k same refl items;
+      err = on_any_error c.from_residual.result (same_is_unchanged g.P.Port.theory.code p p _ _ s s _ _ same refl items, refl);
+      kept = same_is_kept g.P.Port.theory p p _ _ s s k same refl items;
       id = refl;
       source = refl;
       number = refl;
@@ -47,10 +46,11 @@ returns-in_err-made g c =
     let items = c.in_ok-reserve.ensures.items in
     record {
       ok = IfOk-from_err c.from_residual-in_err-made.result _ c.from_residual-in_err-made.ensures.0;
-      err = on_any_error c.from_residual-in_err-made.result
-          (same_is_unchanged g.P.Port.code p c.advance.new.port _ _ s c.advance.new.machine _ _ failed.same failed.unchanged.0 items, failed.unchanged.1);
-      kept = same_is_kept g.P.Port.code g.P.Port.total g.P.Port.facts g.P.Port.agrees
-          p c.advance.new.port _ _ s c.advance.new.machine k failed.same failed.unchanged.0 items;
+      err = on_any_error c.from_residual-in_err-made.result (
+        same_is_unchanged g.P.Port.theory.code p c.advance.new.port _ _ s c.advance.new.machine _ _ failed.same failed.unchanged.0 items,
+        failed.unchanged.1,
+      );
+      kept = same_is_kept g.P.Port.theory p c.advance.new.port _ _ s c.advance.new.machine k failed.same failed.unchanged.0 items;
       id = refl;
       source = refl;
       number = rw failed.unchanged.0 refl;
@@ -63,8 +63,8 @@ start-requires-clause-stands g c = let due = rw c.in-Starts.is at c.in_ok-made.e
 pub start-requires-clause-kept : goal.start-requires-clause-kept
 start-requires-clause-kept g c =
     let due = rw c.in-Starts.is at c.in_ok-made.ensures.ok in
-    same_is_kept g.P.Port.code g.P.Port.total g.P.Port.facts g.P.Port.agrees c.args.port.now
-    c.advance.new.port _ _ c.args.body.now.machine c.advance.new.machine c.requires.kept due.rule.same due.asks.1.0 c.in_ok-reserve.ensures.items
+    same_is_kept g.P.Port.theory c.args.port.now c.advance.new.port _ _
+    c.args.body.now.machine c.advance.new.machine c.requires.kept due.rule.same due.asks.1.0 c.in_ok-reserve.ensures.items
 
 pub start-requires-clause-going : goal.start-requires-clause-going
 start-requires-clause-going g c = ap (λ (f : Facts). f.has_finished) c.in_ok-made.ensures.ok.facts_are ∙ c.requires.kept.ended ∙ c.requires.going
@@ -77,15 +77,14 @@ returns-in_err-child g c =
     let p = c.args.port.now in
     let t = c.start.new.body.machine in
     let q = c.start.new.port in
-    let same = same_trans g.P.Port.code s c.advance.new.machine t due.rule.same failed.same in
+    let same = same_trans g.P.Port.theory.code s c.advance.new.machine t due.rule.same failed.same in
     let port = failed.unchanged.0 ∙ due.asks.1.0 in
     let items = failed.trace ∙ c.in_ok-reserve.ensures.items in
     record {
       ok = IfOk-from_err c.from_residual-in_err-child.result _ c.from_residual-in_err-child.ensures.0;
       err = on_any_error c.from_residual-in_err-child.result
-          (same_is_unchanged g.P.Port.code p q _ _ s t _ _ same port items, failed.unchanged.1 ∙ due.asks.1.1);
-      kept = same_is_kept g.P.Port.code g.P.Port.total g.P.Port.facts g.P.Port.agrees
-          p q _ _ s t c.requires.kept same port items;
+          (same_is_unchanged g.P.Port.theory.code p q _ _ s t _ _ same port items, failed.unchanged.1 ∙ due.asks.1.1);
+      kept = same_is_kept g.P.Port.theory p q _ _ s t c.requires.kept same port items;
       id = c.start.ensures.id;
       source = c.start.ensures.source;
       number = c.start.ensures.number ∙ ap (λ (f : Facts). f.number) c.in_ok-made.ensures.ok.facts_are;
@@ -97,7 +96,7 @@ returns-in-Starts g c =
     let due = rw c.in-Starts.is at c.in_ok-made.ensures.ok in
     let started = c.in_ok-child.ensures in
     record {
-      ok = start_does g.P.Port.calls g.P.Port.agrees g.P.Port.facts g.P.Port.code _ _ _ _ _ _ _ _ _ _ _ _ _ _
+      ok = start_does g.P.Port.theory _ _ _ _ _ _ _ _ _ _ _ _ _ _
           c.in-Starts.slot c.in-Starts.started c.in-Starts.then c.in_ok-child.child due started.started c.in_ok-reserve.ensures.items;
       err = tt;
       kept = started.kept;
@@ -121,14 +120,12 @@ returns g c =
     let a = c.in_ok-made.ensures.ok in
     let told = c.tell.ensures in
     let items = rw c.in_ok-reserve.ensures.items at told.trace in
-    let same = told_same g.P.Port.calls g.P.Port.agrees g.P.Port.facts g.P.Port.code _ _ _ _ _ _ [] [] _ _ m a told.told in
+    let same = told_same g.P.Port.theory _ _ _ _ _ _ [] [] _ _ m a told.told in
     record {
-      ok = told_steps g.P.Port.calls g.P.Port.agrees g.P.Port.facts g.P.Port.code
-          _ _ _ _ _ _ _ _ _ _ _ _ m c.tell.result
+      ok = told_steps g.P.Port.theory _ _ _ _ _ _ _ _ _ _ _ _ m c.tell.result
           c.tell.new.body.machine told.answer told.machine is a told.told items;
       err = tt;
-      kept = rw told.machine (told_keeps g.P.Port.calls g.P.Port.agrees g.P.Port.facts g.P.Port.code
-          _ _ _ _ _ _ _ _ _ _ g.P.Port.total k c.requires.going m is a told.told items);
+      kept = rw told.machine (told_keeps g.P.Port.theory _ _ _ _ _ _ _ _ _ _ k c.requires.going m is a told.told items);
       id = told.id;
       source = told.source;
       number = same.0;

@@ -4,26 +4,26 @@ use Rattle.fx_fiber.proofs.Fibers.{left_within, right_within, left_fits, right_f
 use Rattle.fx_fiber.proofs.machine.Machine.first.Goals as goal
 
 pub fiber_of-left-requires-clause-bound : goal.fiber_of-left-requires-clause-bound
-fiber_of-left-requires-clause-bound g c = left_within g.P.Port.code c.args.self.now c.requires.at.0 c.args.left c.args.right c.requires.at.1.at
+fiber_of-left-requires-clause-bound g c = left_within g.P.Port.theory.code c.args.self.now c.requires.at.0 c.args.left c.args.right c.requires.at.1.at
 
 pub fiber_of-left-requires-clause-fits : goal.fiber_of-left-requires-clause-fits
 fiber_of-left-requires-clause-fits g c =
-    left_fits g.P.Port.code c.args.self.now c.requires.at.0 c.args.left c.args.right c.requires.at.1.at c.requires.scoped
+    left_fits g.P.Port.theory.code c.args.self.now c.requires.at.0 c.args.left c.args.right c.requires.at.1.at c.requires.scoped
 
 pub fiber_of-right-requires-clause-bound : goal.fiber_of-right-requires-clause-bound
-fiber_of-right-requires-clause-bound g c = right_within g.P.Port.code c.args.self.now c.requires.at.0 c.args.left c.args.right c.requires.at.1.at
+fiber_of-right-requires-clause-bound g c = right_within g.P.Port.theory.code c.args.self.now c.requires.at.0 c.args.left c.args.right c.requires.at.1.at
 
 pub fiber_of-right-requires-clause-fits : goal.fiber_of-right-requires-clause-fits
 fiber_of-right-requires-clause-fits g c =
-    right_fits g.P.Port.code c.args.self.now c.requires.at.0 c.args.left c.args.right c.requires.at.1.at c.requires.scoped
+    right_fits g.P.Port.theory.code c.args.self.now c.requires.at.0 c.args.left c.args.right c.requires.at.1.at c.requires.scoped
 
 pub returns-in-Some : goal.returns-in-Some
 returns-in-Some g c =
     let s = c.args.self.now in
     let stands = c.requires.at.1 in
-    learns_call g.P.Port.calls g.P.Port.agrees g.P.Port.facts g.P.Port.code s _ _ _ _ _ _ _ _
-    (result_sound g.P.Port.code s c.requires.at.0 c.args.left c.args.right stands.at 0)
-    (left_step g.P.Port.code s c.requires.at.0 c.args.left c.args.right stands.at _ _ c.fiber_of-left.ensures c.fiber_of-right.ensures stands.free
+    learns_call g.P.Port.theory s _ _ _ _ _ _ _ _
+    (result_sound g.P.Port.theory.code s c.requires.at.0 c.args.left c.args.right stands.at 0)
+    (left_step g.P.Port.theory.code s c.requires.at.0 c.args.left c.args.right stands.at _ _ c.fiber_of-left.ensures c.fiber_of-right.ensures stands.free
     c.in-Some.outcome)
     tt c.in-Some.ensures.told c.in-Some.ensures.deed c.in-Some.ensures.facts
 
@@ -32,11 +32,11 @@ returns-in-Some-peek g c =
     let s = c.args.self.now in
     let stands = c.requires.at.1 in
     let same = c.in-None.ensures.unchanged in
-    learns_call g.P.Port.calls g.P.Port.agrees g.P.Port.facts g.P.Port.code s _ _ _ _ _ _ _ _
-    (result_sound g.P.Port.code s c.requires.at.0 c.args.left c.args.right stands.at 1)
-    (right_step g.P.Port.code s c.requires.at.0 c.args.left c.args.right stands.at _ _ c.fiber_of-left.ensures c.fiber_of-right.ensures stands.free
+    learns_call g.P.Port.theory s _ _ _ _ _ _ _ _
+    (result_sound g.P.Port.theory.code s c.requires.at.0 c.args.left c.args.right stands.at 1)
+    (right_step g.P.Port.theory.code s c.requires.at.0 c.args.left c.args.right stands.at _ _ c.fiber_of-left.ensures c.fiber_of-right.ensures stands.free
     c.in-Some-peek.outcome)
-    (rw (first_leaf g.P.Port.code s c.requires.at.0 c.args.left c.args.right stands.at _ _ c.fiber_of-left.ensures c.fiber_of-right.ensures stands.free)
+    (rw (first_leaf g.P.Port.theory.code s c.requires.at.0 c.args.left c.args.right stands.at _ _ c.fiber_of-left.ensures c.fiber_of-right.ensures stands.free)
     (rw (same.0, same.1) at c.in-None.ensures.told))
     (rw (same.0, same.1) at c.in-Some-peek.ensures.told) (rw same.0 at c.in-Some-peek.ensures.deed)
     (rw same.0 at c.in-Some-peek.ensures.facts)
@@ -48,6 +48,6 @@ returns-in-None-peek g c =
     let same = c.in-None.ensures.unchanged in
     let again = c.in-None-peek.ensures.unchanged in
     let second = rw (again.0, again.1) at c.in-None-peek.ensures.told in
-    waits_call g.P.Port.calls g.P.Port.agrees g.P.Port.facts g.P.Port.code s s _ _ _ _ _
-    (first_waits g.P.Port.code s c.requires.at.0 c.args.left c.args.right stands.at _ _ c.fiber_of-left.ensures c.fiber_of-right.ensures stands.free)
+    waits_call g.P.Port.theory s s _ _ _ _ _
+    (first_waits g.P.Port.theory.code s c.requires.at.0 c.args.left c.args.right stands.at _ _ c.fiber_of-left.ensures c.fiber_of-right.ensures stands.free)
     (rw (same.0, same.1) at c.in-None.ensures.told, rw (same.0, same.1) at second) (again.0 ∙ same.0) (again.1 ∙ same.1)

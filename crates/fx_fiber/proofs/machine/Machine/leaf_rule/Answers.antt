@@ -37,8 +37,8 @@ local_rule-requires g c =
 pub returns-in-Never-clause-ok : goal.returns-in-Never-clause-ok
 returns-in-Never-clause-ok g c =
     let stands = rw c.in-Never.is at c.requires.at in
-    waits_call g.P.Port.calls g.P.Port.agrees g.P.Port.facts g.P.Port.code _ _ _ _ _ _ _
-    (never_waits g.P.Port.code c.args.self.now c.args.id stands.at stands.free) tt refl
+    waits_call g.P.Port.theory _ _ _ _ _ _ _
+    (never_waits g.P.Port.theory.code c.args.self.now c.args.id stands.at stands.free) tt refl
     refl
 
 pub returns-in-Start-clause-ok : goal.returns-in-Start-clause-ok

@@ -5,7 +5,7 @@ use Rattle.fx_term.specs.declared.done.Done.TheVariants.{Val}
 use Rattle.fx_fiber.proofs.machine.Machine.offer.Goals as goal
 
 pub number_of-value-requires : goal.number_of-value-requires
-number_of-value-requires g c = offer_within g.P.Port.code c.args.self.now c.requires.at.0 c.args.queue c.args.value c.requires.at.1.at
+number_of-value-requires g c = offer_within g.P.Port.theory.code c.args.self.now c.requires.at.0 c.args.queue c.args.value c.requires.at.1.at
 
 pub returns-in-Done-clause-ok : goal.returns-in-Done-clause-ok
 returns-in-Done-clause-ok g c =
@@ -13,8 +13,8 @@ returns-in-Done-clause-ok g c =
     let id = c.requires.at.0 in
     let stands = c.requires.at.1 in
     record {
-      sound = returned_sound g.P.Port.code s id (node.Offer c.args.queue c.args.value) stands.at (Val 0);
-      rule = offer_step g.P.Port.code s id c.args.queue c.args.value stands.at c.number_of-value.result c.number_of-value.ensures stands.free;
+      sound = returned_sound g.P.Port.theory.code s id (node.Offer c.args.queue c.args.value) stands.at (Val 0);
+      rule = offer_step g.P.Port.theory.code s id c.args.queue c.args.value stands.at c.number_of-value.result c.number_of-value.ensures stands.free;
       own = tt;
       told = rw c.in-Done.is at c.in_ok-offer.ensures.told;
       agreed = rw c.in-Done.is at c.in_ok-offer.ensures.deed;
@@ -28,7 +28,7 @@ returns-in-Full-clause-ok g c =
     let stands = c.requires.at.1 in
     let same = rw c.in-Full.is at c.in_ok-offer.ensures.full in
     let told = rw c.in-Full.is at c.in_ok-offer.ensures.told in
-    waits_call g.P.Port.calls g.P.Port.agrees g.P.Port.facts g.P.Port.code s s _ _ _ _ _
-    (offer_waits g.P.Port.code s id c.args.queue c.args.value stands.at c.number_of-value.result c.number_of-value.ensures stands.free)
-    (rw (offered_value g.P.Port.code s id c.args.queue c.args.value stands.at c.number_of-value.result c.number_of-value.ensures)
+    waits_call g.P.Port.theory s s _ _ _ _ _
+    (offer_waits g.P.Port.theory.code s id c.args.queue c.args.value stands.at c.number_of-value.result c.number_of-value.ensures stands.free)
+    (rw (offered_value g.P.Port.theory.code s id c.args.queue c.args.value stands.at c.number_of-value.result c.number_of-value.ensures)
     (rw (same.0, same.1) at told)) same.0 same.1

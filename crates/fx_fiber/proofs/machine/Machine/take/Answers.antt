@@ -10,8 +10,8 @@ returns-in-Some g c =
     let id = c.requires.at.0 in
     let stands = c.requires.at.1 in
     record {
-      sound = returned_sound g.P.Port.code s id (node.Take c.args.queue) stands.at (Val c.in-Some.value);
-      rule = take_step g.P.Port.code s id c.args.queue stands.at stands.free c.in-Some.value;
+      sound = returned_sound g.P.Port.theory.code s id (node.Take c.args.queue) stands.at (Val c.in-Some.value);
+      rule = take_step g.P.Port.theory.code s id c.args.queue stands.at stands.free c.in-Some.value;
       own = tt;
       told = c.in-Some.ensures.told;
       agreed = c.in-Some.ensures.deed;
@@ -23,6 +23,6 @@ returns-in-None g c =
     let s = c.args.self.now in
     let stands = c.requires.at.1 in
     let same = c.in-None.ensures.unchanged in
-    waits_call g.P.Port.calls g.P.Port.agrees g.P.Port.facts g.P.Port.code s s _ _ _ _ _
-    (take_waits g.P.Port.code s c.requires.at.0 c.args.queue stands.at stands.free)
+    waits_call g.P.Port.theory s s _ _ _ _ _
+    (take_waits g.P.Port.theory.code s c.requires.at.0 c.args.queue stands.at stands.free)
     (rw (same.0, same.1) at c.in-None.ensures.told) same.0 same.1

@@ -3,17 +3,17 @@ use Rattle.fx_fiber.proofs.QueueLeaves.{try_take_reaches, try_take_has_register,
 use Rattle.fx_fiber.proofs.machine.Machine.try_take.Goals as goal
 
 pub bind-requires : goal.bind-requires
-bind-requires g c = let stands = rw c.in-TryTake.is at c.requires.at in try_take_reaches g.P.Port.code c.args.self.now c.args.id _ _ _ _ stands.at
+bind-requires g c = let stands = rw c.in-TryTake.is at c.requires.at in try_take_reaches g.P.Port.theory.code c.args.self.now c.args.id _ _ _ _ stands.at
 
 pub rebind-requires : goal.rebind-requires
 rebind-requires g c =
     let stands = rw c.in-TryTake.is at c.requires.at in
-    rw c.in_ok-bind.ensures.ok (try_take_has_register g.P.Port.code c.args.self.now c.args.id _ _ _ _ stands.at)
+    rw c.in_ok-bind.ensures.ok (try_take_has_register g.P.Port.theory.code c.args.self.now c.args.id _ _ _ _ stands.at)
 
 pub returns-in-Some-clause-ok : goal.returns-in-Some-clause-ok
 returns-in-Some-clause-ok g c =
     let stands = rw c.in-TryTake.is at c.requires.at in
-    let on = try_take_goes_on g.P.Port.code c.args.self.now c.args.id _ _ _ _ stands.at stands.free c.in-Some.value _
+    let on = try_take_goes_on g.P.Port.theory.code c.args.self.now c.args.id _ _ _ _ stands.at stands.free c.in-Some.value _
     (rw (c.rebind.ensures, c.in_ok-bind.ensures.ok) refl) in
     record {
       sound = on.0;
@@ -27,7 +27,7 @@ returns-in-Some-clause-ok g c =
 pub returns-in-None-clause-ok : goal.returns-in-None-clause-ok
 returns-in-None-clause-ok g c =
     let stands = rw c.in-TryTake.is at c.requires.at in
-    let on = found_empty_goes_on g.P.Port.code c.args.self.now c.args.id _ _ _ _ stands.at stands.free _ (rw c.in_ok-bind.ensures.ok refl) in
+    let on = found_empty_goes_on g.P.Port.theory.code c.args.self.now c.args.id _ _ _ _ stands.at stands.free _ (rw c.in_ok-bind.ensures.ok refl) in
     record {
       sound = on.0;
       rule = on.1;

@@ -1,0 +1,42 @@
+//! Queues as they are closed.
+
+use crate::harness::{Answer, whole_where};
+use crate::refuser::Refuser;
+use fx_port::{close_queues, open_queues};
+use fx_queue::FiberQueue;
+use fx_term::{Item, Memory};
+use std::alloc::Global;
+use std::sync::Wait;
+
+const FIRST: Item = Item {
+    fiber: 0,
+    nth: 0,
+    value: 5,
+};
+
+/// What a queue with one element answers as it is closed.
+pub fn queue_closed<R: Wait>(rt: &R, alloc: Global, refuser: &Refuser) -> Result<Answer, Memory> {
+    let (queue, mut pass) = FiberQueue::new(alloc, 8, 3)?;
+    if queue.offer_as(rt, &mut pass, FIRST).is_err() {
+        return Ok(Answer::Other);
+    }
+    refuser.go_on();
+    let rest = queue.close(rt, pass);
+    refuser.hold();
+    match rest {
+        Ok(rest) => Ok(whole_where(rest.as_slice() == [FIRST].as_slice())),
+        Err(Memory) => Ok(Answer::Memory),
+    }
+}
+
+/// What 2 queues answer as they are closed.
+pub fn queues_closed<R: Wait>(rt: &R, alloc: Global, refuser: &Refuser) -> Result<Answer, Memory> {
+    let (queues, passes) = open_queues(alloc, &[1, 8], 3)?;
+    refuser.go_on();
+    let left = close_queues(rt, alloc, queues, passes);
+    refuser.hold();
+    match left {
+        Ok(left) => Ok(whole_where(left.len() == 2)),
+        Err(Memory) => Ok(Answer::Memory),
+    }
+}

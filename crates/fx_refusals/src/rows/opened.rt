@@ -1,0 +1,122 @@
+//! What the fibers of a script have on threads before their first step.
+ghost use Rattle.std.specs.Prelude.{◌≡◌, ◌<◌, ◌≤◌, IfOk, ℕ, true};
+ghost use Rattle.fx_model.specs.Origin.{main_begin_of};
+ghost use Rattle.fx_port.specs.Rows.{AreFirst};
+ghost use Rattle.fx_word.specs.SeatView.{first_view};
+ghost use Rattle.fx_word.specs.Words.{IsOf};
+
+use crate::harness::{Answer, Trial, Wrong};
+use crate::rows::fibers::{Done, come_of};
+use crate::rows::given::Given;
+use crate::rows::outside::{By, asked_of};
+use futures::task::Solo;
+use fx_fiber::main_begin;
+use fx_port::{Notes, Passes, RunBrand, Sources, ThreadPort, open_queues};
+use fx_queue::FiberQueue;
+use fx_term::Memory;
+use fx_text::Script;
+use fx_word::{WordSeat, Words};
+use std::alloc::{AllocGlobal, Global};
+use std::marker::Brand;
+use std::random::RandomSource;
+use std::sync::Wait;
+
+/// What is done with the fibers of a script.
+#[derive(Clone, Copy)]
+pub enum What<'a> {
+    /// The main one is requested from outside.
+    Outside(By, &'a Solo),
+    /// This is done over their ports.
+    Over(Done<'a>),
+}
+
+/// What the fibers share, and what the main one has of it.
+#[derive(Drop)]
+struct Opened {
+    words: Words,
+    queues: Vec<FiberQueue>,
+    sources: Sources,
+    seat: WordSeat,
+    passes: Passes,
+}
+
+/// The capacity of the script's queue, of which there is at most one; 1 where there is none.
+fn capacity_of(script: &Script) -> Result<u32, Wrong>
+    ensures { IfOk result (λ capacity. (0 < capacity) × (capacity ≤ 1024)) }
+{
+    let capacity = script.queues.first().map_or(1, |queue| queue.cap);
+    if capacity < 1 || 1024 < capacity {
+        return Err(Wrong::SetUp);
+    }
+    Ok(capacity)
+}
+
+/// What so many fibers share, with one queue.
+fn open(alloc: Global, capacity: u32, fibers: u32) -> Result<Opened, Memory>
+    requires capacity { (0 < capacity) × (capacity ≤ 1024) }
+    requires fibers { (0 < fibers) × (fibers ≤ 4096) }
+    ensures words { IfOk result (λ all. all.words.fibers ≡ fibers) }
+    ensures seat { IfOk result
+        (λ all. IsOf all.seat all.words × (all.seat.view ≡ first_view fibers)) }
+    ensures passes { IfOk result (λ all. AreFirst fibers all.queues.items all.passes) }
+{
+    let (words, seat) = Words::new(alloc, fibers)?;
+    let (queues, passes) = open_queues(alloc, &[capacity], fibers)?;
+    let sources = Sources::new(alloc, fibers)?;
+    Ok(Opened {
+        words,
+        queues,
+        sources,
+        seat,
+        passes,
+    })
+}
+
+/// What comes of it.
+pub fn made<R: Wait + RandomSource + AllocGlobal>(
+    rt: &R,
+    alloc: Global,
+    given: &Given,
+    what: What,
+    trial: &Trial,
+) -> Result<Answer, Wrong> {
+    let fibers = main_begin(alloc, &given.script.code).end;
+    let Opened {
+        words,
+        queues,
+        sources,
+        seat,
+        passes,
+    } = open(alloc, capacity_of(&given.script)?, fibers)?;
+    made_as::<Brand, R>(
+        rt, alloc, given, &words, &queues, &sources, seat, passes, what, trial,
+    )
+}
+
+fn made_as<N: RunBrand, R: Wait + RandomSource + AllocGlobal>(
+    rt: &R,
+    alloc: Global,
+    given: &Given,
+    words: &Words,
+    queues: &[FiberQueue],
+    sources: &Sources,
+    seat: WordSeat,
+    passes: Passes,
+    what: What,
+    trial: &Trial,
+) -> Result<Answer, Wrong>
+    requires code { given.now.script.code.nodes ≡ N.nodes }
+    requires words { (words.now ≡ N.words) × (0 < N.words.fibers) }
+    requires queues { queues.now ≡ N.queues }
+    requires total { N.words.fibers ≡ (main_begin_of given.now.script.code.nodes).end }
+    requires seat { IsOf seat N.words × (seat.view ≡ first_view N.words.fibers) }
+    requires passes { AreFirst N.words.fibers N.queues passes }
+    requires may { (id : ℕ) → N.may id ≡ true }
+{
+    let mut notes = Notes::<N>::new(alloc, words.fibers())?;
+    let port = ThreadPort::<R, N>::new(rt, alloc, words, queues, sources, seat, passes);
+    match what {
+        What::Outside(by, solo) => asked_of(alloc, given, by, solo, port, &mut notes, trial),
+        What::Over(what) => come_of(rt, alloc, given, port, &mut notes, what, trial),
+    }
+}

@@ -1,0 +1,126 @@
+//! The report of fibers that are given by hand, and the test for lost ones.
+ghost use Rattle.std.specs.Prelude.{◌≡◌, ◌<◌, All, IfOk};
+ghost use Rattle.fx_term.specs.Script.{total};
+ghost use Rattle.fx_fiber.specs.Bare.{BareView};
+ghost use Rattle.fx_text.specs.View.{meaning};
+ghost use Rattle.fx_report.specs.Script.{script_of};
+ghost use Rattle.fx_run.specs.Reported.{RanCode, AreAscending};
+
+use crate::halting::{halted, parted};
+use crate::harness::{Answer, Wrong, whole_where};
+use crate::refuser::Refuser;
+use crate::rows::given::Given;
+use crate::steps::{Part, Steps};
+use fx_fiber::{Bare, Fiber, FiberReport, Port, Report};
+use fx_plain::replay;
+use fx_run::{RunFault, report, test_for_lost};
+use fx_term::Item;
+use fx_text::Script;
+use std::alloc::Global;
+
+/// Which call is refused memory.
+#[derive(Clone, Copy)]
+pub enum Of {
+    Report,
+    Lost,
+}
+
+/// Whether two fibers are reported alike.
+fn is_alike(one: &FiberReport, other: &FiberReport) -> bool {
+    let is_same = one.id == other.id && one.parent == other.parent && one.state == other.state;
+    is_same && one.trace.as_slice() == other.trace.as_slice()
+}
+
+/// Whether the fibers are reported alike, in their order.
+fn are_alike(these: &[FiberReport], others: &[FiberReport]) -> bool {
+    these.len() == others.len()
+        && these
+            .iter()
+            .zip(others)
+            .all(|(one, other)| is_alike(one, other))
+}
+
+/// Whether the same is left in each queue.
+fn are_left(these: &[Vec<Item>], others: &[Vec<Item>]) -> bool {
+    these.len() == others.len()
+        && these
+            .iter()
+            .zip(others)
+            .all(|(one, other)| one.as_slice() == other.as_slice())
+}
+
+/// What a report of these fibers answers, which is to be this one.
+fn told(
+    alloc: Global,
+    script: &Script,
+    bares: Vec<Bare>,
+    wanted: &Report,
+    refuser: &Refuser,
+) -> Result<Answer, Wrong>
+    requires code { RanCode script.now.code.nodes bares.items }
+    requires ascending { AreAscending bares.items }
+    requires below { All (λ (x : BareView). x.id < total (script_of (meaning script.now))) bares.items }
+{
+    let left = replay(alloc, script, &[])?.left;
+    refuser.go_on();
+    let answer = report(alloc, script, bares, left, Vec::new(alloc), 0);
+    refuser.hold();
+    Ok(match answer {
+        Ok(report) => whole_where(
+            are_alike(&report.fibers, &wanted.fibers) && are_left(&report.left, &wanted.left),
+        ),
+        Err(RunFault::Memory) => Answer::Memory,
+        Err(_) => Answer::Other,
+    })
+}
+
+/// What the test for lost fibers answers, of which there are none.
+fn tested(alloc: Global, script: &Script, bares: &[Bare], refuser: &Refuser) -> Answer
+    requires ascending { AreAscending bares.now }
+    requires below { All (λ (x : BareView). x.id < total (script_of (meaning script.now))) bares.now }
+{
+    refuser.go_on();
+    let answer = test_for_lost(alloc, script, bares);
+    refuser.hold();
+    match answer {
+        Ok(()) => Answer::Whole,
+        Err(RunFault::Memory) => Answer::Memory,
+        Err(_) => Answer::Other,
+    }
+}
+
+/// The fibers that a script's main fiber comes to with the others.
+fn replayed<P: Port + Drop>(
+    alloc: Global,
+    given: &Given,
+    main: Fiber<P>,
+    shared: &mut P::Shared,
+    refuser: &Refuser,
+) -> Result<Vec<Fiber<P>>, Wrong>
+    requires { given.now.script.code.nodes ≡ P.theory.code }
+{
+    let script = &given.script;
+    let (code, room) = (&script.code, script.total());
+    let steps = Steps::new(alloc, code, &given.report, Part::None, main, room, shared)?;
+    halted(steps, refuser)
+}
+
+/// What the call answers on the fibers that this one comes to with the others.
+pub fn made<P: Port + Drop>(
+    alloc: Global,
+    given: &Given,
+    main: Fiber<P>,
+    shared: &mut P::Shared,
+    of: Of,
+    refuser: &Refuser,
+) -> Result<Answer, Wrong>
+    requires { given.now.script.code.nodes ≡ P.theory.code }
+{
+    let script = &given.script;
+    let fibers = replayed(alloc, given, main, shared, refuser)?;
+    let bares = parted(alloc, &script.code, script.total(), fibers)?;
+    match of {
+        Of::Report => told(alloc, script, bares, &given.report, refuser),
+        Of::Lost => Ok(tested(alloc, script, &bares, refuser)),
+    }
+}

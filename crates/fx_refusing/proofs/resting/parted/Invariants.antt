@@ -1,5 +1,0 @@
-use Rattle.fx_refusing.proofs.PartedLaws.{AreParted}
-use Rattle.fx_refusing.proofs.resting.parted.Given as goal
-
-abbrev pub invariant-loop-fiber : goal.invariant-loop-fiber
-invariant-loop-fiber g l = AreParted l.fn.code.nodes l.fn.total l.next l.bares.items
