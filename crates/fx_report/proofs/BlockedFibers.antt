@@ -1,5 +1,5 @@
 -- The fibers that a report has as blocked, and what they wait for.
-use Rattle.std.proofs.Common.{◌≡◌, ℕ, Bool, Option, Some, None, option_map, List, [], ◌∷◌, map, refl, sym, ap}
+use Rattle.std.proofs.Common.{◌≡◌, ℕ, Bool, Option, Some, option_map, List, ◌∷◌, map, sym, ap}
 use Rattle.std.specs.Prelude.{not, option_and_then}
 use Rattle.std.specs.List.{filter, cons_option}
 use Rattle.std.proofs.lemmas.Option.{none-some, same_Some}

@@ -1,11 +1,12 @@
 //! The lines of a report and of its traces.
-ghost use Rattle.std.specs.Prelude.{◌≡◌, ◌<◌, ◌++◌, codes, length, OnOk, string_bytes};
+ghost use Rattle.std.specs.Prelude.{◌≡◌, ◌<◌, ◌++◌, codes, decimal, length, OnOk, string_bytes};
 ghost use Rattle.fx_report.specs.Text.{names_of, line_end, number, queue_name};
 ghost use Rattle.fx_term.specs.QueuesNamed.{NamesQueueBelow};
 ghost use Rattle.fx_report.specs.Text.{outcome_text, halt_line, queue_line, event_text, event_line};
 
 use fx_term::{Event, Item, Outcome};
 use fx_text::QueueDecl;
+use itoa::Buffer;
 use std::alloc::AllocError;
 
 /// Appends the end of a line.
@@ -15,23 +16,34 @@ pub(crate) fn end_line(text: &mut String) -> Result<(), AllocError>
     text.push('\n')
 }
 
-/// Appends the words for an outcome.
-fn push_outcome(text: &mut String, outcome: Outcome) -> Result<(), AllocError>
-    ensures { OnOk result (string_bytes text.new ≡ string_bytes text.old ++ outcome_text outcome) }
+/// Appends a number.
+#[inline(always)]
+fn push_digits(text: &mut String, value: u64) -> Result<(), AllocError>
+    ensures { OnOk result (string_bytes text.new ≡ string_bytes text.old ++ decimal value) }
 {
-    match outcome {
-        Outcome::Succeeded(value) => write!(text, "succeeded {value}"),
-        Outcome::Errored(error) => write!(text, "errored {error}"),
-        Outcome::Canceled => write!(text, "canceled"),
-    }
+    text.push_str(Buffer::new().format(value))
 }
 
-/// Appends a word, and a number.
-fn push_numbered(text: &mut String, word: &str, value: u64) -> Result<(), AllocError>
+/// Appends these words, and a number.
+#[inline(always)]
+fn push_numbered(text: &mut String, words: &str, value: u64) -> Result<(), AllocError>
     ensures { OnOk result
-        (string_bytes text.new ≡ string_bytes text.old ++ word.now ++ number value) }
+        (string_bytes text.new ≡ string_bytes text.old ++ words.now ++ decimal value) }
 {
-    write!(text, "{word} {value}")
+    text.push_str(words)?;
+    push_digits(text, value)
+}
+
+/// Appends a space, and the words for an outcome.
+fn push_end(text: &mut String, outcome: Outcome) -> Result<(), AllocError>
+    ensures { OnOk result
+        (string_bytes text.new ≡ string_bytes text.old ++ codes " " ++ outcome_text outcome) }
+{
+    match outcome {
+        Outcome::Succeeded(value) => push_numbered(text, " succeeded ", value),
+        Outcome::Errored(error) => push_numbered(text, " errored ", error),
+        Outcome::Canceled => text.push_str(" canceled"),
+    }
 }
 
 /// Appends a word, and the name of a queue.
@@ -45,8 +57,9 @@ pub(crate) fn push_named(
     ensures { OnOk result (string_bytes text.new
         ≡ string_bytes text.old ++ word.now ++ queue_name (names_of queues.now) queue) }
 {
-    let name = queues[queue as usize].name.as_str();
-    write!(text, "{word} {name}")
+    text.push_str(word)?;
+    text.push(' ')?;
+    text.push_str(&queues[queue as usize].name)
 }
 
 /// Appends a word, the name of a queue, and an element of it.
@@ -62,16 +75,7 @@ fn push_moved(
         ++ word.now ++ queue_name (names_of queues.now) queue ++ number value) }
 {
     push_named(text, word, queues, queue)?;
-    write!(text, " {value}")
-}
-
-/// Appends a space, and the words for an outcome.
-fn push_end(text: &mut String, outcome: Outcome) -> Result<(), AllocError>
-    ensures { OnOk result
-        (string_bytes text.new ≡ string_bytes text.old ++ codes " " ++ outcome_text outcome) }
-{
-    text.push(' ')?;
-    push_outcome(text, outcome)
+    push_numbered(text, " ", value)
 }
 
 /// Appends the words for an event, where the script has these queues.
@@ -81,21 +85,21 @@ fn push_event(text: &mut String, queues: &[QueueDecl], event: Event) -> Result<(
         (string_bytes text.new ≡ string_bytes text.old ++ event_text (names_of queues.now) event) }
 {
     match event {
-        Event::Start(fiber) => push_numbered(text, "start", u64::from(fiber)),
-        Event::Request(fiber) => push_numbered(text, "request", u64::from(fiber)),
-        Event::Awaited(fiber) => push_numbered(text, "awaited", u64::from(fiber)),
+        Event::Start(fiber) => push_numbered(text, "start ", u64::from(fiber)),
+        Event::Request(fiber) => push_numbered(text, "request ", u64::from(fiber)),
+        Event::Awaited(fiber) => push_numbered(text, "awaited ", u64::from(fiber)),
         Event::Joined(fiber, outcome) => {
-            push_numbered(text, "joined", u64::from(fiber))?;
+            push_numbered(text, "joined ", u64::from(fiber))?;
             push_end(text, outcome)
         }
-        Event::First(side) => push_numbered(text, "first", u64::from(side)),
+        Event::First(side) => push_numbered(text, "first ", u64::from(side)),
         Event::Put(queue, value) => push_moved(text, "put", queues, queue, value),
         Event::Got(queue, value) => push_moved(text, "got", queues, queue, value),
         Event::Refused(queue) => push_named(text, "refused", queues, queue),
         Event::Empty(queue) => push_named(text, "empty", queues, queue),
-        Event::Acquired(resource) => push_numbered(text, "acquired", resource),
-        Event::Begin(resource) => push_numbered(text, "begin", resource),
-        Event::End(resource) => push_numbered(text, "end", resource),
+        Event::Acquired(resource) => push_numbered(text, "acquired ", resource),
+        Event::Begin(resource) => push_numbered(text, "begin ", resource),
+        Event::End(resource) => push_numbered(text, "end ", resource),
         Event::Seen => text.push_str("seen"),
         Event::SelfRequest => text.push_str("selfrequest"),
         Event::Cancelled => text.push_str("cancelled"),
@@ -118,7 +122,8 @@ pub(crate) fn push_event_line(
         (string_bytes text.new
         ≡ string_bytes text.old ++ event_line (names_of queues.now) id event) }
 {
-    write!(text, "{id} ")?;
+    push_digits(text, u64::from(id))?;
+    text.push(' ')?;
     push_event(text, queues, event)?;
     end_line(text)
 }
@@ -131,10 +136,10 @@ pub(crate) fn push_fiber_line(
 ) -> Result<(), AllocError>
     ensures { OnOk result (string_bytes text.new ≡ string_bytes text.old ++ halt_line id end) }
 {
-    write!(text, "fiber {id} ")?;
+    push_numbered(text, "fiber ", u64::from(id))?;
     match end {
-        Some(outcome) => push_outcome(text, outcome)?,
-        None => write!(text, "blocked")?,
+        Some(outcome) => push_end(text, outcome)?,
+        None => text.push_str(" blocked")?,
     }
     end_line(text)
 }
@@ -148,12 +153,12 @@ pub(crate) fn push_queue_line(
     ensures { OnOk result (string_bytes text.new
         ≡ string_bytes text.old ++ queue_line (string_bytes queue.now.name) items.now) }
 {
-    let name = queue.name.as_str();
-    write!(text, "queue {name} left")?;
+    text.push_str("queue ")?;
+    text.push_str(&queue.name)?;
+    text.push_str(" left")?;
     let mut rest = items;
     while let Some((item, more)) = rest.split_first() {
-        let value = item.value;
-        write!(text, " {value}")?;
+        push_numbered(text, " ", item.value)?;
         rest = more;
     }
     end_line(text)
