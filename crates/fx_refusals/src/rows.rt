@@ -7,6 +7,7 @@ mod fibers;
 mod given;
 mod marks;
 mod numbers;
+mod of_script;
 mod opened;
 mod outside;
 mod parts;
@@ -22,15 +23,15 @@ mod worlds;
 use crate::harness::Wrong;
 use crate::scripts::{WORKED, Worked};
 use crate::tally::Tally;
-use commands::{FAULTS, Said};
-use fibers::{Done, Main};
+use commands::{FAULTS, Printed, Said};
 use given::{Given, given_of};
-use outside::{By, LOOP};
+use of_script::{OfScript, OfWorked};
+use outside::LOOP;
 use std::alloc::AllocGlobal;
 use std::random::RandomSource;
 use std::sync::Wait;
 use std::thread::Threads;
-use tried::{Anew, Of, Row, requests};
+use tried::{Anew, Row, requests};
 
 /// Those of one thread that are made on no script: the call, on what, and the row.
 const SINGLE: [(&str, &str, Row); 8] = [
@@ -56,8 +57,8 @@ const SINGLE: [(&str, &str, Row); 8] = [
     ("schedule", "7 picks", Row::Anew(Anew::Schedule)),
 ];
 
-/// Those of what threads share.
-const SHARED: [(&str, &str, Row); 3] = [
+/// Those of what threads share, of what the ports of fibers have, and of what workers have.
+const SHARED: [(&str, &str, Row); 13] = [
     (
         "Words::new",
         "100 fibers",
@@ -73,10 +74,6 @@ const SHARED: [(&str, &str, Row); 3] = [
         "an element",
         Row::Anew(Anew::CloseQueue),
     ),
-];
-
-/// Those of what the ports of fibers have.
-const PORTS: [(&str, &str, Row); 6] = [
     (
         "open_queues",
         "2 queues",
@@ -95,10 +92,6 @@ const PORTS: [(&str, &str, Row); 6] = [
     ),
     ("Marks::mark", "3 numbers", Row::Marks(marks::Of::Mark)),
     ("Marks::join", "3 numbers", Row::Marks(marks::Of::Join)),
-];
-
-/// Those of what workers have.
-const HANDS: [(&str, &str, Row); 4] = [
     (
         "Tasks::new",
         "4 workers",
@@ -113,8 +106,91 @@ const HANDS: [(&str, &str, Row); 4] = [
     ("solo", "a worker", Row::Anew(Anew::Part(parts::Of::Solo))),
 ];
 
+/// A row on a script of its own: the call, what the row says of it, the text of the script, and the row.
+type OnText = (&'static str, &'static str, &'static str, OfScript);
+
+/// Those of one thread on a script of their own.
+const ON_ONE_THREAD: [OnText; 1] = [(
+    "Fiber::new",
+    "a main fiber",
+    "(main (pure 5))",
+    OfScript::NewFiber,
+)];
+
+/// A script that can have two fibers.
+const TWO: &str = "(main (start h (pure 1) (pure 2)))";
+
+/// Those of the places of fibers that wait or have ended, and those that request a fiber from outside.
+const ON_THREADS: [OnText; 4] = [
+    ("Lot::new", "2 fibers", TWO, OfScript::NewLot),
+    ("Lot::empty", "a fiber", TWO, OfScript::EmptyLot),
+    (
+        "Fiber::outside over ThreadPort",
+        "a loop",
+        LOOP,
+        OfScript::Outside,
+    ),
+    (
+        "gated_turn over ThreadPort",
+        "a loop",
+        LOOP,
+        OfScript::GatedTurn,
+    ),
+];
+
+/// Those of one thread of each worked script.
+const OF_ONE_THREAD: [(&str, OfWorked); 8] = [
+    ("parse", OfWorked::Parse),
+    ("PlainWorld::new", OfWorked::Fibers(OfScript::World)),
+    ("replay", OfWorked::Text(plain::Of::Replay)),
+    ("write_report", OfWorked::Text(plain::Of::WriteReport)),
+    ("write_trace", OfWorked::Text(plain::Of::WriteTrace)),
+    ("replay_text", OfWorked::Text(plain::Of::ReplayText)),
+    (
+        "Fiber::step over PlainPort",
+        OfWorked::Fibers(OfScript::PlainStep),
+    ),
+    (
+        "poll of Turn over PlainPort",
+        OfWorked::Fibers(OfScript::PlainTurn),
+    ),
+];
+
+/// That of the bursts of its fibers.
+const OF_BURSTS: [(&str, OfWorked); 1] = [(
+    "Fiber::burst over PlainPort",
+    OfWorked::Fibers(OfScript::PlainBurst),
+)];
+
 /// The script of which no burst makes a request.
 const WITHOUT_BURST: &str = "mask";
+
+/// Those of several threads of each worked script.
+const OF_THREADS: [(&str, OfWorked); 7] = [
+    (
+        "Fiber::step over ThreadPort",
+        OfWorked::Fibers(OfScript::ThreadStep),
+    ),
+    (
+        "poll of Turn over ThreadPort",
+        OfWorked::Fibers(OfScript::ThreadTurn),
+    ),
+    ("work", OfWorked::Fibers(OfScript::Work)),
+    ("report", OfWorked::Fibers(OfScript::Report)),
+    ("test_for_lost", OfWorked::Fibers(OfScript::Lost)),
+    ("run by 1", OfWorked::Run(1)),
+    ("run by 4", OfWorked::Run(4)),
+];
+
+/// The words of calls of the program that print a report, a trace or counts, by how many workers fibers run, and what
+/// is printed of a worked script.
+const WORDS: [(&str, u32, Printed); 5] = [
+    ("check F", 1, Printed::Counts),
+    ("replay F S", 1, Printed::Report),
+    ("trace F", 1, Printed::Traces),
+    ("run F 1", 1, Printed::Report),
+    ("run F 4", 4, Printed::Report),
+];
 
 /// Tries all rows.
 pub fn all<R: Print + Wait + Threads + Sync + RandomSource + AllocGlobal + Drop>(
@@ -151,191 +227,74 @@ fn listed<R: Print + Wait + Threads + Sync + RandomSource + AllocGlobal + Drop>(
     }
 }
 
+/// Tries these rows, each on its script.
+fn on_texts<R: Print + Wait + Threads + Sync + RandomSource + AllocGlobal + Drop>(
+    rt: &R,
+    tally: &mut Tally<R>,
+    rows: &[OnText],
+) -> Result<(), Wrong> {
+    for (call, of, text, it) in rows {
+        let given = given_of(rt.alloc(), text)?;
+        row(rt, tally, call, of, it.row(&given));
+    }
+    Ok(())
+}
+
+/// Tries these rows of a worked script, which has been read.
+fn of_given<'a, R: Print + Wait + Threads + Sync + RandomSource + AllocGlobal + Drop>(
+    rt: &R,
+    tally: &mut Tally<R>,
+    worked: &'a Worked,
+    given: &'a Given,
+    rows: &[(&str, OfWorked)],
+) {
+    for (call, it) in rows {
+        row(rt, tally, call, worked.name, it.row(given, worked));
+    }
+}
+
+/// Tries these rows of a worked script.
+fn of_worked<R: Print + Wait + Threads + Sync + RandomSource + AllocGlobal + Drop>(
+    rt: &R,
+    tally: &mut Tally<R>,
+    worked: &Worked,
+    rows: &[(&str, OfWorked)],
+) -> Result<(), Wrong> {
+    let given = given_of(rt.alloc(), worked.text)?;
+    of_given(rt, tally, worked, &given, rows);
+    Ok(())
+}
+
 /// All but calls of the program with words for people: those of one thread, and then those of several.
 fn scripts<R: Print + Wait + Threads + Sync + RandomSource + AllocGlobal + Drop>(
     rt: &R,
     tally: &mut Tally<R>,
 ) -> Result<(), Wrong> {
     listed(rt, tally, &SINGLE);
-    new_fiber(rt, tally)?;
+    on_texts(rt, tally, &ON_ONE_THREAD)?;
     for worked in &WORKED {
-        of_one_thread(rt, tally, worked)?;
+        of_worked(rt, tally, worked, &OF_ONE_THREAD)?;
+        if worked.name != WITHOUT_BURST {
+            of_worked(rt, tally, worked, &OF_BURSTS)?;
+        }
     }
     listed(rt, tally, &SHARED);
-    lots(rt, tally)?;
-    listed(rt, tally, &PORTS);
-    outsides(rt, tally)?;
-    listed(rt, tally, &HANDS);
+    on_texts(rt, tally, &ON_THREADS)?;
     for worked in &WORKED {
-        of_threads(rt, tally, worked)?;
+        of_worked(rt, tally, worked, &OF_THREADS)?;
         words(rt, tally, worked);
     }
     Ok(())
 }
 
-/// That of a new fiber.
-fn new_fiber<R: Print + Wait + Threads + Sync + RandomSource + AllocGlobal + Drop>(
-    rt: &R,
-    tally: &mut Tally<R>,
-) -> Result<(), Wrong> {
-    let given = given_of(rt.alloc(), "(main (pure 5))")?;
-    let made = Anew::World(worlds::What::Over(Done::Fiber), &given);
-    row(rt, tally, "Fiber::new", "a main fiber", Row::Anew(made));
-    Ok(())
-}
-
-/// Those of the places of fibers that wait or have ended.
-fn lots<R: Print + Wait + Threads + Sync + RandomSource + AllocGlobal + Drop>(
-    rt: &R,
-    tally: &mut Tally<R>,
-) -> Result<(), Wrong> {
-    let given = given_of(rt.alloc(), "(main (start h (pure 1) (pure 2)))")?;
-    let made = Anew::World(worlds::What::Over(Done::NewLot), &given);
-    row(rt, tally, "Lot::new", "2 fibers", Row::Anew(made));
-    let made = Anew::World(worlds::What::Over(Done::Main(Main::Lot)), &given);
-    row(rt, tally, "Lot::empty", "a fiber", Row::Anew(made));
-    Ok(())
-}
-
-/// Those that request a fiber from outside.
-fn outsides<R: Print + Wait + Threads + Sync + RandomSource + AllocGlobal + Drop>(
-    rt: &R,
-    tally: &mut Tally<R>,
-) -> Result<(), Wrong> {
-    let given = given_of(rt.alloc(), LOOP)?;
-    let call = "Fiber::outside over ThreadPort";
-    row(rt, tally, call, "a loop", Row::Outside(By::Fiber, &given));
-    let call = "gated_turn over ThreadPort";
-    row(rt, tally, call, "a loop", Row::Outside(By::Gate, &given));
-    Ok(())
-}
-
-/// Those of one thread of a script.
-fn of_one_thread<R: Print + Wait + Threads + Sync + RandomSource + AllocGlobal + Drop>(
-    rt: &R,
-    tally: &mut Tally<R>,
-    worked: &'static Worked,
-) -> Result<(), Wrong> {
-    let given = given_of(rt.alloc(), worked.text)?;
-    of_texts(rt, tally, worked, &given);
-    steps(rt, tally, worked.name, &given);
-    Ok(())
-}
-
-/// Those that go from a script to a text.
-fn of_texts<R: Print + Wait + Threads + Sync + RandomSource + AllocGlobal + Drop>(
-    rt: &R,
-    tally: &mut Tally<R>,
-    worked: &Worked,
-    given: &Given,
-) {
-    let name = worked.name;
-    row(rt, tally, "parse", name, Row::Anew(Anew::Parse(worked)));
-    let made = Anew::World(worlds::What::World, given);
-    row(rt, tally, "PlainWorld::new", name, Row::Anew(made));
-    let made = Anew::Plain(plain::Of::Replay, given, worked);
-    row(rt, tally, "replay", name, Row::Anew(made));
-    let made = Anew::Plain(plain::Of::WriteReport, given, worked);
-    row(rt, tally, "write_report", name, Row::Anew(made));
-    let made = Anew::Plain(plain::Of::WriteTrace, given, worked);
-    row(rt, tally, "write_trace", name, Row::Anew(made));
-    let made = Anew::Plain(plain::Of::ReplayText, given, worked);
-    row(rt, tally, "replay_text", name, Row::Anew(made));
-}
-
-/// Those of a fiber of one thread.
-fn steps<R: Print + Wait + Threads + Sync + RandomSource + AllocGlobal + Drop>(
-    rt: &R,
-    tally: &mut Tally<R>,
-    name: &str,
-    given: &Given,
-) {
-    let call = "Fiber::step over PlainPort";
-    row(rt, tally, call, name, Row::Plain(Of::Step, given));
-    if name != WITHOUT_BURST {
-        let call = "Fiber::burst over PlainPort";
-        row(rt, tally, call, name, Row::Plain(Of::Burst, given));
-    }
-    let call = "poll of Turn over PlainPort";
-    row(rt, tally, call, name, Row::Plain(Of::Turn, given));
-}
-
-/// Those of several threads of a script.
-fn of_threads<R: Print + Wait + Threads + Sync + RandomSource + AllocGlobal + Drop>(
-    rt: &R,
-    tally: &mut Tally<R>,
-    worked: &'static Worked,
-) -> Result<(), Wrong> {
-    let given = given_of(rt.alloc(), worked.text)?;
-    fibers_of(rt, tally, worked.name, &given);
-    runs_of(rt, tally, worked, &given);
-    Ok(())
-}
-
-/// Those of its fibers, and of their reports.
-fn fibers_of<R: Print + Wait + Threads + Sync + RandomSource + AllocGlobal + Drop>(
-    rt: &R,
-    tally: &mut Tally<R>,
-    name: &str,
-    given: &Given,
-) {
-    let call = "Fiber::step over ThreadPort";
-    row(rt, tally, call, name, Row::Threads(Of::Step, given));
-    let call = "poll of Turn over ThreadPort";
-    row(rt, tally, call, name, Row::Threads(Of::Turn, given));
-    row(rt, tally, "work", name, Row::Anew(Anew::Work(given)));
-    let report = worlds::What::Over(Done::Main(Main::Report(reports::Of::Report)));
-    row(
-        rt,
-        tally,
-        "report",
-        name,
-        Row::Anew(Anew::World(report, given)),
-    );
-    let lost = worlds::What::Over(Done::Main(Main::Report(reports::Of::Lost)));
-    row(
-        rt,
-        tally,
-        "test_for_lost",
-        name,
-        Row::Anew(Anew::World(lost, given)),
-    );
-}
-
-/// Those of its runs.
-fn runs_of<R: Print + Wait + Threads + Sync + RandomSource + AllocGlobal + Drop>(
-    rt: &R,
-    tally: &mut Tally<R>,
-    worked: &Worked,
-    given: &Given,
-) {
-    let by_one = Row::Anew(Anew::Run(given, worked, 1));
-    row(rt, tally, "run by 1", worked.name, by_one);
-    let by_four = Row::Anew(Anew::Run(given, worked, 4));
-    row(rt, tally, "run by 4", worked.name, by_four);
-}
-
-/// Those of calls of the program that print a report, a trace or counts.
+/// Those of calls of the program of a worked script.
 fn words<R: Print + Wait + Threads + Sync + RandomSource + AllocGlobal + Drop>(
     rt: &R,
     tally: &mut Tally<R>,
-    worked: &'static Worked,
+    worked: &Worked,
 ) {
-    for (words, workers, out) in [
-        ("check F", 1, worked.counts),
-        ("replay F S", 1, worked.report),
-        ("trace F", 1, worked.traces),
-        ("run F 1", 1, worked.report),
-        ("run F 4", 4, worked.report),
-    ] {
-        let said = Said {
-            words,
-            workers,
-            script: worked.text,
-            status: 0,
-            out,
-            err: "",
-        };
+    for (words, workers, printed) in &WORDS {
+        let said = Said::of(worked, words, *workers, *printed);
         row(
             rt,
             tally,

@@ -2,6 +2,7 @@
 
 use crate::harness::{Answer, whole_where};
 use crate::refuser::Refuser;
+use crate::scripts::Worked;
 use crate::shown::room;
 use fx_command::command::{FAULT, command};
 use fx_command::files::{FetchFault, Files};
@@ -23,6 +24,33 @@ pub struct Said {
     pub status: u8,
     pub out: &'static str,
     pub err: &'static str,
+}
+
+/// What is printed of a worked script.
+#[derive(Clone, Copy)]
+pub enum Printed {
+    Counts,
+    Report,
+    Traces,
+}
+
+impl Said {
+    /// A call by these words, that prints this of the script and nothing else.
+    pub fn of(worked: &Worked, words: &'static str, workers: u32, printed: Printed) -> Said {
+        let out = match printed {
+            Printed::Counts => worked.counts,
+            Printed::Report => worked.report,
+            Printed::Traces => worked.traces,
+        };
+        Said {
+            words,
+            workers,
+            script: worked.text,
+            status: 0,
+            out,
+            err: "",
+        }
+    }
 }
 
 /// Calls that have words for people, or a fault to tell.

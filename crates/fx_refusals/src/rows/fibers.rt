@@ -115,7 +115,7 @@ pub fn told(has_told: bool) -> Answer {
     }
 }
 
-/// What comes of it.
+/// What the main fiber comes to with which this is done.
 fn come_of_main<R: Wait + RandomSource + AllocGlobal, P: Port + Drop>(
     rt: &R,
     alloc: Global,
@@ -139,7 +139,7 @@ fn come_of_main<R: Wait + RandomSource + AllocGlobal, P: Port + Drop>(
     }
 }
 
-/// What comes of it.
+/// What a port comes to, of a main fiber that has not begun, with which this is done.
 pub fn come_of<R: Wait + RandomSource + AllocGlobal, P: Port + Drop>(
     rt: &R,
     alloc: Global,

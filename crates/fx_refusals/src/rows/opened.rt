@@ -72,7 +72,7 @@ fn open(alloc: Global, capacity: u32, fibers: u32) -> Result<Opened, Memory>
     })
 }
 
-/// What comes of it.
+/// What the fibers of a script come to on threads, with which this is done.
 pub fn made<R: Wait + RandomSource + AllocGlobal>(
     rt: &R,
     alloc: Global,
@@ -93,6 +93,7 @@ pub fn made<R: Wait + RandomSource + AllocGlobal>(
     )
 }
 
+/// The same, where a type names what they share.
 fn made_as<N: RunBrand, R: Wait + RandomSource + AllocGlobal>(
     rt: &R,
     alloc: Global,

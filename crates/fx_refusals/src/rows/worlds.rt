@@ -35,6 +35,7 @@ fn opened<J: CodeBrand>(alloc: Global, script: &Script, refuser: &Refuser) -> An
     }
 }
 
+/// The same, where a type names the script's code.
 fn made_as<J: CodeBrand, R: Wait + RandomSource + AllocGlobal>(
     rt: &R,
     alloc: Global,
@@ -53,7 +54,7 @@ fn made_as<J: CodeBrand, R: Wait + RandomSource + AllocGlobal>(
     }
 }
 
-/// What comes of it.
+/// What a script comes to on one thread, with which this is done.
 pub fn made<R: Wait + RandomSource + AllocGlobal>(
     rt: &R,
     alloc: Global,
