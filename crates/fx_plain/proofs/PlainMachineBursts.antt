@@ -14,7 +14,7 @@ use Rattle.fx_fiber.specs.Fiber.{FiberView, progress}
 use Rattle.fx_fiber.specs.Bursts.{IsAlone, GoesAlone, Bursts}
 use Rattle.fx_fiber.specs.MakesStep.{MakesStep, Tells}
 use Rattle.fx_fiber.specs.declared.stepped.Stepped.TheVariants.{Went}
-use Rattle.fx_plain.specs.declared.plain_machine.Started.{Started}
+use Rattle.fx_plain.specs.Started.{StartedView}
 use Rattle.fx_plain.specs.declared.plain_machine.PlainMachine.{PlainMachine}
 use Rattle.fx_plain.specs.WholeMachine.{WholeMachine}
 use Rattle.fx_plain.specs.OnTheWay.{IsOnTheWay}
@@ -62,7 +62,7 @@ module _ {J : Type 0} (nodes : List Node) (s : ScriptView) (f : ℕ) where
       let less = try_leaves_less nodes s q p' n f (goes_to g) (steps chosen so') in
       omega arith
 
-  module _ (p : PlainMachine J) (m : WholeMachine) (so : StandsForRun nodes s p m) (x : Started J) (here : at_number nodes p f ≡ Some x)
+  module _ (p : PlainMachine J) (m : WholeMachine) (so : StandsForRun nodes s p m) (x : StartedView J) (here : at_number nodes p f ≡ Some x)
       (able : is_able (class_at p.world.classes f) ≡ true) where
     long : f < length p.fibers.items
     long =
@@ -82,7 +82,7 @@ module _ {J : Type 0} (nodes : List Node) (s : ScriptView) (f : ℕ) where
 
     -- the machine holds the fiber so
     pub record Holds (v : FiberView PortView) (p' : PlainMachine J) : Type 0 where
-      pub after : Started J
+      pub after : StartedView J
       pub fibers : p'.fibers.items ≡ slice_set p.fibers.items f (Some after)
       pub parent : after.parent ≡ x.parent
       pub fiber : after.fiber ≡ v
@@ -124,7 +124,7 @@ module _ {J : Type 0} (nodes : List Node) (s : ScriptView) (f : ℕ) where
 
     -- what a burst comes to
     pub bursts_go : (most n : ℕ) (v : FiberView PortView) (world' : WorldView) → Bursts (plain_theory nodes) most n x.fiber p.world v world'
-        → (p' : PlainMachine J) (after : Started J) → p'.fibers.items ≡ slice_set p.fibers.items f (Some after) → after.parent ≡ x.parent
+        → (p' : PlainMachine J) (after : StartedView J) → p'.fibers.items ≡ slice_set p.fibers.items f (Some after) → after.parent ≡ x.parent
         → after.fiber ≡ v → p'.world ≡ world'
         → (m' : WholeMachine) × GoesOn nodes s f m p m' p'
     bursts_go most n v world' b p' after fibers parent fiber world = elim b.steps [

@@ -10,7 +10,7 @@ use Rattle.fx_term.specs.Queue.{values_put}
 use Rattle.fx_term.specs.Need.{need}
 use Rattle.fx_term.specs.Script.{ScriptView}
 use Rattle.fx_model.specs.Origin.{main_origin}
-use Rattle.fx_plain.specs.declared.plain_machine.Started.{Started}
+use Rattle.fx_plain.specs.Started.{StartedView}
 use Rattle.fx_plain.specs.declared.plain_machine.PlainMachine.{PlainMachine}
 use Rattle.fx_plain.specs.WholeMachine.{begun, opening}
 use Rattle.fx_plain.specs.World.{HeldFiber, held_of, opening_world, opening_held}
@@ -22,8 +22,8 @@ use Rattle.fx_plain.proofs.WorldClasses.{opening_tells}
 pub one_more_of : {A : Type 0} (x a : A) (xs ys : List A) (n : ℕ) → xs ≡ x ∷ replicate n a → ys ≡ xs ++ a ∷ [] → ys ≡ x ∷ replicate (n + 1) a
 one_more_of {A} x a xs ys n is pushed = pushed ∙ ap (λ (zs : List A). zs ++ a ∷ []) is ∙ ap (λ (zs : List A). x ∷ zs) (replicate_more n a)
 
-module _ {J : Type 0} (nodes : List Node) (s : ScriptView) (p : PlainMachine J) (x : Started J) where
-  abbrev nobody : Option (Started J)
+module _ {J : Type 0} (nodes : List Node) (s : ScriptView) (p : PlainMachine J) (x : StartedView J) where
+  abbrev nobody : Option (StartedView J)
   nobody = None
 
   no_places : (n : ℕ) → map (option_map (held nodes)) (replicate n nobody) ≡ replicate n None
@@ -44,7 +44,7 @@ module _ {J : Type 0} (nodes : List Node) (s : ScriptView) (p : PlainMachine J) 
         none_there : (i : ℕ) → slice_index_or (replicate (need s.term) nobody) i None ≡ None
         none_there i = elim (cases_lt i (need s.term)) [
           | inl lt ↦ get_or-replicate (need s.term) i None None lt
-          | inr le ↦ get_or_past (replicate (need s.term) None) i None (let e = length-replicate {A = Option (Started J)} (need s.term) None in omega arith)
+          | inr le ↦ get_or_past (replicate (need s.term) None) i None (let e = length-replicate {A = Option (StartedView J)} (need s.term) None in omega arith)
         ]
 
     pub opening_stands_for : StandsForRun nodes s p (opening s)

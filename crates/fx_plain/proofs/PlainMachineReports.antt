@@ -11,7 +11,7 @@ use Rattle.fx_term.specs.Script.{ScriptView, total}
 use Rattle.fx_model.specs.Step.{has_ended}
 use Rattle.fx_model.specs.Report.{FiberReportView, ReportView}
 use Rattle.fx_text.specs.declared.pick.Pick.{Pick}
-use Rattle.fx_plain.specs.declared.plain_machine.Started.{Started}
+use Rattle.fx_plain.specs.Started.{StartedView, reported}
 use Rattle.fx_plain.specs.declared.plain_machine.PlainMachine.{PlainMachine}
 use Rattle.fx_plain.specs.WholeMachine.{StartedFiber, WholeMachine}
 use Rattle.fx_plain.specs.SettledRun.{report_of_fiber, IsReportOf}
@@ -19,7 +19,7 @@ use Rattle.fx_plain.specs.Chosen.{IsReplay}
 use Rattle.fx_plain.specs.PlainQueue.{QueueView, queue_at}
 use Rattle.fx_plain.specs.World.{HeldFiber, held_of}
 use Rattle.fx_plain.specs.OnTheWay.{IsOnTheWay}
-use Rattle.fx_plain.specs.PlainMachine.{held, reported, all_reported, all_held, StandsForRun, Halts}
+use Rattle.fx_plain.specs.PlainMachine.{held, all_reported, all_held, StandsForRun, Halts}
 use Rattle.fx_plain.proofs.ComputedRuns.{report}
 use Rattle.fx_plain.proofs.ComputedReports.{report_is_report}
 use Rattle.fx_plain.proofs.LawfulRuns.{IsKept, run_keeps}
@@ -63,10 +63,10 @@ module _ {J : Type 0} (nodes : List Node) (s : ScriptView) (p : PlainMachine J) 
   places : length p.fibers.items ≡ total s
   places = sym (length-map p.fibers.items (option_map (held nodes))) ∙ so.stands.held_long
 
-  number_is : (f : ℕ) (x : Started J) → at_number nodes p f ≡ Some x → x.fiber.port.number ≡ f
+  number_is : (f : ℕ) (x : StartedView J) → at_number nodes p f ≡ Some x → x.fiber.port.number ≡ f
   number_is f x here = (rw here at (so.numbered f)).0
 
-  reported_is : (f : ℕ) (x : Started J) → at_number nodes p f ≡ Some x → Some (reported nodes x) ≡ report_of_fiber f (m.fibers f)
+  reported_is : (f : ℕ) (x : StartedView J) → at_number nodes p f ≡ Some x → Some (reported nodes x) ≡ report_of_fiber f (m.fibers f)
   unfolding report_of_held
   reported_is f x here =
       let is = is_fiber nodes s p m so f x here in
@@ -84,7 +84,7 @@ module _ {J : Type 0} (nodes : List Node) (s : ScriptView) (p : PlainMachine J) 
   each_is : (f : ℕ) → option_map (reported nodes) (at_number nodes p f) ≡ report_of_fiber f (m.fibers f)
   each_is f = by_place (at_number nodes p f) refl
     where
-      by_place : (z : Option (Started J)) → at_number nodes p f ≡ z → option_map (reported nodes) z ≡ report_of_fiber f (m.fibers f)
+      by_place : (z : Option (StartedView J)) → at_number nodes p f ≡ z → option_map (reported nodes) z ≡ report_of_fiber f (m.fibers f)
       by_place None here = none_is f here
       by_place (Some x) here = reported_is f x here
 

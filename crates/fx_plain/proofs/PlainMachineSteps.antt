@@ -18,7 +18,7 @@ use Rattle.fx_fiber.specs.declared.stepped.Stepped.{Stepped}
 use Rattle.fx_fiber.specs.MakesStep.{Calls, MakesStep}
 use Rattle.fx_model.proofs.Runs.{events_append}
 use Rattle.fx_model.proofs.StepLabels.{step_tells}
-use Rattle.fx_plain.specs.declared.plain_machine.Started.{Started}
+use Rattle.fx_plain.specs.Started.{StartedView}
 use Rattle.fx_plain.specs.declared.plain_machine.PlainMachine.{PlainMachine}
 use Rattle.fx_plain.specs.WholeMachine.{StartedFiber, WholeMachine, Move, Steps, fibers_after, opening, stepped, moved, FiberSteps, WholeMachineLeads}
 use Rattle.fx_plain.specs.Chosen.{ChosenStep}
@@ -53,31 +53,31 @@ same_made e f g h i = rw (e, f, g, h, i) refl
 
 module _ {J : Type 0} (nodes : List Node) where
   -- the fiber of that number
-  abbrev pub at_number : PlainMachine J → ℕ → Option (Started J)
+  abbrev pub at_number : PlainMachine J → ℕ → Option (StartedView J)
   at_number p f = slice_index_or p.fibers.items f None
 
-  abbrev pub held_option : Option (Started J) → Option HeldFiber
+  abbrev pub held_option : Option (StartedView J) → Option HeldFiber
   held_option = option_map (held nodes)
 
   pub held_at : (p : PlainMachine J) (f : ℕ) → slice_index_or (all_held nodes p) f None ≡ held_option (at_number p f)
   held_at p f = get_or-map held_option p.fibers.items f None
 
   -- the fiber of the whole machine that a fiber of the machine is
-  pub record IsFiber (m : WholeMachine) (f : ℕ) (x : Started J) : Type 0 where
+  pub record IsFiber (m : WholeMachine) (f : ℕ) (x : StartedView J) : Type 0 where
     pub fiber : StartedFiber
     pub at : m.fibers f ≡ Some fiber
     pub is : held nodes x ≡ held_of fiber
 
-  is_fiber_of : (x : Started J) (z : Option StartedFiber) → Some (held nodes x) ≡ option_map held_of z → (m : WholeMachine) (f : ℕ) → m.fibers f ≡ z
+  is_fiber_of : (x : StartedView J) (z : Option StartedFiber) → Some (held nodes x) ≡ option_map held_of z → (m : WholeMachine) (f : ℕ) → m.fibers f ≡ z
       → IsFiber m f x
   is_fiber_of x None e m f at = absurd (none-some (held nodes x) (sym e))
   is_fiber_of x (Some y) e m f at = record { fiber = y; at = at; is = same_Some (held nodes x) (held_of y) e }
 
-  pub is_fiber : (s : ScriptView) (p : PlainMachine J) (m : WholeMachine) → StandsForRun nodes s p m → (f : ℕ) (x : Started J)
+  pub is_fiber : (s : ScriptView) (p : PlainMachine J) (m : WholeMachine) → StandsForRun nodes s p m → (f : ℕ) (x : StartedView J)
       → at_number p f ≡ Some x → IsFiber m f x
   is_fiber s p m so f x here = is_fiber_of x (m.fibers f) (sym (ap held_option here) ∙ sym (held_at p f) ∙ so.stands.fibers f) m f refl
 
-  module _ (s : ScriptView) (p : PlainMachine J) (m : WholeMachine) (so : StandsForRun nodes s p m) (f : ℕ) (x : Started J)
+  module _ (s : ScriptView) (p : PlainMachine J) (m : WholeMachine) (so : StandsForRun nodes s p m) (f : ℕ) (x : StartedView J)
       (here : at_number p f ≡ Some x) (is : IsFiber m f x) where
     kept : IsKept s m
     kept = run_keeps s so.moves m so.run
@@ -131,7 +131,7 @@ module _ {J : Type 0} (nodes : List Node) where
           let found = start_finds s so.moves m f g b after so.run (subst (λ (k : Label). FiberSteps s m f k after) starts step_made) in
           (found.free, found.below)
 
-      module _ (p' : PlainMachine J) (x' : Started J) (world : p'.world ≡ w') (parent : x'.parent ≡ x.parent) (fiber : x'.fiber ≡ new)
+      module _ (p' : PlainMachine J) (x' : StartedView J) (world : p'.world ≡ w') (parent : x'.parent ≡ x.parent) (fiber : x'.fiber ≡ new)
           (number : new.port.number ≡ x.fiber.port.number) (beginning : new.port.beginning ≡ x.fiber.port.beginning)
           (long : length p'.fibers.items ≡ length p.fibers.items) (there : at_number p' f ≡ Some x')
           (others : (h : ℕ) → (h ≡ f → ⊥) → held_option (at_number p' h) ≡ option_map held_of (fibers_after f l m.fibers h))

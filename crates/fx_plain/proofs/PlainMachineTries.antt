@@ -22,7 +22,7 @@ use Rattle.fx_fiber.specs.declared.stepped.Stepped.{Stepped}
 use Rattle.fx_fiber.specs.declared.stepped.Stepped.TheVariants.{Went, Child, Waits, Gave, Ended}
 use Rattle.fx_fiber.specs.MakesStep.{is_yielding, value_offered, AnswersSilently, Answers, StartsChild, Tells, MakesStep, OnlyWaits, DoesStep}
 use Rattle.fx_plain.specs.declared.class.Class.TheVariants as class
-use Rattle.fx_plain.specs.declared.plain_machine.Started.{Started}
+use Rattle.fx_plain.specs.Started.{StartedView}
 use Rattle.fx_plain.specs.declared.plain_machine.PlainMachine.{PlainMachine}
 use Rattle.fx_term.specs.Maps.{with_at}
 use Rattle.fx_plain.specs.WholeMachine.{StartedFiber, WholeMachine, begun, fibers_after}
@@ -104,7 +104,7 @@ module _ (nodes : List Node) (leaf : Option Term) (f : ℕ) (fibers : ℕ → Op
   start_told (Shows _) c h = absurd cc
   start_told (Learns g o v) c h = absurd cc
 
-module _ {J : Type 0} (nodes : List Node) (s : ScriptView) (p : PlainMachine J) (m : WholeMachine) (so : StandsForRun nodes s p m) (f : ℕ) (x : Started J)
+module _ {J : Type 0} (nodes : List Node) (s : ScriptView) (p : PlainMachine J) (m : WholeMachine) (so : StandsForRun nodes s p m) (f : ℕ) (x : StartedView J)
     (here : at_number nodes p f ≡ Some x) where
   is : IsFiber nodes m f x
   is = is_fiber nodes s p m so f x here
@@ -157,18 +157,18 @@ module _ {J : Type 0} (nodes : List Node) (s : ScriptView) (p : PlainMachine J) 
         omega arith
 
   -- the machine after it; the places of all fibers once this one has made its step
-  module _ (p' : PlainMachine J) (x' : Started J) (middle : List (Option (Started J))) (stepped : middle ≡ slice_set p.fibers.items f (Some x')) where
+  module _ (p' : PlainMachine J) (x' : StartedView J) (middle : List (Option (StartedView J))) (stepped : middle ≡ slice_set p.fibers.items f (Some x')) where
     middle_long : length middle ≡ length p.fibers.items
     middle_long = ap length stepped ∙ length-set p.fibers.items f (Some x')
 
     middle_there : slice_index_or middle f None ≡ Some x'
     middle_there =
-        ap (λ (xs : List (Option (Started J))). slice_index_or xs f None) stepped
+        ap (λ (xs : List (Option (StartedView J))). slice_index_or xs f None) stepped
         ∙ get_or-set_same p.fibers.items f (Some x') None (let e = long_is in let lt = below in omega arith)
 
     middle_others : (h : ℕ) → (h ≡ f → ⊥) → slice_index_or middle h None ≡ at_number nodes p h
     middle_others h apart =
-        ap (λ (xs : List (Option (Started J))). slice_index_or xs h None) stepped ∙ get_or-set_other p.fibers.items f h (Some x') None apart
+        ap (λ (xs : List (Option (StartedView J))). slice_index_or xs h None) stepped ∙ get_or-set_other p.fibers.items f h (Some x') None apart
 
     -- where no fiber was laid down since
     module _ (same : p'.fibers.items ≡ middle) where
@@ -176,10 +176,10 @@ module _ {J : Type 0} (nodes : List Node) (s : ScriptView) (p : PlainMachine J) 
       same_long = ap length same ∙ middle_long
 
       same_there : at_number nodes p' f ≡ Some x'
-      same_there = ap (λ (xs : List (Option (Started J))). slice_index_or xs f None) same ∙ middle_there
+      same_there = ap (λ (xs : List (Option (StartedView J))). slice_index_or xs f None) same ∙ middle_there
 
       same_others : (h : ℕ) → (h ≡ f → ⊥) → at_number nodes p' h ≡ at_number nodes p h
-      same_others h apart = ap (λ (xs : List (Option (Started J))). slice_index_or xs h None) same ∙ middle_others h apart
+      same_others h apart = ap (λ (xs : List (Option (StartedView J))). slice_index_or xs h None) same ∙ middle_others h apart
 
     module _ (w' : WorldView) (new : FiberView PortView) (parent : x'.parent ≡ x.parent) (fiber : x'.fiber ≡ new)
         (number : new.port.number ≡ x.fiber.port.number) (beginning : new.port.beginning ≡ x.fiber.port.beginning) where
@@ -217,7 +217,7 @@ module _ {J : Type 0} (nodes : List Node) (s : ScriptView) (p : PlainMachine J) 
         abbrev b : Origin
         b = start.origin
 
-        module _ (child : Started J) (its_parent : child.parent ≡ Some f) (its_fiber : child.fiber ≡ c)
+        module _ (child : StartedView J) (its_parent : child.parent ≡ Some f) (its_fiber : child.fiber ≡ c)
             (in_place : p'.fibers.items ≡ slice_set middle c.port.number (Some child)) where
           child_is : held nodes child ≡ held_of (begun (Some f) b)
           child_is =
@@ -248,18 +248,18 @@ module _ {J : Type 0} (nodes : List Node) (s : ScriptView) (p : PlainMachine J) 
 
           fiber_there : at_number nodes p' f ≡ Some x'
           fiber_there =
-              ap (λ (xs : List (Option (Started J))). slice_index_or xs f None) in_place
+              ap (λ (xs : List (Option (StartedView J))). slice_index_or xs f None) in_place
               ∙ get_or-set_other middle c.port.number f (Some child) None is_another ∙ middle_there
 
           child_there : (h : ℕ) → h ≡ g → at_number nodes p' h ≡ Some child
           child_there h same =
-              ap (λ (xs : List (Option (Started J))). slice_index_or xs h None) in_place
+              ap (λ (xs : List (Option (StartedView J))). slice_index_or xs h None) in_place
               ∙ ap (λ (k : ℕ). slice_index_or (slice_set middle c.port.number (Some child)) k None) (same ∙ sym start.number_is)
               ∙ get_or-set_same middle c.port.number (Some child) None (let lt = child_below w' new c made in let n = middle_long in omega arith)
 
           rest_there : (h : ℕ) → (h ≡ f → ⊥) → (h ≡ g → ⊥) → at_number nodes p' h ≡ at_number nodes p h
           rest_there h apart ne =
-              ap (λ (xs : List (Option (Started J))). slice_index_or xs h None) in_place
+              ap (λ (xs : List (Option (StartedView J))). slice_index_or xs h None) in_place
               ∙ get_or-set_other middle c.port.number h (Some child) None (λ e. ne (e ∙ start.number_is)) ∙ middle_others h apart
 
           fibers_are : (h : ℕ) → option_map held_of (fibers_after f made.label m.fibers h) ≡ option_map held_of (with_at g (Some (begun (Some f) b)) m.fibers h)

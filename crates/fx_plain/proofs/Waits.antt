@@ -20,7 +20,7 @@ use Rattle.fx_report.specs.Script.{script_of}
 use Rattle.fx_report.specs.Text.{queue_names}
 use Rattle.fx_report.specs.Waits.{WaitsAtQueueBelow}
 use Rattle.fx_report.proofs.BlockedFibers.{fibers_of, blocked_of, wait_from, one_blocked}
-use Rattle.fx_plain.specs.declared.plain_machine.Started.{Started}
+use Rattle.fx_plain.specs.Started.{StartedView, reported, wait_of}
 use Rattle.fx_plain.specs.declared.plain_machine.PlainMachine.{PlainMachine}
 use Rattle.fx_plain.specs.declared.class.Class.{Class}
 use Rattle.fx_plain.specs.declared.class.Class.TheVariants.{Unstarted, Able, Waits, Over}
@@ -31,7 +31,7 @@ use Rattle.fx_plain.specs.Classes.{IsOfClass, is_ready}
 use Rattle.fx_plain.specs.ClassSets.{class_at}
 use Rattle.fx_plain.specs.PlainQueue.{have_room, have_element}
 use Rattle.fx_plain.specs.World.{HeldFiber}
-use Rattle.fx_plain.specs.PlainMachine.{reported, all_reported, wait_of, all_waits, all_held, StandsForRun, IsUnderWay, Halts}
+use Rattle.fx_plain.specs.PlainMachine.{all_reported, all_waits, all_held, StandsForRun, IsUnderWay, Halts}
 use Rattle.fx_plain.specs.Waits.{source_of_fiber, AreWaitsOf, IsReplayWithWaits}
 use Rattle.fx_plain.proofs.LawfulRuns.{opening_is_kept}
 use Rattle.fx_plain.proofs.OneRun.{one_run}
@@ -77,37 +77,37 @@ one_source m f None waits e all = all
 one_source m f (Some w) waits e all = All-cons (IsSourceIn m) (wait_from f w) waits e all
 
 module _ {J : Type 0} (nodes : List Node) where
-  abbrev source_in : Started J → Option Source
+  abbrev source_in : StartedView J → Option Source
   source_in x = source_at (progress nodes x.fiber)
 
-  abbrev ended_in : Started J → Bool
+  abbrev ended_in : StartedView J → Bool
   ended_in x = has_ended (progress nodes x.fiber)
 
-  abbrev wait_in : Option (Started J) → Option Wait
+  abbrev wait_in : Option (StartedView J) → Option Wait
   wait_in place = option_and_then (wait_of nodes) place
 
   -- the waits of one place more
-  more_waits : (fibers : List (Option (Started J))) (i : ℕ) (d : Option (Started J)) → i < length fibers
+  more_waits : (fibers : List (Option (StartedView J))) (i : ℕ) (d : Option (StartedView J)) → i < length fibers
       → all_waits nodes (take (i + 1) fibers) ≡ all_waits nodes (take i fibers) ++ cons_option (wait_in (slice_index_or fibers i d)) []
   more_waits fibers i d lt = ap (all_waits nodes) (take_more fibers i d lt) ∙ filter_map-append wait_in (take i fibers) (slice_index_or fibers i d ∷ [])
 
-  pub one_wait_more : (fibers : List (Option (Started J))) (i : ℕ) (d : Option (Started J)) (w : Wait) → i < length fibers
+  pub one_wait_more : (fibers : List (Option (StartedView J))) (i : ℕ) (d : Option (StartedView J)) (w : Wait) → i < length fibers
       → wait_in (slice_index_or fibers i d) ≡ Some w → all_waits nodes (take (i + 1) fibers) ≡ all_waits nodes (take i fibers) ++ w ∷ []
   one_wait_more fibers i d w lt e =
       more_waits fibers i d lt ∙ ap (λ (o : Option Wait). all_waits nodes (take i fibers) ++ cons_option o []) e
 
-  pub no_wait_more : (fibers : List (Option (Started J))) (i : ℕ) (d : Option (Started J)) → i < length fibers
+  pub no_wait_more : (fibers : List (Option (StartedView J))) (i : ℕ) (d : Option (StartedView J)) → i < length fibers
       → wait_in (slice_index_or fibers i d) ≡ None → all_waits nodes (take (i + 1) fibers) ≡ all_waits nodes (take i fibers)
   no_wait_more fibers i d lt e =
       more_waits fibers i d lt ∙ ap (λ (o : Option Wait). all_waits nodes (take i fibers) ++ cons_option o []) e
       ∙ append-nil (all_waits nodes (take i fibers))
 
   -- what is said of a place of the machine, in the whole machine
-  abbrev IsSaidRightly : WholeMachine → Option (Started J) → Type 0
+  abbrev IsSaidRightly : WholeMachine → Option (StartedView J) → Type 0
   IsSaidRightly m None = Unit {0}
   IsSaidRightly m (Some x) = HasEndedOrWaits (source_in x) (ended_in x) × (source_of_fiber (m.fibers x.fiber.port.number) ≡ source_in x)
 
-  blocked_are : (m : WholeMachine) (fibers : List (Option (Started J))) → ((i : ℕ) → IsSaidRightly m (slice_index_or fibers i None))
+  blocked_are : (m : WholeMachine) (fibers : List (Option (StartedView J))) → ((i : ℕ) → IsSaidRightly m (slice_index_or fibers i None))
       → fibers_of (all_waits nodes fibers) ≡ blocked_of (all_reported nodes fibers)
   blocked_are m [] h = refl
   blocked_are m (None ∷ fibers) h = blocked_are m fibers (λ i. h (suc i))
@@ -115,7 +115,7 @@ module _ {J : Type 0} (nodes : List Node) where
       one_blocked x.fiber.port.number (reported nodes x) (source_in x) (all_waits nodes fibers) (all_reported nodes fibers) refl (h 0).0
       (blocked_are m fibers (λ i. h (suc i)))
 
-  sources_are : (m : WholeMachine) (fibers : List (Option (Started J))) → ((i : ℕ) → IsSaidRightly m (slice_index_or fibers i None))
+  sources_are : (m : WholeMachine) (fibers : List (Option (StartedView J))) → ((i : ℕ) → IsSaidRightly m (slice_index_or fibers i None))
       → All (IsSourceIn m) (all_waits nodes fibers)
   sources_are m [] h = All-nil (IsSourceIn m)
   sources_are m (None ∷ fibers) h = sources_are m fibers (λ i. h (suc i))
@@ -126,7 +126,7 @@ module _ {J : Type 0} (nodes : List Node) where
     said_rightly : (f : ℕ) → IsSaidRightly m (at_number nodes p f)
     said_rightly f = by_place (at_number nodes p f) refl
       where
-        by_place : (z : Option (Started J)) → at_number nodes p f ≡ z → IsSaidRightly m z
+        by_place : (z : Option (StartedView J)) → at_number nodes p f ≡ z → IsSaidRightly m z
         by_place None here = tt
         by_place (Some x) here =
             let is = is_fiber nodes s p m so f x here in

@@ -12,5 +12,6 @@ pub mod WaiterBlocks
 pub mod PlainCalls
 pub mod World
 pub mod WorldClasses
+pub mod Started
 pub mod PlainMachine
 pub mod TextReplay

@@ -11,12 +11,11 @@ use Rattle.fx_fiber.specs.Fiber.{progress}
 use Rattle.fx_fiber.specs.declared.stepped.Stepped.{Stepped}
 use Rattle.fx_fiber.specs.MakesStep.{DoesStep}
 use Rattle.fx_fiber.specs.Bursts.{Bursts}
-use Rattle.fx_model.specs.Step.{has_ended, leaf_at}
-use Rattle.fx_model.specs.Waiting.{wait_at}
+use Rattle.fx_model.specs.Step.{has_ended}
 use Rattle.fx_model.specs.Report.{FiberReportView}
 use Rattle.fx_text.specs.declared.pick.Pick.{Pick}
 use Rattle.fx_report.specs.declared.wait.Wait.{Wait}
-use Rattle.fx_plain.specs.declared.plain_machine.Started.{Started}
+use Rattle.fx_plain.specs.Started.{StartedView, reported, wait_of}
 use Rattle.fx_plain.specs.declared.plain_machine.PlainMachine.{PlainMachine}
 use Rattle.fx_plain.specs.WholeMachine.{WholeMachine, Move, can_step_in, IsWholeMachineRun}
 use Rattle.fx_plain.specs.Chosen.{ChosenStep}
@@ -37,7 +36,7 @@ Halts p = (f : ℕ) → is_ready_in p.world f ≡ false
 
 module _ {J : Type 0} (nodes : List Node) where
   -- a fiber that has started
-  abbrev pub held : Started J → HeldFiber
+  abbrev pub held : StartedView J → HeldFiber
   held x = record {
     parent = x.parent;
     origin = origin_of nodes x.fiber.port.beginning;
@@ -46,44 +45,33 @@ module _ {J : Type 0} (nodes : List Node) where
     progress = progress nodes x.fiber;
   }
 
-  -- what is reported of it
-  abbrev pub reported : Started J → FiberReportView
-  reported x = record {
-    id = x.fiber.port.number;
-    parent = x.parent;
-    has_ended = has_ended (progress nodes x.fiber);
-    trace = x.fiber.trace;
-  }
+  -- what is reported of those that have started
+  abbrev pub all_reported : List (Option (StartedView J)) → List FiberReportView
+  all_reported fibers = filter_map (option_map (reported nodes)) fibers
 
-  abbrev pub all_reported : List (Option (Started J)) → List FiberReportView
-  all_reported fibers = filter_map (option_map reported) fibers
-
-  -- that it waits, if its leaf is one that can wait
-  abbrev pub wait_of : Started J → Option Wait
-  wait_of x = option_map (λ source. record { fiber = x.fiber.port.number; source = source }) (option_and_then wait_at (leaf_at (progress nodes x.fiber)))
-
-  abbrev pub all_waits : List (Option (Started J)) → List Wait
-  all_waits fibers = filter_map (option_and_then wait_of) fibers
+  -- what those wait for that have started
+  abbrev pub all_waits : List (Option (StartedView J)) → List Wait
+  all_waits fibers = filter_map (option_and_then (wait_of nodes)) fibers
 
   -- the fibers by number
   abbrev pub all_held : PlainMachine J → List (Option HeldFiber)
   all_held p = map (option_map held) p.fibers.items
 
   -- the fiber with this number, if it has started, has a port of that number, which counts what the fiber puts into each queue
-  abbrev pub IsNumbered : ℕ → Option (Started J) → Type 0
+  abbrev pub IsNumbered : ℕ → Option (StartedView J) → Type 0
   IsNumbered f None = Unit {0}
   IsNumbered f (Some x) = (x.fiber.port.number ≡ f) × ((q : ℕ) → slice_index x.fiber.port.put_counts q ≡ length (values_put q x.fiber.trace))
 
   -- a fiber has started at the place, and has not ended
-  abbrev pub IsGoingAt : Option (Started J) → Type 0
+  abbrev pub IsGoingAt : Option (StartedView J) → Type 0
   IsGoingAt None = ⊥
   IsGoingAt (Some x) = has_ended (progress nodes x.fiber) ≡ false
 
   -- the fiber of the place made a step with this answer, or waits, and stands there as before
-  pub record StepsAt (old : Option (Started J)) (world : WorldView) (answer : Stepped PortView WorldView) (new : Option (Started J)) (world' : WorldView)
+  pub record StepsAt (old : Option (StartedView J)) (world : WorldView) (answer : Stepped PortView WorldView) (new : Option (StartedView J)) (world' : WorldView)
       : Type 0 where
-    pub before : Started J
-    pub after : Started J
+    pub before : StartedView J
+    pub after : StartedView J
     pub from : old ≡ Some before
     pub to : new ≡ Some after
     pub does : DoesStep (plain_theory nodes) before.fiber world answer after.fiber world'
@@ -92,9 +80,9 @@ module _ {J : Type 0} (nodes : List Node) where
     pub beginning : after.fiber.port.beginning ≡ before.fiber.port.beginning
 
   -- the fiber of the place made a burst of at most so many steps, and stands there as before
-  pub record BurstsAt (most : ℕ) (old : Option (Started J)) (world : WorldView) (new : Option (Started J)) (world' : WorldView) : Type 0 where
-    pub before : Started J
-    pub after : Started J
+  pub record BurstsAt (most : ℕ) (old : Option (StartedView J)) (world : WorldView) (new : Option (StartedView J)) (world' : WorldView) : Type 0 where
+    pub before : StartedView J
+    pub after : StartedView J
     pub from : old ≡ Some before
     pub to : new ≡ Some after
     pub n : ℕ

@@ -43,6 +43,9 @@
 //! who waits for an element of it while it has one. With those who are able these are the ready ones, and
 //! who is not ready cannot step. Who is able may still wait: it is asked once, and then noted so.
 //!
+//! A fiber that has ended gives back all memory but that of its trace, and the next one that starts may
+//! have it.
+//!
 //! The report of that run has each fiber that started, ascending by number, with its parent, whether it
 //! has ended, and its trace; what is left in each queue; and which numbers were requested from outside.
 //! Beside it [`replay_to_halt`] says what each fiber waits for that has not ended.
@@ -65,6 +68,7 @@ mod plain_port;
 mod plain_queue;
 mod plain_world;
 mod put_counts;
+mod started;
 mod text_replay;
 mod waiter_blocks;
 

@@ -5,89 +5,24 @@ ghost use Rattle.fx_term.specs.Code.{IsCode};
 ghost use Rattle.fx_term.specs.Script.{ScriptView};
 ghost use Rattle.fx_text.specs.View.{meaning};
 ghost use Rattle.fx_text.specs.declared.pick.Pick.{Pick};
-ghost use Rattle.fx_model.specs.Step.{has_ended};
-ghost use Rattle.fx_fiber.specs.Fiber.{progress};
-ghost use Rattle.fx_fiber.specs.MakesStep.{DoesStep};
-ghost use Rattle.fx_fiber.specs.Bursts.{Bursts};
-ghost use Rattle.fx_plain.specs.PlainCalls.{plain_theory};
 ghost use Rattle.fx_plain.specs.WholeMachine.{WholeMachine, opening};
 ghost use Rattle.fx_plain.specs.Chosen.{IsReplay};
 ghost use Rattle.fx_plain.specs.ClassSets.{class_at, is_able};
 ghost use Rattle.fx_plain.specs.World.{is_ready_in};
-ghost use Rattle.fx_plain.specs.PlainMachine.{reported, all_reported, StandsForRun, StandsForSome, Tries, IsUnderWay, Halts};
+ghost use Rattle.fx_plain.specs.PlainMachine.{all_reported, StandsForRun, StandsForSome, Tries, IsUnderWay, Halts};
 ghost use Rattle.fx_plain.specs.PlainMachine.{IsGoingAt, StepsAt, BurstsAt, GoesOn};
-ghost use Rattle.fx_plain.specs.PlainMachine.{wait_of, all_waits};
+ghost use Rattle.fx_plain.specs.PlainMachine.{all_waits};
+ghost use Rattle.fx_plain.specs.Started.{wait_of};
 ghost use Rattle.fx_report.specs.Script.{script_of};
 
 use crate::plain_port::PlainPort;
 use crate::plain_world::PlainWorld;
-use fx_fiber::{Fiber, FiberReport, Report, State, Stepped};
+use crate::started::Started;
+use fx_fiber::{Fiber, FiberReport, Report, Stepped};
 use fx_report::Wait;
 use fx_term::{Code, CodeBrand, Memory};
 use fx_text::{Pick, Script};
 use std::alloc::Global;
-
-/// A fiber that has started, and who started it.
-#[derive(Drop)]
-struct Started<J: CodeBrand> {
-    parent: Option<u32>,
-    fiber: Fiber<PlainPort<J>>,
-}
-
-impl<J: CodeBrand> Started<J> {
-    /// What it waits for, if its leaf is one that can wait.
-    fn wait(&self, code: &Code) -> Option<Wait>
-        requires { code.now.nodes ≡ J.nodes }
-        ensures { result ≡ wait_of J.nodes self.now }
-    {
-        let source = self.fiber.waits_for(code)?;
-        Some(Wait {
-            fiber: self.fiber.id(),
-            source,
-        })
-    }
-
-    /// Lets it make one step.
-    fn step(&mut self, code: &Code, world: &mut PlainWorld) -> Result<Stepped<PlainPort<J>>, Memory>
-        requires code { code.now.nodes ≡ J.nodes }
-        requires going { has_ended (progress J.nodes self.old.fiber) ≡ false }
-        ensures ok { IfOk result (λ answer. DoesStep (plain_theory J.nodes)
-            self.old.fiber world.old answer self.new.fiber world.new) }
-        ensures same { self.new ≡ record self.old { fiber = self.new.fiber } }
-        ensures number { self.new.fiber.port.number ≡ self.old.fiber.port.number }
-        ensures beginning { self.new.fiber.port.beginning ≡ self.old.fiber.port.beginning }
-    {
-        self.fiber.step(code, world)
-    }
-
-    /// Lets it make steps in one go that need no other fiber, as many as it can, and answers how many it
-    /// made.
-    fn burst(&mut self, code: &Code, world: &mut PlainWorld) -> Result<u32, Memory>
-        requires code { code.now.nodes ≡ J.nodes }
-        ensures ok { IfOk result (λ n. Bursts (plain_theory J.nodes) (2 ^ 32 - 1) n
-            self.old.fiber world.old self.new.fiber world.new) }
-        ensures same { self.new ≡ record self.old { fiber = self.new.fiber } }
-    {
-        self.fiber.burst(code, world, u32::MAX)
-    }
-
-    /// What is reported of it.
-    fn into_report(self) -> FiberReport
-        ensures { result ≡ reported J.nodes self }
-    {
-        let state = if self.fiber.has_ended() {
-            State::Ended
-        } else {
-            State::Blocked
-        };
-        FiberReport {
-            id: self.fiber.id(),
-            parent: self.parent,
-            state,
-            trace: self.fiber.into_trace(),
-        }
-    }
-}
 
 /// What is reported of those that have started.
 fn reports_of<J: CodeBrand>(
@@ -149,6 +84,15 @@ fn alone<J: CodeBrand>(
     Ok(fibers)
 }
 
+/// Gives back what memory the fiber of this place does not need once it has ended.
+fn spare_at<J: CodeBrand>(place: &mut Option<Started<J>>)
+    ensures { place.new ≡ place.old }
+{
+    if let Some(started) = place.take() {
+        *place = Some(started.without_spare());
+    }
+}
+
 /// Lets the fiber of this place make one step where it stands.
 fn step_at<J: CodeBrand>(
     place: &mut Option<Started<J>>,
@@ -163,7 +107,11 @@ fn step_at<J: CodeBrand>(
     let Some(started) = place else {
         unreachable!();
     };
-    started.step(code, world)
+    let answer = started.step(code, world)?;
+    if matches!(answer, Stepped::Ended) {
+        spare_at(place);
+    }
+    Ok(answer)
 }
 
 /// Lets the fiber of this place make steps in one go, where it stands, that need no other fiber.
@@ -181,6 +129,15 @@ fn burst_at<J: CodeBrand>(
     };
     let _ = started.burst(code, world)?;
     Ok(())
+}
+
+/// What the next try of a fiber begins with.
+#[derive(Clone, Copy)]
+enum Next {
+    /// A burst: rules may come that need no other fiber.
+    Burst,
+    /// A step: a burst would hardly make a rule.
+    Step,
 }
 
 /// All fibers of a script on one thread: the world that they share, and by number each one that has
@@ -201,8 +158,7 @@ impl<J: CodeBrand> PlainMachine<J> {
     {
         let (world, port) = PlainWorld::new(alloc, script)?;
         let fiber = Fiber::new(alloc, &script.code, port)?;
-        let parent = None;
-        let fibers = alone(alloc, world.total(), Started { parent, fiber })?;
+        let fibers = alone(alloc, world.total(), Started::new(None, fiber))?;
         Ok(PlainMachine { world, fibers })
     }
 
@@ -216,34 +172,39 @@ impl<J: CodeBrand> PlainMachine<J> {
         self.fibers[id as usize] = Some(started);
     }
 
-    /// Lets a fiber that is able make one step; or notes that it waits.
-    fn step_able(&mut self, code: &Code, id: u32) -> Result<(), Memory>
+    /// Lets a fiber that is able make one step; or notes that it waits. After a start or an end the next fiber
+    /// mostly stands where it waits or has waited, so its step is tried at once.
+    fn step_able(&mut self, code: &Code, id: u32) -> Result<Next, Memory>
         requires code { code.now.nodes ≡ J.nodes }
         requires able { is_able (class_at self.old.world.classes id) ≡ true }
         requires stands { StandsForSome J.nodes self.old }
         ensures tries { OnOk result ((s : ScriptView) (m : WholeMachine)
             → StandsForRun J.nodes s self.old m → Tries J.nodes s m id self.old self.new) }
     {
-        match step_at(&mut self.fibers[id as usize], code, &mut self.world)? {
-            Stepped::Went | Stepped::Gave | Stepped::Ended => {}
+        let answer = step_at(&mut self.fibers[id as usize], code, &mut self.world)?;
+        Ok(match answer {
+            Stepped::Went | Stepped::Gave => Next::Burst,
+            Stepped::Ended => Next::Step,
             Stepped::Child(fiber) => {
-                let parent = Some(id);
-                self.put(fiber.id(), Started { parent, fiber });
+                self.put(fiber.id(), Started::new(Some(id), fiber));
+                Next::Step
             }
-            Stepped::Waits(source) => self.world.wait(id, source),
-        }
-        Ok(())
+            Stepped::Waits(source) => {
+                self.world.wait(id, source);
+                Next::Burst
+            }
+        })
     }
 
-    /// Lets a fiber that is able make steps in one go that need no other fiber. One that waits stands at
-    /// none.
-    fn burst(&mut self, code: &Code, id: u32) -> Result<(), Memory>
+    /// Lets a fiber that is able make steps in one go that need no other fiber, where a burst comes next. One
+    /// that waits stands at none.
+    fn burst(&mut self, code: &Code, id: u32, next: Next) -> Result<(), Memory>
         requires code { code.now.nodes ≡ J.nodes }
         requires stands { StandsForSome J.nodes self.old }
         ensures goes { OnOk result ((s : ScriptView) (m : WholeMachine) → StandsForRun J.nodes s self.old m
             → (m' : WholeMachine) × GoesOn J.nodes s id m self.old m' self.new) }
     {
-        if self.world.is_able(id) {
+        if matches!(next, Next::Burst) && self.world.is_able(id) {
             burst_at(&mut self.fibers[id as usize], code, &mut self.world)?;
         }
         Ok(())
@@ -251,7 +212,7 @@ impl<J: CodeBrand> PlainMachine<J> {
 
     /// Lets a fiber that is ready make one step; or notes that it waits. One that waited at a queue may
     /// step, and does.
-    fn try_step(&mut self, code: &Code, id: u32) -> Result<(), Memory>
+    fn try_step(&mut self, code: &Code, id: u32) -> Result<Next, Memory>
         requires code { code.now.nodes ≡ J.nodes }
         requires ready { is_ready_in self.old.world id ≡ true }
         requires stands { StandsForSome J.nodes self.old }
@@ -274,7 +235,7 @@ impl<J: CodeBrand> PlainMachine<J> {
         match pick {
             Pick::Step(fiber) => {
                 if self.world.is_ready(fiber) {
-                    self.try_step(code, fiber)?;
+                    let _ = self.try_step(code, fiber)?;
                 }
             }
             Pick::Cancel(fiber) => self.world.request_from_outside(fiber),
@@ -290,9 +251,10 @@ impl<J: CodeBrand> PlainMachine<J> {
         ensures way { OnOk result ((s : ScriptView) (all : List Pick)
             → IsUnderWay J.nodes s all [] self.old → IsUnderWay J.nodes s all [] self.new) }
     {
+        let mut next = Next::Burst;
         while let Some(fiber) = self.world.least() {
-            self.burst(code, fiber)?;
-            self.try_step(code, fiber)?;
+            self.burst(code, fiber, next)?;
+            next = self.try_step(code, fiber)?;
         }
         Ok(())
     }

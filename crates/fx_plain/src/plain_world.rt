@@ -273,8 +273,13 @@ impl PlainWorld {
     pub fn start(&mut self, fiber: u32)
         ensures { self.new ≡ after_start fiber self.old }
     {
-        self.found = None;
         self.classes.become_able(fiber);
+        // who was found stays the least one, unless this one is below
+        if let Some(least) = self.found {
+            if fiber < least {
+                self.found = None;
+            }
+        }
     }
 
     /// The fiber may step. If it may already, nothing changes.

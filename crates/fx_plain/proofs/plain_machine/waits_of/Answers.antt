@@ -1,7 +1,7 @@
 use Rattle.std.proofs.Common.{◌≡◌, sym, ◌∙◌, ap, subst, ◌++◌, ◌∷◌, [], List}
 use Rattle.std.specs.Prelude.{option_and_then}
 use Rattle.fx_report.specs.declared.wait.Wait.{Wait}
-use Rattle.fx_plain.specs.PlainMachine.{wait_of}
+use Rattle.fx_plain.specs.Started.{wait_of}
 use Rattle.fx_plain.proofs.Waits.{one_wait_more, no_wait_more}
 use Rattle.fx_plain.proofs.plain_machine.waits_of.Goals.{in-Some+in_ok-push, in_default}
 use Rattle.fx_plain.proofs.plain_machine.waits_of.Goals as goal

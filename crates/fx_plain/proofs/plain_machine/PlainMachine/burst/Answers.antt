@@ -22,5 +22,5 @@ returns-in_ok-burst_at g c =
           (ap (slice_set p.fibers.items c.args.id) at.to) at.parent refl refl;
     }
 
-pub returns-else-is_able : goal.returns-else-is_able
-returns-else-is_able g c = record { goes = λ s m so. (m, stays so refl) }
+pub returns-else-matches : goal.returns-else-matches
+returns-else-matches g c = record { goes = λ s m so. (m, stays so refl) }

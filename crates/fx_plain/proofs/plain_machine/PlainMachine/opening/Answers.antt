@@ -25,7 +25,7 @@ returns-clause-stands g c =
     let e : c.total.result ≡ suc (length (replicate (need script.term) Unstarted)) = c.total.ensures ∙ ap (λ (w : WorldView). length w.classes) world in
     omega arith in
     opening_stands_for g.J.CodeBrand.nodes script _ (record { parent = None; fiber = c.in_ok-fiber.fiber }) world
-    (rw total at c.in_ok-fibers.ensures)
+    (rw c.new-3.ensures at (rw total at c.in_ok-fibers.ensures))
     (same_made refl
     (ap (λ (q : PortView). origin_of g.J.CodeBrand.nodes q.beginning) port ∙ ap (λ (n : List Node). origin_of n (main_begin_of nodes)) (sym c.requires.code)
     ∙ main_begins nodes)

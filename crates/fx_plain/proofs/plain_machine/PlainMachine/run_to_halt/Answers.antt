@@ -26,7 +26,7 @@ loop-fiber-smaller g c =
     let q = c.burst.new.self in
     let f = c.in-Some.fiber in
     let on = goes_on_the_same nodes f p q c.least.new.self c.least.ensures.same c.in_ok-burst.ensures.goes in
-    try_after_burst_leaves_less nodes f p q on c.try_step.new.self c.loop-fiber.invariant.0 c.in_ok-try_step.ensures.tries
+    try_after_burst_leaves_less nodes f p q on c.try_step.new.self c.loop-fiber.invariant.0 c.in_ok-next.ensures.tries
 
 pub loop-fiber-preserved : goal.loop-fiber-preserved
 loop-fiber-preserved g c =
@@ -38,7 +38,7 @@ loop-fiber-preserved g c =
     let on = goes_on_the_same nodes f p q c.least.new.self c.least.ensures.same c.in_ok-burst.ensures.goes in
     let some = some_after_burst nodes f p q on c.loop-fiber.invariant.0 in
     let world = world_after_burst nodes f p q on c.loop-fiber.invariant.0 in
-    let tries = c.in_ok-try_step.ensures.tries in
+    let tries = c.in_ok-next.ensures.tries in
     let least = c.in-Some.ensures.least.1 in (
       tried_some nodes some.0 f q p' (tries some.0) some.1 some.2,
       λ s all u. tried_least nodes s all f q p' (tries s) (λ h lt. rw world (least h lt))

@@ -1,0 +1,47 @@
+-- A fiber that has started: who started it, and what it is, also where only its report is kept.
+use Rattle.std.specs.Prelude.{◌≡◌, ℕ, true, Option, option_map, option_and_then, List}
+use Rattle.fx_term.specs.declared.node.Node.{Node}
+use Rattle.fx_model.specs.Step.{has_ended, leaf_at}
+use Rattle.fx_model.specs.Waiting.{wait_at}
+use Rattle.fx_model.specs.Report.{FiberReportView}
+use Rattle.fx_fiber.specs.Fiber.{FiberView, progress}
+use Rattle.fx_report.specs.declared.wait.Wait.{Wait}
+use Rattle.fx_plain.specs.declared.started.Ended.{Ended}
+use Rattle.fx_plain.specs.declared.started.Stage.{Stage}
+use Rattle.fx_plain.specs.declared.started.Stage.TheVariants.{Going, Over}
+use Rattle.fx_plain.specs.PlainCalls.{PortView}
+
+-- a fiber that has started, and who started it, of the code of this brand
+pub record StartedView (J : Type 0) : Type 0 where
+  pub parent : Option ℕ
+  pub fiber : FiberView PortView
+
+-- the fiber of a stage
+abbrev pub fiber_of : {J : Type 0} → Stage J → FiberView PortView
+fiber_of (Going fiber) = fiber
+fiber_of (Over kept) = kept.was.value
+
+-- what is kept of a fiber is what is told of it, and it has ended
+pub record IsKeptOf {J : Type 0} (nodes : List Node) (kept : Ended J) (fiber : FiberView PortView) : Type 0 where
+  pub id : kept.id ≡ fiber.port.number
+  pub trace : kept.trace.items ≡ fiber.trace
+  pub over : has_ended (progress nodes fiber) ≡ true
+
+-- a stage that keeps only what is told keeps that
+abbrev pub IsKeptWell : {J : Type 0} → List Node → Stage J → Type 0
+IsKeptWell nodes (Going fiber) = Unit {0}
+IsKeptWell nodes (Over kept) = IsKeptOf nodes kept kept.was.value
+
+module _ {J : Type 0} (nodes : List Node) where
+  -- what is reported of a fiber
+  abbrev pub reported : StartedView J → FiberReportView
+  reported x = record {
+    id = x.fiber.port.number;
+    parent = x.parent;
+    has_ended = has_ended (progress nodes x.fiber);
+    trace = x.fiber.trace;
+  }
+
+  -- that it waits, if its leaf is one that can wait
+  abbrev pub wait_of : StartedView J → Option Wait
+  wait_of x = option_map (λ source. record { fiber = x.fiber.port.number; source = source }) (option_and_then wait_at (leaf_at (progress nodes x.fiber)))

@@ -1,0 +1,170 @@
+//! A fiber that has started.
+ghost use Rattle.std.specs.Prelude.{◌≡◌, ◌^◌, ◌-◌, true, false, IfOk};
+ghost use Rattle.fx_model.specs.Step.{has_ended};
+ghost use Rattle.fx_fiber.specs.Fiber.{progress};
+ghost use Rattle.fx_fiber.specs.MakesStep.{DoesStep};
+ghost use Rattle.fx_fiber.specs.Bursts.{Bursts};
+ghost use Rattle.fx_plain.specs.PlainCalls.{plain_theory};
+ghost use Rattle.fx_plain.specs.Started.{reported, wait_of};
+
+use crate::plain_port::PlainPort;
+use crate::plain_world::PlainWorld;
+use fx_fiber::{Fiber, FiberReport, State, Stepped};
+use fx_report::Wait;
+use fx_term::{Code, CodeBrand, Event, Memory};
+use std::marker::Model;
+use std::snapshot::Snapshot;
+
+/// What is kept of a fiber that has ended. What it was is known to proofs alone.
+#[derive(Drop)]
+pub(crate) struct Ended<J: CodeBrand> {
+    id: u32,
+    trace: Vec<Event>,
+    was: Snapshot<Fiber<PlainPort<J>>>,
+}
+
+impl<J: CodeBrand> Ended<J> {
+    ghost use Rattle.fx_plain.specs.Started.{IsKeptOf};
+
+    /// What is kept of this one.
+    fn of(fiber: Fiber<PlainPort<J>>) -> Ended<J>
+        requires { has_ended (progress J.nodes fiber) ≡ true }
+        ensures was { result.was.value ≡ fiber }
+        ensures kept { IsKeptOf J.nodes result fiber }
+    {
+        let was = Snapshot::of(&fiber);
+        let id = fiber.id();
+        let trace = fiber.into_trace();
+        Ended { id, trace, was }
+    }
+}
+
+/// A fiber, whole or by what is kept of it.
+#[derive(Drop)]
+pub(crate) enum Stage<J: CodeBrand> {
+    /// It has its machine.
+    Going(Fiber<PlainPort<J>>),
+    /// It has ended, and has given back all memory but that of its trace.
+    Over(Ended<J>),
+}
+
+/// A fiber that has started, and who started it.
+#[derive(Drop)]
+pub(crate) struct Started<J: CodeBrand> {
+    parent: Option<u32>,
+    stage: Stage<J>,
+}
+
+impl<J: CodeBrand> Model for Started<J> {
+    ghost use Rattle.fx_plain.specs.Started.{StartedView, fiber_of, IsKeptWell};
+
+    ghost Value = { StartedView J };
+
+    ghost view = { λ s. record { parent = s.parent; fiber = fiber_of s.stage } };
+
+    ghost invariant = { λ s. IsKeptWell J.nodes s.stage };
+}
+
+impl<J: CodeBrand> Started<J> {
+    /// A fiber that this one started, or nobody.
+    pub fn new(parent: Option<u32>, fiber: Fiber<PlainPort<J>>) -> Started<J>
+        ensures { result ≡ record { parent = parent; fiber = fiber } }
+    {
+        let stage = Stage::Going(fiber);
+        Started { parent, stage }
+    }
+
+    /// What it waits for, if its leaf is one that can wait.
+    pub fn wait(&self, code: &Code) -> Option<Wait>
+        requires { code.now.nodes ≡ J.nodes }
+        ensures { result ≡ wait_of J.nodes self.now }
+    {
+        let Stage::Going(fiber) = &self.stage else {
+            return None;
+        };
+        let source = fiber.waits_for(code)?;
+        Some(Wait {
+            fiber: fiber.id(),
+            source,
+        })
+    }
+
+    /// Lets it make one step.
+    pub fn step(
+        &mut self,
+        code: &Code,
+        world: &mut PlainWorld,
+    ) -> Result<Stepped<PlainPort<J>>, Memory>
+        requires code { code.now.nodes ≡ J.nodes }
+        requires going { has_ended (progress J.nodes self.old.fiber) ≡ false }
+        ensures ok { IfOk result (λ answer. DoesStep (plain_theory J.nodes)
+            self.old.fiber world.old answer self.new.fiber world.new) }
+        ensures same { self.new ≡ record self.old { fiber = self.new.fiber } }
+        ensures number { self.new.fiber.port.number ≡ self.old.fiber.port.number }
+        ensures beginning { self.new.fiber.port.beginning ≡ self.old.fiber.port.beginning }
+    {
+        let Stage::Going(fiber) = &mut self.stage else {
+            unreachable!();
+        };
+        fiber.step(code, world)
+    }
+
+    /// Lets it make steps in one go that need no other fiber, as many as it can, and answers how many it
+    /// made.
+    pub fn burst(&mut self, code: &Code, world: &mut PlainWorld) -> Result<u32, Memory>
+        requires code { code.now.nodes ≡ J.nodes }
+        requires going { has_ended (progress J.nodes self.old.fiber) ≡ false }
+        ensures ok { IfOk result (λ n. Bursts (plain_theory J.nodes) (2 ^ 32 - 1) n
+            self.old.fiber world.old self.new.fiber world.new) }
+        ensures same { self.new ≡ record self.old { fiber = self.new.fiber } }
+    {
+        let Stage::Going(fiber) = &mut self.stage else {
+            unreachable!();
+        };
+        fiber.burst(code, world, u32::MAX)
+    }
+
+    /// The same fiber, without the memory that it does not need once it has ended: the next one to start
+    /// may have that.
+    pub fn without_spare(self) -> Started<J>
+        ensures { result ≡ self }
+    {
+        let Started { parent, stage } = self;
+        let stage = match stage {
+            Stage::Going(fiber) => {
+                if fiber.has_ended() {
+                    Stage::Over(Ended::of(fiber))
+                } else {
+                    Stage::Going(fiber)
+                }
+            }
+            Stage::Over(kept) => Stage::Over(kept),
+        };
+        Started { parent, stage }
+    }
+
+    /// What is reported of it.
+    pub fn into_report(self) -> FiberReport
+        ensures { result ≡ reported J.nodes self }
+    {
+        let parent = self.parent;
+        match self.stage {
+            Stage::Going(fiber) => FiberReport {
+                id: fiber.id(),
+                parent,
+                state: if fiber.has_ended() {
+                    State::Ended
+                } else {
+                    State::Blocked
+                },
+                trace: fiber.into_trace(),
+            },
+            Stage::Over(Ended { id, trace, .. }) => FiberReport {
+                id,
+                parent,
+                state: State::Ended,
+                trace,
+            },
+        }
+    }
+}
