@@ -20,6 +20,7 @@ class Function:
     last: int
     cycle: str | None
     is_test: bool
+    is_default: bool  # a trait's own, with a body
 
 
 def sources(folder):
@@ -66,7 +67,8 @@ def in_file(file, lines, module, homes):
         above = "\n".join(lines[first - 1 : n])
         cycle = re.search(r"#\[cycle\((\w+)\)\]", above)
         is_test = inner == "tests" or "tests" in file or "#[test]" in above
-        yield Function(joined(place, own), joined(place, "fn", f"{own}::"), file, first, body, last, cycle and cycle[1], is_test)
+        is_default = bool(named[1]) and not impl and not inner
+        yield Function(joined(place, own), joined(place, "fn", f"{own}::"), file, first, body, last, cycle and cycle[1], is_test, is_default)
 
 
 def joined(*parts):

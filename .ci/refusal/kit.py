@@ -5,6 +5,8 @@ import shutil
 import subprocess
 import tempfile
 
+from refusal.stubs import put_holes, with_stubs
+
 # What a check is taken to need at most.
 BYTES_A_CHECK = 5_000_000_000
 
@@ -47,17 +49,18 @@ def lanes():
     return max(1, min(len(os.sched_getaffinity(0)), free // BYTES_A_CHECK))
 
 
-def check(crate, texts, kept, only):
-    """Checks these functions of the crate with these texts in place of its own, over what is kept in a folder from earlier checks. Gives what was said and the
-    processor seconds."""
+def check(crate, texts, kept, only, stubbed):
+    """Checks these functions of the crate with these texts in place of its own, with stubs for others, over what is kept in a folder from earlier checks.
+    Gives what was said and the processor seconds."""
     with tempfile.TemporaryDirectory(prefix="refused-") as room, tempfile.TemporaryFile("w+", errors="replace") as said:
         for part in RTLIB.PARTS:
             if os.path.isdir(f"{crate.folder}/{part}"):
                 shutil.copytree(f"{crate.folder}/{part}", f"{room}/{part}")
-        for path, text in texts.items():
+        for path, text in with_stubs(texts, stubbed).items():
             with open(f"{room}/{path}", "w", encoding="utf-8") as it:
                 it.write(text)
-        words = [RTLIB.RATTLE, "check", *crate.words(["--jobs", "1"], keeps=False), "--incremental", kept]
+        put_holes(room, crate.name, stubbed)
+        words = [RTLIB.RATTLE, "check", *crate.words(["--jobs", "1"], keeps=False), "--incremental", kept, "--allow-holes"]
         words += [it for path in sorted(only) for it in ("--only", path)]
         how = {"cwd": room, "stdin": subprocess.DEVNULL, "stdout": said, "stderr": subprocess.STDOUT}
         _, _, used = os.wait4(subprocess.Popen([*RTLIB.guarded(), *words], **how).pid, 0)

@@ -5,9 +5,10 @@ import tempfile
 from collections import Counter
 
 from refusal import edit as edits
-from refusal.evidence import PROVED, against, is_answer, verdict_on
+from refusal.evidence import KEEPS, OF_STUB, against, is_answer, verdict_on
 from refusal.functions import callees, functions, reached, sources
 from refusal.kit import check
+from refusal.stubs import stubs
 
 HARMLESS = "let _ = ();"
 
@@ -90,7 +91,8 @@ class Trial:
         texts = self.texts
         for edit in chosen:
             texts = edit.applied(texts)
-        said, seconds = check(self.crate, with_harmless(texts, controls[0]), kept, {*changed, controls[0].path})
+        asked = {*changed, controls[0].path}
+        said, seconds = self.check(texts, controls[0], kept, asked)
         self.say(f"{label}: {len(chosen)} edits, {seconds:.0f} s of a processor")
         if not is_answer(said, self.name):
             why = next((it for it in said.split("\n") if "error: " in it), said.strip().split("\n")[-1])
@@ -102,7 +104,19 @@ class Trial:
             self.judge(edit, shown, said)
         for path in shown.keys() - changed - {controls[0].path}:
             self.fails(label, f"{path} is changed by no edit, and yet has an open goal: {shown[path]}")
+        self.judge_stubs(label, asked, said)
         self.judge_controls(controls, texts, kept, said)
+
+    def check(self, texts, control, kept, asked):
+        """Checks the functions that are asked for, of these texts and a control, with stubs for those that are not."""
+        return check(self.crate, with_harmless(texts, control), kept, asked, stubs(self.found, self.texts, asked))
+
+    def judge_stubs(self, label, asked, said):
+        """Fails where the check does not take a stub for proved."""
+        for it in stubs(self.found, self.texts, asked):
+            told = verdict_on(it.path, said, self.name)
+            if told and not OF_STUB.fullmatch(told):
+                self.fails(label, f"no stub stands for {it.path}: {told[:200]}")
 
     def judge_controls(self, controls, texts, kept, said):
         """Passes the first control that is proved. One that has an open goal fails, and so do all if none is proved.
@@ -110,11 +124,11 @@ class Trial:
         What a function stands on by its types, no text of it names: so one may have no proof of which the edits are the
         reason. The next one is tried then, in a check of its own."""
         for control in controls:
-            said = said or check(self.crate, with_harmless(texts, control), kept, {control.path})[0]
+            said = said or self.check(texts, control, kept, {control.path})[0]
             shown, told = against(said, self.name, functions(texts)), verdict_on(control.path, said, self.name)
             if control.path in shown:
                 return self.fails(f"control {control.path}", f"a body that does the same has an open goal: {shown[control.path]}")
-            if told in PROVED:
+            if told and KEEPS.fullmatch(told):
                 return self.passes(f"control {control.path}", "proved")
             said = None
         return self.fails(f"control {control.path}", f"it is not proved: {told or 'the check says nothing of it'}")
