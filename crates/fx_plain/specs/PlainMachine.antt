@@ -68,8 +68,8 @@ module _ {J : Type 0} (nodes : List Node) where
   IsGoingAt (Some x) = has_ended (progress nodes x.fiber) ≡ false
 
   -- the fiber of the place made a step with this answer, or waits, and stands there as before
-  pub record StepsAt (old : Option (StartedView J)) (world : WorldView) (answer : Stepped PortView WorldView) (new : Option (StartedView J)) (world' : WorldView)
-      : Type 0 where
+  pub record StepsAt (old : Option (StartedView J)) (world : WorldView) (answer : Stepped PortView WorldView) (new : Option (StartedView J))
+      (world' : WorldView) : Type 0 where
     pub before : StartedView J
     pub after : StartedView J
     pub from : old ≡ Some before

@@ -32,7 +32,8 @@ returns-in-Went g c =
     record {
       tries = λ s m so.
           tries_step nodes s c.args.self.now m so c.args.id at.before here _ at.after _ (ap (slice_set c.args.self.now.fibers.items c.args.id) at.to)
-          c.step_at.new.world at.after.fiber at.parent refl at.number at.beginning c.in_ok-answer.answer (elim c.in-Went.is [ inl h ↦ inl h | inr h ↦ inr (inl h) ]) at.does refl refl c.requires.able;
+          c.step_at.new.world at.after.fiber at.parent refl at.number at.beginning c.in_ok-answer.answer
+          (elim c.in-Went.is [ inl h ↦ inl h | inr h ↦ inr (inl h) ]) at.does refl refl c.requires.able;
     }
 
 pub returns-in-Ended : goal.returns-in-Ended
@@ -46,7 +47,8 @@ returns-in-Ended g c =
     record {
       tries = λ s m so.
           tries_step nodes s c.args.self.now m so c.args.id at.before here _ at.after _ (ap (slice_set c.args.self.now.fibers.items c.args.id) at.to)
-          c.step_at.new.world at.after.fiber at.parent refl at.number at.beginning c.in_ok-answer.answer (inr (inr c.in-Ended.is)) at.does refl refl c.requires.able;
+          c.step_at.new.world at.after.fiber at.parent refl at.number at.beginning c.in_ok-answer.answer
+          (inr (inr c.in-Ended.is)) at.does refl refl c.requires.able;
     }
 
 pub returns-in-Child : goal.returns-in-Child
