@@ -1,5 +1,5 @@
 -- What a fiber makes in a step, from what came before the rule of its place, and from that rule.
-use Rattle.std.proofs.Common.{◌≡◌, ℕ, Bool, true, false, Option, Some, None, List, refl, sym, ◌∙◌, ap, append-nil}
+use Rattle.std.proofs.Common.{◌≡◌, ℕ, Bool, true, false, Option, Some, None, List, ◌∷◌, ◌++◌, [], refl, sym, ◌∙◌, ap, append-nil}
 use Rattle.std.specs.Prelude.{◌&&◌, ◌||◌, not, slice_get}
 use Rattle.std.specs.Bool.{OnTrue}
 use Rattle.fx_term.specs.declared.node.NodeId.{NodeId}

@@ -1,6 +1,6 @@
 -- Steps of a burst one after the other, and what each of them keeps.
 use Rattle.std.proofs.Common.{◌≡◌, ◌∙◌, ℕ, zero, suc, ◌+◌, ◌<◌, ◌≤◌, Bool, true, false, ◌&&◌, ◌||◌}
-use Rattle.std.proofs.Common.{Option, Some, None, List, [], ◌∷◌, ◌++◌, refl, sym, subst, append-nil}
+use Rattle.std.proofs.Common.{Option, Some, None, List, [], ◌∷◌, ◌++◌, refl, sym, ap, subst, append-nil}
 use Rattle.std.proofs.Common.{inl, inr, arith}
 use Rattle.std.proofs.Math.Numerals.{add-one}
 use Rattle.fx_term.specs.declared.node.Node.{Node}

@@ -1,6 +1,7 @@
 -- What the rule of a place asks of the port: nothing, for an outcome, or in vain.
-use Rattle.std.proofs.Common.{◌≡◌, ℕ, Option, Some, List, [], ◌++◌, refl, append-nil}
+use Rattle.std.proofs.Common.{◌≡◌, ℕ, Option, Some, List, [], ◌∷◌, ◌++◌, refl, append-nil}
 use Rattle.fx_term.specs.declared.outcome.Outcome.{Outcome}
+use Rattle.fx_term.specs.declared.event.Event.{Event}
 use Rattle.fx_term.specs.declared.event.Event.TheVariants as event
 use Rattle.fx_term.specs.Term.{Term}
 use Rattle.fx_fiber.specs.Deed.{Deed, FoundEnded}
@@ -13,11 +14,10 @@ use Rattle.fx_fiber.specs.Sound.{IsSoundMachine}
 use Rattle.fx_fiber.specs.Calls.{PortCalls}
 use Rattle.fx_fiber.specs.PortFacts.{facts_with}
 use Rattle.fx_fiber.specs.Theory.{Theory, HasDone}
-use Rattle.fx_fiber.specs.declared.machine.made.Learnt.{Learnt}
 use Rattle.fx_fiber.specs.declared.machine.made.Made.{Made}
 use Rattle.fx_fiber.specs.declared.machine.made.Made.TheVariants as made
 use Rattle.fx_fiber.specs.declared.machine.Machine.{Machine}
-use Rattle.fx_fiber.specs.Made.{event_learnt, label_of, IsLocal, IsRuleMade, deeds_made}
+use Rattle.fx_fiber.specs.Made.{label_of, IsLocal, IsRuleMade, deeds_made}
 use Rattle.fx_fiber.specs.Makes.{Steps, WaitsFor, MakesRule}
 use Rattle.fx_fiber.specs.MakesCall.{Told, MakesCall}
 
@@ -91,8 +91,8 @@ module _ {P S : Type 0} (theory : Theory P S) where
     }
 
     -- one that learns an outcome was told it
-    pub learns_call : (f : ℕ) (o : Outcome) (by : Learnt) → IsSoundMachine theory.code s' → Steps theory.code s (Learns f o (event_learnt by f o)) s'
-        → PeeksLeft theory.calls (Learns f o (event_learnt by f o)) (leaf_at (progress_of theory.code s)) p sh → theory.calls.peeks p sh f (Some o) p' sh'
-        → HasDone theory (FoundEnded f o) p p' → theory.facts p' ≡ theory.facts p → MakesCall theory s p sh (made.Learns f o by) s' p' sh'
-    learns_call f o by sound step left told agreed framed =
+    pub learns_call : (f : ℕ) (o : Outcome) (e : Event) → IsSoundMachine theory.code s' → Steps theory.code s (Learns f o e) s'
+        → PeeksLeft theory.calls (Learns f o e) (leaf_at (progress_of theory.code s)) p sh → theory.calls.peeks p sh f (Some o) p' sh'
+        → HasDone theory (FoundEnded f o) p p' → theory.facts p' ≡ theory.facts p → MakesCall theory s p sh (made.Learns f o e) s' p' sh'
+    learns_call f o e sound step left told agreed framed =
         record { sound = sound; rule = step; own = tt; told = (left, told); agreed = agreed; facts_are = framed }

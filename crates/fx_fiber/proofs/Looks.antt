@@ -90,7 +90,7 @@ module _ {P S : Type 0} (theory : Theory P S) where
   pub calls_of_asks : (due : Bool) (leaf : Option Term) (m : Made) (answer : Stepped P S) (p p' : P) (s s' : S) → IsOwnMade m
       → shows_end (label_of m) ≡ false → Asks theory.calls due leaf m p s p' s' → Calls theory due leaf (label_of m) answer p s p' s'
   calls_of_asks due leaf (made.Waits w) answer p p' s s' own on a = record { looked = a.0; left_first = tt; told = (a.1.1, a.1.2) }
-  calls_of_asks due leaf (made.Learns f o by) answer p p' s s' own on a = record { looked = a.0; left_first = a.1.0; told = a.1.1 }
+  calls_of_asks due leaf (made.Learns f o e) answer p p' s s' own on a = record { looked = a.0; left_first = a.1.0; told = a.1.1 }
   calls_of_asks due leaf (made.Shows event.Seen) answer p p' s s' own on a = record { looked = tt; left_first = tt; told = a }
   calls_of_asks due leaf (made.Shows (event.Request f)) answer p p' s s' own on a = record { looked = a.0; left_first = tt; told = a.1 }
   calls_of_asks due leaf (made.Shows (event.Put q n)) answer p p' s s' own on a = record { looked = a.0; left_first = tt; told = a.1 }

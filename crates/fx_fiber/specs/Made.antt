@@ -1,33 +1,23 @@
 -- What is made in a step: its label, its deeds, and by which part of a machine it can be made.
-use Rattle.std.specs.Prelude.{ℕ, List, [], ◌∷◌}
-use Rattle.fx_term.specs.declared.outcome.Outcome.{Outcome}
+use Rattle.std.specs.Prelude.{List, [], ◌∷◌}
 use Rattle.fx_term.specs.declared.event.Event.{Event}
 use Rattle.fx_term.specs.declared.event.Event.TheVariants as event
 use Rattle.fx_model.specs.Row.{Label, Silent, Shows, Learns}
 use Rattle.fx_fiber.specs.Deed.{Deed, FoundEnded, deeds_of_event}
-use Rattle.fx_fiber.specs.declared.machine.made.Learnt.{Learnt}
-use Rattle.fx_fiber.specs.declared.machine.made.Learnt.TheVariants as learnt
 use Rattle.fx_fiber.specs.declared.machine.made.Made.{Made}
 use Rattle.fx_fiber.specs.declared.machine.made.Made.TheVariants as made
-
--- the event that shows what was learnt of the end of this fiber
-abbrev pub event_learnt : Learnt → ℕ → Outcome → Event
-event_learnt learnt.Joined f o = event.Joined f o
-event_learnt learnt.Awaited f o = event.Awaited f
-event_learnt learnt.Left f o = event.First 0
-event_learnt learnt.Right f o = event.First 1
 
 -- the label of what was made
 abbrev pub label_of : Made → Label
 label_of (made.Shows e) = Shows e
-label_of (made.Learns f o by) = Learns f o (event_learnt by f o)
+label_of (made.Learns f o e) = Learns f o e
 label_of _ = Silent
 
 -- the deeds of a step that made this, before its end is told
 abbrev pub deeds_made : Made → List Deed
 deeds_made (made.Shows (event.Ended o)) = []
 deeds_made (made.Shows e) = deeds_of_event e
-deeds_made (made.Learns f o by) = FoundEnded f o ∷ []
+deeds_made (made.Learns f o e) = FoundEnded f o ∷ []
 deeds_made _ = []
 
 -- what a bracket shows: its resource is acquired, and its release begins and ends
@@ -42,7 +32,7 @@ abbrev pub IsLocal : Made → Type 0
 IsLocal made.Silent = Unit {0}
 IsLocal made.Yielded = Unit {0}
 IsLocal (made.Waits w) = ⊥
-IsLocal (made.Learns f o by) = ⊥
+IsLocal (made.Learns f o e) = ⊥
 IsLocal (made.Starts h a b) = ⊥
 IsLocal (made.Shows event.SelfRequest) = Unit {0}
 IsLocal (made.Shows (event.Acquired k)) = Unit {0}
@@ -54,7 +44,7 @@ IsLocal (made.Shows e) = ⊥
 -- what is made by the rule of a place: that, what the port was asked for, or nothing where the fiber waits
 abbrev pub IsRuleMade : Made → Type 0
 IsRuleMade (made.Waits w) = Unit {0}
-IsRuleMade (made.Learns f o by) = Unit {0}
+IsRuleMade (made.Learns f o e) = Unit {0}
 IsRuleMade (made.Starts h a b) = Unit {0}
 IsRuleMade (made.Shows (event.Request f)) = Unit {0}
 IsRuleMade (made.Shows (event.Put q n)) = Unit {0}

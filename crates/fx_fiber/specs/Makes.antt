@@ -13,7 +13,7 @@ use Rattle.fx_fiber.specs.declared.machine.made.Made.TheVariants as made
 use Rattle.fx_fiber.specs.declared.machine.Machine.{Machine}
 use Rattle.fx_fiber.specs.Machine.{counts_of, progress_of}
 use Rattle.fx_fiber.specs.Sound.{IsSoundMachine}
-use Rattle.fx_fiber.specs.Made.{event_learnt, IsLocal, IsOfBracket}
+use Rattle.fx_fiber.specs.Made.{IsLocal, IsOfBracket}
 use Rattle.fx_fiber.specs.Places.{IsSame, StandsAtStart}
 
 -- one step of the rules, with this label
@@ -32,7 +32,7 @@ Makes nodes s (made.Waits w) s' = WaitsFor nodes s s' w
 Makes nodes s made.Yielded s' = (leaf_at (progress_of nodes s) ≡ Some Cede) × Steps nodes s Silent s'
 Makes nodes s made.Silent s' = (is_yielding (leaf_at (progress_of nodes s)) ≡ false) × Steps nodes s Silent s'
 Makes nodes s (made.Shows e) s' = Steps nodes s (Shows e) s'
-Makes nodes s (made.Learns f o by) s' = Steps nodes s (Learns f o (event_learnt by f o)) s'
+Makes nodes s (made.Learns f o e) s' = Steps nodes s (Learns f o e) s'
 Makes nodes s (made.Starts h a b) s' = StandsAtStart nodes s s' h a b
 
 -- a rule was made with no question to the port

@@ -15,7 +15,7 @@ use Rattle.fx_fiber.specs.declared.machine.made.Made.TheVariants as made
 use Rattle.fx_fiber.specs.declared.machine.Machine.{Machine}
 use Rattle.fx_fiber.specs.Machine.{progress_of}
 use Rattle.fx_fiber.specs.Sound.{IsSoundMachine}
-use Rattle.fx_fiber.specs.Made.{event_learnt, label_of, deeds_made, IsRuleMade}
+use Rattle.fx_fiber.specs.Made.{label_of, deeds_made, IsRuleMade}
 use Rattle.fx_fiber.specs.Makes.{Makes}
 
 module _ {P S : Type 0} (calls : PortCalls P S) where
@@ -27,7 +27,7 @@ module _ {P S : Type 0} (calls : PortCalls P S) where
   Told leaf (made.Shows (event.Got q n)) p s p' s' = calls.takes p s q (Some n) p' s'
   Told leaf (made.Shows (event.Refused q)) p s p' s' = calls.offers p s q (value_offered leaf) offered.Full p' s'
   Told leaf (made.Shows (event.Empty q)) p s p' s' = calls.takes p s q None p' s'
-  Told leaf (made.Learns f o by) p s p' s' = PeeksLeft calls (Learns f o (event_learnt by f o)) leaf p s × calls.peeks p s f (Some o) p' s'
+  Told leaf (made.Learns f o e) p s p' s' = PeeksLeft calls (Learns f o e) leaf p s × calls.peeks p s f (Some o) p' s'
   Told leaf _ p s p' s' = (p' ≡ p) × (s' ≡ s)
 
 -- the rule of a place was made, with what it asks of the port, or the fiber waits

@@ -1,5 +1,5 @@
 -- How what was made in a step is told: its event to the trace, and the end of the fiber to its port.
-use Rattle.std.specs.Prelude.{◌≡◌, true}
+use Rattle.std.specs.Prelude.{◌≡◌, true, List, [], ◌∷◌, ◌++◌}
 use Rattle.fx_term.specs.declared.event.Event.TheVariants as event
 use Rattle.fx_term.specs.declared.outcome.Outcome.{Outcome}
 use Rattle.fx_fiber.specs.Deed.{Ended}

@@ -35,8 +35,8 @@ pub(crate) fn tell<P: Port>(
         Made::Yielded => Stepped::Gave,
         Made::Waits(source) => Stepped::Waits(source),
         Made::Starts(..) => unreachable!(),
-        Made::Learns(fiber, outcome, learnt) => {
-            body.trace.push_reserved(learnt.event(fiber, outcome));
+        Made::Learns(_, _, learnt) => {
+            body.trace.push_reserved(learnt);
             Stepped::Went
         }
         Made::Shows(event) => {

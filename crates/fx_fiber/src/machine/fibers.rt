@@ -14,7 +14,7 @@ ghost use Rattle.fx_fiber.specs.MakesCall.{MakesCall};
 
 use crate::machine::Machine;
 use crate::machine::focus::Focus;
-use crate::machine::made::{Learnt, Made};
+use crate::machine::made::Made;
 use crate::port::Port;
 use fx_model::Source;
 use fx_term::{Arg, Done, Event, Memory, Node, NodeId, Outcome};
@@ -59,7 +59,7 @@ impl Machine {
         match port.peek(shared, fiber) {
             Some(outcome) => {
                 self.goes_on_after(outcome, name, success, failure, cancellation);
-                Ok(Made::Learns(fiber, outcome, Learnt::Joined))
+                Ok(Made::Learns(fiber, outcome, Event::Joined(fiber, outcome)))
             }
             None => Ok(Made::Waits(Source::Outcome(fiber))),
         }
@@ -113,7 +113,7 @@ impl Machine {
         match port.peek(shared, fiber) {
             Some(outcome) => {
                 self.focus = Focus::Return(Done::Val(0));
-                Made::Learns(fiber, outcome, Learnt::Awaited)
+                Made::Learns(fiber, outcome, Event::Awaited(fiber))
             }
             None => Made::Waits(Source::Outcome(fiber)),
         }
@@ -137,12 +137,12 @@ impl Machine {
         match port.peek(shared, left) {
             Some(outcome) => {
                 self.focus = Focus::Return(Done::Val(0));
-                Made::Learns(left, outcome, Learnt::Left)
+                Made::Learns(left, outcome, Event::First(0))
             }
             None => match port.peek(shared, right) {
                 Some(outcome) => {
                     self.focus = Focus::Return(Done::Val(1));
-                    Made::Learns(right, outcome, Learnt::Right)
+                    Made::Learns(right, outcome, Event::First(1))
                 }
                 None => Made::Waits(Source::Either(left, right)),
             },
