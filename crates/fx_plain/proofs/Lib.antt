@@ -32,6 +32,7 @@ pub mod ClassesKept
 pub mod LeastFrom
 pub mod AwaitedOutcomes
 pub mod ClassSets
+pub mod WokenClasses
 pub mod WaitedQueues
 pub mod WaiterBlocks
 pub mod Waking

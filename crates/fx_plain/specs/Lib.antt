@@ -8,6 +8,7 @@ pub mod PutCounts
 pub mod OnTheWay
 pub mod Classes
 pub mod ClassSets
+pub mod WokenClasses
 pub mod WaiterBlocks
 pub mod PlainCalls
 pub mod World

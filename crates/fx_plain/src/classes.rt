@@ -5,6 +5,7 @@ ghost use Rattle.fx_plain.specs.NumberSet.{IsLeastOf, IsLeastFrom};
 ghost use Rattle.fx_plain.specs.PlainQueue.{have_room, have_element};
 ghost use Rattle.fx_plain.specs.Classes.{waits_for_end, class_at_end, is_ready};
 ghost use Rattle.fx_plain.specs.ClassSets.{class_at, with_request, with_end};
+ghost use Rattle.fx_plain.specs.WokenClasses.{waits_there};
 
 use crate::class::Class;
 use crate::class_sets::{ClassSets, lesser};
@@ -88,6 +89,15 @@ impl Classes {
             from = queue + 1;
         }
         least
+    }
+
+    /// The least number of a fiber that waits at this queue for what it has.
+    pub fn least_there(&self, queue: u8, own: &PlainQueue) -> Option<u32>
+        requires { queue < self.now.queues }
+        ensures { IsLeastOf (λ f. waits_there queue own.now (class_at self.now.of f)) result }
+    {
+        let index = queue as usize;
+        self.sets.least_there(index, own)
     }
 
     /// The fiber comes into that class.

@@ -42,6 +42,7 @@
 //! Who waits at a queue is found by the queue: who waits for room in it may step while it has room, and
 //! who waits for an element of it while it has one. With those who are able these are the ready ones, and
 //! who is not ready cannot step. Who is able may still wait: it is asked once, and then noted so.
+//! One that is woken at a queue mostly waits there again soon, so it is moved only once another one is.
 //!
 //! A fiber that has ended gives back all memory but that of its trace, and the next one that starts may
 //! have it.
@@ -71,6 +72,7 @@ mod put_counts;
 mod started;
 mod text_replay;
 mod waiter_blocks;
+mod woken_classes;
 
 pub use chosen_run::{Halt, replay, replay_to_halt};
 pub use fx_report::{

@@ -1,11 +1,12 @@
 //! What the fibers of one thread share.
-ghost use Rattle.std.specs.Prelude.{◌≡◌, ◌<◌, ◌≤◌, true, false, IfOk, IfNone, OnOk, OnErr};
+ghost use Rattle.std.specs.Prelude.{◌≡◌, ◌<◌, ◌≤◌, List, Some, true, false, IfOk, IfSome, IfNone, OnOk, OnErr};
 ghost use Rattle.std.specs.Prelude.{option_map, length, map, slice_index_or, slice_set};
 ghost use Rattle.std.specs.List.{filter, range_with_len};
 ghost use Rattle.fx_plain.specs.declared.class.Class.TheVariants.{Able, Waits};
 ghost use Rattle.fx_plain.specs.NumberSet.{IsLeastOf};
 ghost use Rattle.fx_plain.specs.ClassSets.{class_at, is_able};
-ghost use Rattle.fx_plain.specs.PlainQueue.{empty_queue, queue_at, have_room, have_element, front_of};
+ghost use Rattle.fx_plain.specs.PlainQueue.{QueueView, empty_queue, queue_at, have_room, have_element, front_of};
+ghost use Rattle.fx_plain.specs.Classes.{is_ready};
 ghost use Rattle.fx_term.specs.Code.{IsCode};
 ghost use Rattle.fx_term.specs.Script.{ScriptView, total};
 ghost use Rattle.fx_model.specs.Origin.{main_begin_of};
@@ -17,10 +18,11 @@ ghost use Rattle.fx_plain.specs.World.{after_request_from_outside, after_start, 
 ghost use Rattle.fx_plain.specs.World.{after_put, after_take, opening_world};
 
 use crate::class::Class;
-use crate::classes::Classes;
+use crate::class_sets::lesser;
 use crate::number_set::NUMBERS;
 use crate::plain_port::PlainPort;
 use crate::plain_queue::PlainQueue;
+use crate::woken_classes::WokenClasses;
 use fx_fiber::{Source, main_begin};
 use fx_term::{CodeBrand, Item, Memory, Outcome};
 use fx_text::{QueueDecl, Script};
@@ -36,9 +38,9 @@ pub struct PlainWorld {
     requested: Vec<bool>,
     from_outside: Vec<bool>,
     outcomes: Vec<Option<Outcome>>,
-    classes: Classes,
+    classes: WokenClasses,
     queues: Vec<PlainQueue>,
-    // the least fiber that is ready, where it was found and nothing has changed since
+    // the least fiber that is ready, where it is known
     found: Option<u32>,
 }
 
@@ -52,6 +54,37 @@ fn empty_queues(alloc: Global, declared: &[QueueDecl]) -> Result<Vec<PlainQueue>
         queues.push(PlainQueue::new(alloc, queue.cap))?;
     }
     Ok(queues)
+}
+
+/// The fiber that was found, if it is not above this one, which is able now.
+fn not_above(found: Option<u32>, fiber: u32) -> Option<u32>
+    ensures { IfSome result (λ n. (found ≡ Some n) × (n ≤ fiber)) }
+{
+    let least = found?;
+    if least <= fiber { Some(least) } else { None }
+}
+
+/// The least fiber that is ready once this queue has changed, where it is known: who was found, if it is
+/// able, or who waits there below it.
+fn found_after(
+    found: Option<u32>,
+    classes: &WokenClasses,
+    queue: u8,
+    own: &PlainQueue,
+) -> Option<u32>
+    requires { queue < classes.now.queues }
+    ensures { (queues : List QueueView) → queue < length queues
+        → IfSome found (λ n. IsLeastOf (λ f. is_ready (have_room queues) (have_element queues)
+        (class_at classes.now.of f)) (Some n))
+        → IfSome result (λ n. IsLeastOf (λ f. is_ready (have_room (slice_set queues queue own.now))
+        (have_element (slice_set queues queue own.now)) (class_at classes.now.of f)) (Some n)) }
+{
+    let least = found?;
+    if matches!(classes.class(least), Class::Able) {
+        lesser(Some(least), classes.least_there(queue, own))
+    } else {
+        None
+    }
 }
 
 impl Model for PlainWorld {
@@ -94,7 +127,7 @@ impl PlainWorld {
             → queues.items ≡ map empty_queue s.capacities → world ≡ opening_world s) }
     {
         let long = fibers as usize;
-        let mut classes = Classes::new(alloc, fibers, queues.len())?;
+        let mut classes = WokenClasses::new(alloc, fibers, queues.len())?;
         classes.become_able(0);
         Ok(PlainWorld {
             requested: vec![in alloc; false; long]?,
@@ -180,8 +213,9 @@ impl PlainWorld {
         let Some(own) = self.queues.get_mut(queue as usize) else {
             unreachable!();
         };
-        self.found = None; // who waits for an element may be ready now
-        own.put(item)
+        own.put(item)?;
+        self.found = found_after(self.found, &self.classes, queue, own);
+        Ok(())
     }
 
     /// Takes the front of the queue, if it has one, and answers its value.
@@ -191,9 +225,9 @@ impl PlainWorld {
         ensures world { self.new ≡ after_take queue self.old }
         ensures none { IfNone result (self.new ≡ self.old) }
     {
-        self.found = None; // who waits for room may be ready now
         let own = self.queues.get_mut(queue as usize)?;
         let item = own.take()?;
+        self.found = found_after(self.found, &self.classes, queue, own);
         Some(item.value)
     }
 
@@ -270,16 +304,12 @@ impl PlainWorld {
     }
 
     /// The fiber starts.
+    #[inline(always)]
     pub fn start(&mut self, fiber: u32)
         ensures { self.new ≡ after_start fiber self.old }
     {
         self.classes.become_able(fiber);
-        // who was found stays the least one, unless this one is below
-        if let Some(least) = self.found {
-            if fiber < least {
-                self.found = None;
-            }
-        }
+        self.found = not_above(self.found, fiber);
     }
 
     /// The fiber may step. If it may already, nothing changes.
@@ -312,8 +342,7 @@ impl PlainWorld {
         self.classes.wait(fiber, source);
     }
 
-    /// The least number of a fiber that is ready. It searches for it only if the world has changed since
-    /// it last did.
+    /// The least number of a fiber that is ready. It searches for it only where it is not known.
     pub fn least(&mut self) -> Option<u32>
         ensures least { IsLeastOf (is_ready_in self.old) result }
         ensures same { self.new ≡ self.old }
