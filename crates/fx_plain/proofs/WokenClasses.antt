@@ -190,14 +190,16 @@ module _ (q : ℕ) (own : QueueView) where
       ))
     ]
 
+  -- the least fiber that is ready by these queues
+  abbrev IsLeastBy : List QueueView → List Class → ℕ → Type 0
+  IsLeastBy queues classes n = IsLeastOf (λ f. is_ready (have_room queues) (have_element queues) (class_at classes f)) (Some n)
+
   -- and who was found is found again
   pub found_beside : (classes : List Class) (found : Option ℕ) (n : ℕ) → found ≡ Some n → class_at classes n ≡ Able → (there result : Option ℕ)
       → IsLeastThere classes q own there → result ≡ lesser (Some n) there → (queues : List QueueView) → q < length queues
-      → IfSome found (λ m. IsLeastOf (λ f. is_ready (have_room queues) (have_element queues) (class_at classes f)) (Some m))
-      → IfSome result (λ m. IsLeastOf (λ f. is_ready (have_room (slice_set queues q own)) (have_element (slice_set queues q own)) (class_at classes f)) (Some m))
+      → IfSome found (IsLeastBy queues classes) → IfSome result (IsLeastBy (slice_set queues q own) classes)
   found_beside classes found n is able there result h e queues lt least = rw e (by_there there h)
     where
-      by_there : (there : Option ℕ) → IsLeastThere classes q own there → IfSome (lesser (Some n) there)
-          (λ m. IsLeastOf (λ f. is_ready (have_room (slice_set queues q own)) (have_element (slice_set queues q own)) (class_at classes f)) (Some m))
+      by_there : (there : Option ℕ) → IsLeastThere classes q own there → IfSome (lesser (Some n) there) (IsLeastBy (slice_set queues q own) classes)
       by_there None h = least_beside classes queues lt n None (rw is at least) (ap is_able able) h
       by_there (Some m) h = least_beside classes queues lt n (Some m) (rw is at least) (ap is_able able) h
