@@ -1,17 +1,17 @@
 //! Puts and takes so often, on so many threads: `bench/rings` times and counts it.
-#![tactic(auto)]
 
 ghost use Rattle.std.specs.Prelude.{◌≡◌, []};
 ghost use Rattle.fx_queue.specs.Queues.{IsOf};
 
+use crate::number;
 use crossbeam_queue::ArrayQueue;
 use fx_queue::{FiberQueue, QueuePass};
 use fx_term::{Item, Memory};
 use std::alloc::Global;
+use std::env::Args;
 use std::process::ExitCode;
 use std::sync::Wait;
-use std::thread::Threads;
-use std::{env, thread};
+use std::thread::{self, Threads};
 
 const CAPACITY: u32 = 64;
 
@@ -177,20 +177,22 @@ fn exchange_twice<R: Threads + Wait + Sync>(
     );
 }
 
-/// How often, and on which ring by how many threads: 0 stands for the kit's own ring, on one thread.
-fn wanted(rt: &HostRuntime) -> Option<(u32, u32)> {
-    let mut words = env::args(rt).ok()?.skip(1);
-    let count = words.next()?.parse().ok()?;
-    let threads = words.next()?.parse().ok()?;
-    Some((count, threads))
-}
-
-fn run<R: Threads + Wait + Sync>(
-    rt: &R,
-    alloc: Global,
+/// What the words after `queues` ask for: how often, and on which ring by how many threads, where 0 stands for the
+/// kit's own ring, on one thread.
+#[derive(Clone, Copy)]
+pub(crate) struct Asked {
     count: u32,
     threads: u32,
-) -> Result<(), Memory> {
+}
+
+pub(crate) fn wanted(given: &mut Args) -> Option<Asked> {
+    let count = number(given)?;
+    let threads = number(given)?;
+    Some(Asked { count, threads })
+}
+
+fn run<R: Threads + Wait + Sync>(rt: &R, alloc: Global, asked: Asked) -> Result<(), Memory> {
+    let Asked { count, threads } = asked;
     let ring = ArrayQueue::new(alloc, CAPACITY as usize)?;
     let (queue, mut main) = FiberQueue::new(alloc, CAPACITY, FIBERS)?;
     let one = queue.pass(&mut main, 1, 2);
@@ -206,11 +208,9 @@ fn run<R: Threads + Wait + Sync>(
     Ok(())
 }
 
-fn main(rt: HostRuntime) -> ExitCode {
-    let Some((count, threads)) = wanted(&rt) else {
-        return ExitCode::from(2);
-    };
-    match run(&rt, rt.alloc(), count, threads) {
+/// Puts and takes, and gives the status of the program.
+pub(crate) fn measure<R: Threads + Wait + Sync>(rt: &R, alloc: Global, asked: Asked) -> ExitCode {
+    match run(rt, alloc, asked) {
         Ok(()) => ExitCode::from(0),
         Err(_) => ExitCode::from(5),
     }

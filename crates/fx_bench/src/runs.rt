@@ -1,34 +1,33 @@
 //! Runs a script so often by so many workers, and prints how many fibers only a sweep put back in all these
 //! runs: `bench/late` asks for it.
-#![tactic(auto)]
 
 ghost use Rattle.std.specs.Prelude.{◌<◌, IfSome};
 
+use crate::number;
 use fx_run::{RunFault, run};
 use fx_sched::Free;
 use fx_text::{Script, parse};
 use std::alloc::{AllocGlobal, Global};
-use std::env;
+use std::env::Args;
 use std::process::ExitCode;
 use std::random::RandomSource;
 use std::sync::Wait;
 use std::thread::Threads;
 
-/// What the words after the program's name ask for.
+/// What the words after `runs` ask for.
 #[derive(Drop)]
-struct Asked {
+pub(crate) struct Asked {
     script: String,
     runs: u32,
     workers: u32,
 }
 
-fn wanted(rt: &HostRuntime) -> Option<Asked>
+pub(crate) fn wanted(given: &mut Args) -> Option<Asked>
     ensures { IfSome result (λ asked. 0 < asked.runs) }
 {
-    let mut words = env::args(rt).ok()?.skip(1);
-    let script = words.next()?;
-    let runs = words.next()?.parse().ok()?;
-    let workers = words.next()?.parse().ok()?;
+    let script = given.next()?;
+    let runs = number(given)?;
+    let workers = number(given)?;
     if runs == 0 {
         return None;
     }
@@ -54,14 +53,16 @@ fn late_of<R: Wait + Threads + Sync + RandomSource + AllocGlobal>(
     Ok(late)
 }
 
-fn main(rt: HostRuntime) -> ExitCode {
-    let Some(asked) = wanted(&rt) else {
-        return ExitCode::from(2);
-    };
-    let Ok(script) = parse(rt.alloc(), asked.script.as_bytes()) else {
+/// Runs the script, prints how many fibers were late, and gives the status of the program.
+pub(crate) fn measure<R: Wait + Threads + Sync + RandomSource + AllocGlobal + Print>(
+    rt: &R,
+    alloc: Global,
+    asked: Asked,
+) -> ExitCode {
+    let Ok(script) = parse(alloc, asked.script.as_bytes()) else {
         return ExitCode::from(1);
     };
-    match late_of(&rt, rt.alloc(), &script, asked.runs, asked.workers) {
+    match late_of(rt, alloc, &script, asked.runs, asked.workers) {
         Ok(late) => {
             let _ = println!(rt; "late {late}");
             ExitCode::from(0)

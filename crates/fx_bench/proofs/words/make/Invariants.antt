@@ -1,5 +1,5 @@
 use Rattle.fx_word.specs.Words.{IsOf}
-use Rattle.fx_word_bench.proofs.make.Given as goal
+use Rattle.fx_bench.proofs.words.make.Given as goal
 
 abbrev pub invariant-requesting : goal.invariant-requesting
 invariant-requesting l = IsOf l.seat l.words

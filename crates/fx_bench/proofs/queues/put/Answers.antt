@@ -1,6 +1,6 @@
 use Rattle.std.proofs.Common.{◌∙◌, ◌+◌, ℕ, sym, ap}
 use Rattle.fx_queue.proofs.Counts.{put_count}
-use Rattle.fx_queue_bench.proofs.put.Goals as goal
+use Rattle.fx_bench.proofs.queues.put.Goals as goal
 
 pub putting-preserved-in-Ok : goal.putting-preserved-in-Ok
 putting-preserved-in-Ok g c =

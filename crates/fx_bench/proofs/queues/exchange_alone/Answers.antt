@@ -2,9 +2,9 @@ use Rattle.std.proofs.Common.{◌∙◌, ◌+◌, ℕ, sym, ap}
 use Rattle.fx_term.specs.Queue.{puts}
 use Rattle.fx_queue.specs.Queues.{HeldPass}
 use Rattle.fx_queue.proofs.Counts.{put_count}
-use Rattle.fx_queue_bench.proofs.Takes.{take_puts_nothing}
-use Rattle.fx_queue_bench.proofs.exchange_alone.Goals.{in-Ok+in-Some, in-Err}
-use Rattle.fx_queue_bench.proofs.exchange_alone.Goals as goal
+use Rattle.fx_bench.proofs.Takes.{take_puts_nothing}
+use Rattle.fx_bench.proofs.queues.exchange_alone.Goals.{in-Ok+in-Some, in-Err}
+use Rattle.fx_bench.proofs.queues.exchange_alone.Goals as goal
 
 pub exchanging-preserved : goal.exchanging-preserved
 exchanging-preserved g c =

@@ -1,15 +1,15 @@
 //! Makes one call of words so often, on each of so many threads: `bench/words` times and counts it.
-#![tactic(auto)]
 
 ghost use Rattle.std.specs.Prelude.{◌≡◌, ◌+◌, ◌<◌};
 ghost use Rattle.fx_word.specs.Words.{IsOf};
 
+use crate::number;
 use fx_term::{Begin, Memory, NodeId, Outcome, Registers};
 use fx_word::{WordSeat, Words};
 use std::alloc::Global;
+use std::env::Args;
 use std::process::ExitCode;
-use std::thread::Threads;
-use std::{env, thread};
+use std::thread::{self, Threads};
 
 /// Main, one fiber for each other thread, and one that is peeked at.
 const FIBERS: u32 = 5;
@@ -123,19 +123,18 @@ fn begin_of(alloc: Global, id: u32) -> Begin
     }
 }
 
-/// What the words after the program's name ask for: a call, how often, on how many threads, and whether the
-/// fiber that is peeked at has ended.
+/// What the words after `words` ask for: a call, how often, on how many threads, and whether the fiber that is
+/// peeked at has ended.
 #[derive(Clone, Copy)]
-struct Asked {
+pub(crate) struct Asked {
     call: Call,
     is_ended: bool,
     count: u32,
     threads: u32,
 }
 
-fn wanted(rt: &HostRuntime) -> Option<Asked> {
-    let mut words = env::args(rt).ok()?.skip(1);
-    let (call, is_ended) = match words.next()?.as_str() {
+pub(crate) fn wanted(given: &mut Args) -> Option<Asked> {
+    let (call, is_ended) = match given.next()?.as_str() {
         "nothing" => (Call::Nothing, false),
         "request" => (Call::Request, false),
         "look" => (Call::Look, false),
@@ -143,8 +142,8 @@ fn wanted(rt: &HostRuntime) -> Option<Asked> {
         "peek-ended" => (Call::Peek, true),
         _ => return None,
     };
-    let count = words.next()?.parse().ok()?;
-    let threads = words.next()?.parse().ok()?;
+    let count = number(given)?;
+    let threads = number(given)?;
     Some(Asked {
         call,
         is_ended,
@@ -179,11 +178,9 @@ fn run<R: Threads + Sync>(rt: &R, alloc: Global, asked: Asked) -> Result<(), Mem
     Ok(())
 }
 
-fn main(rt: HostRuntime) -> ExitCode {
-    let Some(asked) = wanted(&rt) else {
-        return ExitCode::from(2);
-    };
-    match run(&rt, rt.alloc(), asked) {
+/// Makes the calls, and gives the status of the program.
+pub(crate) fn measure<R: Threads + Sync>(rt: &R, alloc: Global, asked: Asked) -> ExitCode {
+    match run(rt, alloc, asked) {
         Ok(()) => ExitCode::from(0),
         Err(_) => ExitCode::from(5),
     }
