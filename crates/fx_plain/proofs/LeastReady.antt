@@ -9,9 +9,8 @@ use Rattle.fx_plain.specs.declared.class.Class.TheVariants.{Unstarted, Able, Wai
 use Rattle.fx_plain.specs.NumberSet.{IsLeastOf, lesser}
 use Rattle.fx_plain.specs.PlainQueue.{QueueView, no_queue, queue_at, have_room, have_element, has_room_in, has_element_in}
 use Rattle.fx_plain.specs.Classes.{is_ready}
-use Rattle.fx_plain.specs.ClassSets.{class_at, is_able, waits_for_room, waits_for_element, SetsView, members, AreAble, ForRoom, ForElement, passes}
-use Rattle.fx_plain.specs.ClassSets.{AreSets, is_ready_there}
-use Rattle.fx_plain.specs.ClassSets.{NobodyWaitsBetween}
+use Rattle.fx_plain.specs.ClassSets.{class_at, is_able, waits_there, SetsView, members, AreAble, ForRoom, ForElement, passes}
+use Rattle.fx_plain.specs.ClassSets.{AreSets, is_ready_there, NobodyWaitsBetween}
 
 module _ (s t : ℕ → Bool) where
   abbrev either : ℕ → Bool
@@ -47,6 +46,14 @@ pub least_same : (a b : ℕ → Bool) (least : Option ℕ) → ((n : ℕ) → a 
 least_same a b None e h = λ n. sym (e n) ∙ h n
 least_same a b (Some m) e h = (sym (e m) ∙ h.0, λ k lt. sym (e k) ∙ h.1 k lt)
 
+-- who waits at a queue for what it has is found in the sets
+module _ (classes : List Class) (sets : SetsView) (are : AreSets classes sets) (q : ℕ) (own : QueueView) (kept : q < length sets.for_room) where
+  found_there : (f : ℕ) → is_ready_there sets q own f ≡ waits_there q own (class_at classes f)
+  found_there f = rw (are (ForRoom q) kept f, are (ForElement q) kept f) refl
+
+  pub least_waits_there : (least : Option ℕ) → IsLeastOf (is_ready_there sets q own) least → IsLeastOf (λ f. waits_there q own (class_at classes f)) least
+  least_waits_there least = least_same (is_ready_there sets q own) (λ f. waits_there q own (class_at classes f)) least found_there
+
 module _ (queues : List QueueView) where
   -- it is able, or waits at one of the first n queues, which has what it waits for
   abbrev pub ready_below : ℕ → Class → Bool
@@ -54,10 +61,6 @@ module _ (queues : List QueueView) where
   ready_below n (Waits (Room q)) = nat_lt q n && have_room queues q
   ready_below n (Waits (Element q)) = nat_lt q n && have_element queues q
   ready_below n _ = false
-
-  -- it waits at this queue, which has what it waits for
-  abbrev waits_ready : ℕ → Class → Bool
-  waits_ready q k = (have_room queues q && waits_for_room q k) || (have_element queues q && waits_for_element q k)
 
   one_more_test : (r q : ℕ) (ready : ℕ → Bool) → (nat_lt r (q + 1) && ready r) ≡ ((nat_lt r q && ready r) || (ready q && (r == q)))
   one_more_test r q ready = elim (cases_lt r q) [
@@ -98,7 +101,7 @@ module _ (queues : List QueueView) where
   none_of_two false true = refl
   none_of_two false false = refl
 
-  ready_one_more : (q : ℕ) (k : Class) → ready_below (q + 1) k ≡ (ready_below q k || waits_ready q k)
+  ready_one_more : (q : ℕ) (k : Class) → ready_below (q + 1) k ≡ (ready_below q k || waits_there q (queue_at queues q) k)
   ready_one_more q Able = refl
   ready_one_more q (Waits (Room r)) =
       one_more_test r q (have_room queues) ∙ first_of_two (nat_lt r q && have_room queues r) (have_room queues q && (r == q)) (have_element queues q)
@@ -156,8 +159,8 @@ module _ (queues : List QueueView) where
         kept : q < length sets.for_room
         kept = omega arith
 
-        there_is : (f : ℕ) → is_ready_there sets q own f ≡ waits_ready q (class_at classes f)
-        there_is f = rw (is, are (ForRoom q) kept f, are (ForElement q) kept f) refl
+        there_is : (f : ℕ) → is_ready_there sets q own f ≡ waits_there q (queue_at queues q) (class_at classes f)
+        there_is f = found_there classes sets are q own kept f ∙ ap (λ (o : QueueView). waits_there q o (class_at classes f)) is
 
     pub least_last : (n : ℕ) (least : Option ℕ) → length queues ≤ n → IsLeastBelow n least
         → IsLeastOf (λ f. is_ready (have_room queues) (have_element queues) (class_at classes f)) least

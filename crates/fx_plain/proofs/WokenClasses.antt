@@ -11,8 +11,8 @@ use Rattle.fx_plain.specs.declared.class.Class.TheVariants.{Unstarted, Able, Wai
 use Rattle.fx_plain.specs.NumberSet.{IsLeastOf, lesser}
 use Rattle.fx_plain.specs.PlainQueue.{QueueView, no_queue, queue_at, have_room, have_element, has_room_in, has_element_in}
 use Rattle.fx_plain.specs.Classes.{is_ready}
-use Rattle.fx_plain.specs.ClassSets.{SetsView, ForRoom, ForElement, class_at, is_able, AreSets, is_ready_there}
-use Rattle.fx_plain.specs.WokenClasses.{with_woken, waits_there, IsLeastThere}
+use Rattle.fx_plain.specs.ClassSets.{class_at, is_able, waits_there}
+use Rattle.fx_plain.specs.WokenClasses.{with_woken, IsLeastThere}
 use Rattle.fx_term.proofs.MapLaws.{at_that, at_other}
 use Rattle.fx_plain.proofs.ClassSets.{class_at_set, as_view, same_view}
 use Rattle.fx_plain.proofs.LeastReady.{least_of_both, least_same}
@@ -60,13 +60,6 @@ module _ (room element : ℕ → Bool) where
       ]
 
 module _ (q : ℕ) (own : QueueView) where
-  -- who waits there is found in the sets
-  pub least_waits_there : (classes : List Class) (sets : SetsView) → AreSets classes sets → q < length sets.for_room → (least : Option ℕ)
-      → IsLeastOf (is_ready_there sets q own) least → IsLeastOf (λ f. waits_there q own (class_at classes f)) least
-  least_waits_there classes sets are lt least =
-      least_same (is_ready_there sets q own) (λ f. waits_there q own (class_at classes f)) least
-      (λ f. rw (are (ForRoom q) lt f, are (ForElement q) lt f) refl)
-
   -- of those that are kept the least one that waits at a queue is the least there, or was woken
   module _ (classes : List Class) (f : ℕ) (lt : f < length classes) where
     unseen : (g : ℕ) → waits_there q own (class_at classes g) ≡ false → waits_there q own (class_at (slice_set classes f Able) g) ≡ false

@@ -49,6 +49,10 @@ passes AreAble k = is_able k
 passes (ForRoom q) k = waits_for_room q k
 passes (ForElement q) k = waits_for_element q k
 
+-- it waits at the queue of that number, which is this one, for what that has
+abbrev pub waits_there : ℕ → QueueView → Class → Bool
+waits_there q own k = (has_room_in own && waits_for_room q k) || (has_element_in own && waits_for_element q k)
+
 -- the sets as they are kept, each by its words
 pub record SetsView : Type 0 where
   pub able : List ℕ

@@ -1,18 +1,14 @@
 -- Classes where one fiber was woken and is not moved yet.
-use Rattle.std.specs.Prelude.{◌≡◌, ℕ, ◌<◌, ◌||◌, ◌&&◌, Bool, true, false, Option, Some, None, MatchOption, List, slice_set}
+use Rattle.std.specs.Prelude.{◌≡◌, ℕ, ◌<◌, ◌||◌, true, false, Option, Some, None, MatchOption, List, slice_set}
 use Rattle.fx_plain.specs.declared.class.Class.{Class}
 use Rattle.fx_plain.specs.declared.class.Class.TheVariants.{Able}
-use Rattle.fx_plain.specs.PlainQueue.{QueueView, has_room_in, has_element_in}
-use Rattle.fx_plain.specs.ClassSets.{class_at, is_able, waits_for_room, waits_for_element}
+use Rattle.fx_plain.specs.PlainQueue.{QueueView}
+use Rattle.fx_plain.specs.ClassSets.{class_at, is_able, waits_there}
 
 -- the classes, where that fiber was woken, if one was
 abbrev pub with_woken : Option ℕ → List Class → List Class
 with_woken None classes = classes
 with_woken (Some f) classes = slice_set classes f Able
-
--- it waits at the queue of that number, which is this one, for what that has
-abbrev pub waits_there : ℕ → QueueView → Class → Bool
-waits_there q own k = (has_room_in own && waits_for_room q k) || (has_element_in own && waits_for_element q k)
 
 -- who waits there has at least that number, of one who is able or waits there; or nobody does
 abbrev pub IsLeastThere : List Class → ℕ → QueueView → Option ℕ → Type 0

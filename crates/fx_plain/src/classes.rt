@@ -4,8 +4,7 @@ ghost use Rattle.fx_plain.specs.declared.class.Class.TheVariants.{Unstarted, Abl
 ghost use Rattle.fx_plain.specs.NumberSet.{IsLeastOf, IsLeastFrom};
 ghost use Rattle.fx_plain.specs.PlainQueue.{have_room, have_element};
 ghost use Rattle.fx_plain.specs.Classes.{waits_for_end, class_at_end, is_ready};
-ghost use Rattle.fx_plain.specs.ClassSets.{class_at, with_request, with_end};
-ghost use Rattle.fx_plain.specs.WokenClasses.{waits_there};
+ghost use Rattle.fx_plain.specs.ClassSets.{class_at, with_request, with_end, waits_there};
 
 use crate::class::Class;
 use crate::class_sets::{ClassSets, lesser};

@@ -304,6 +304,7 @@ impl PlainWorld {
     }
 
     /// The fiber starts.
+    // (else LLVM makes a call of it in the loop of a replay)
     #[inline(always)]
     pub fn start(&mut self, fiber: u32)
         ensures { self.new ≡ after_start fiber self.old }
