@@ -1,32 +1,12 @@
-//! The fibers that a script comes to.
+//! The fibers of a script without their ports.
 ghost use Rattle.std.specs.Prelude.{◌≡◌, ◌<◌, All, IfOk, map};
 ghost use Rattle.std.specs.List.Sorted.{IsStrictlyIncreasing};
 ghost use Rattle.fx_fiber.specs.Bare.{BareView};
 
-use crate::harness::{Answer, Call, Wrong};
-use crate::refuser::Refuser;
-use crate::steps::Steps;
+use crate::harness::Wrong;
 use fx_fiber::{Bare, Fiber, Port};
 use fx_term::Code;
 use std::alloc::Global;
-
-/// No run makes as many steps.
-const MOST_STEPS: u32 = 4000;
-
-/// The fibers of a run, each at its end or where it waits for good.
-pub fn halted<'a, P: Port + Drop>(
-    mut steps: Steps<'a, P>,
-    refuser: &Refuser,
-) -> Result<Vec<Fiber<P>>, Wrong> {
-    for _ in 0..MOST_STEPS {
-        match steps.make(refuser) {
-            Answer::Goes => {}
-            Answer::Whole => return Ok(steps.fibers),
-            Answer::Memory | Answer::Other => return Err(Wrong::SetUp),
-        }
-    }
-    Err(Wrong::NoEnd)
-}
 
 /// The fibers without their ports, where they have the numbers from 0 on, one after the other.
 pub fn parted<P: Port + Drop>(

@@ -1,14 +1,12 @@
 //! Judges what comes of calls of which a request for memory is refused.
 
 use crate::refuser::{Reach, Refuser};
-use fx_term::Memory;
-use fx_text::TextFault;
-use std::alloc::{AllocError, AllocFailed, Global};
+use std::alloc::{AllocFailed, Global};
 
 /// No row makes as many calls one after the other.
 const MOST_CALLS: u32 = 4000;
 
-/// What a call answered.
+/// What a call answered, or several.
 #[derive(Clone, Copy)]
 pub enum Answer {
     /// Memory ran out.
@@ -17,17 +15,21 @@ pub enum Answer {
     Goes,
     /// What it answers with ample memory, and it was the last call.
     Whole,
+    /// The same, and before it memory ran out. No call answers so, but who makes calls again.
+    Told,
     /// Anything else.
-    Other,
+    Wrong(Wrong),
 }
+
+/// Something else than a call is to answer.
+pub const OTHER: Answer = Answer::Wrong(Wrong::Other);
+
+/// What a call cannot be made on.
+pub const UNSET: Answer = Answer::Wrong(Wrong::SetUp);
 
 /// What a call answered whose answer is as it is to be, or is not.
 pub fn whole_where(is_whole: bool) -> Answer {
-    if is_whole {
-        Answer::Whole
-    } else {
-        Answer::Other
-    }
+    if is_whole { Answer::Whole } else { OTHER }
 }
 
 /// What is wrong with a row: `words` says it.
@@ -59,26 +61,8 @@ impl Wrong {
     }
 }
 
-impl From<Memory> for Wrong {
-    fn from(_refused: Memory) -> Wrong {
-        Wrong::SetUp
-    }
-}
-
-impl From<AllocError> for Wrong {
-    fn from(_refused: AllocError) -> Wrong {
-        Wrong::SetUp
-    }
-}
-
 impl<T: Drop> From<AllocFailed<T>> for Wrong {
     fn from(_refused: AllocFailed<T>) -> Wrong {
-        Wrong::SetUp
-    }
-}
-
-impl From<TextFault> for Wrong {
-    fn from(_fault: TextFault) -> Wrong {
         Wrong::SetUp
     }
 }
@@ -95,81 +79,65 @@ pub trait Call {
     }
 }
 
-/// Which request is refused.
+/// Calls of which one request is refused.
 #[derive(Clone, Copy)]
 pub struct Trial {
-    refuser: Refuser,
+    /// What the calls are made with.
+    pub refuser: Refuser,
     reach: Reach,
-    number: u32,
 }
 
 impl Trial {
-    /// The request of this number is refused, and with that reach all after it.
-    pub fn new(alloc: Global, reach: Reach, number: u32) -> Trial {
-        Trial {
-            refuser: Refuser::new(alloc),
-            reach,
-            number,
-        }
+    /// From now on the request of this number is refused, and with that reach all after it.
+    pub fn begin(alloc: Global, reach: Reach, number: u32) -> Trial {
+        let refuser = Refuser::new(alloc);
+        refuser.refuse(reach, number);
+        Trial { refuser, reach }
     }
 
-    /// What the calls are made with.
-    pub fn refuser(&self) -> &Refuser {
-        &self.refuser
-    }
-
-    /// From now on it is refused.
-    pub fn begin(&self) {
-        self.refuser.refuse(self.reach, self.number);
-    }
-
-    /// A call has said that memory was refused: from now on there is ample memory.
-    pub fn grant(&self) -> Result<(), Wrong> {
-        if self.refuser.end() {
-            Ok(())
-        } else {
-            Err(Wrong::Untrue)
-        }
-    }
-
-    /// The calls are through, and tell whether one said that memory was refused: what the trial came to.
-    pub fn end(&self, told: Result<bool, Wrong>) -> Result<bool, Wrong> {
+    /// The calls are through, and came to this: to what the trial came.
+    pub fn end(&self, answer: Answer) -> Answer {
         let has_refused = self.refuser.end();
-        if has_refused && told.is_ok() {
-            return Err(Wrong::Hidden);
+        match answer {
+            Answer::Wrong(_) => answer,
+            _ if has_refused => Answer::Wrong(Wrong::Hidden),
+            _ => answer,
         }
-        told
     }
 
-    /// Makes the calls one after the other, until the last one: whether one said that memory was refused.
-    pub fn of<C: Call>(&self, call: &mut C) -> Result<bool, Wrong> {
-        let mut has_told = false;
+    /// Makes the calls one after the other, until the last one: what they came to.
+    pub fn of<C: Call>(&self, call: &mut C) -> Answer {
+        let mut whole = Answer::Whole;
         for _ in 0..MOST_CALLS {
             let mut answer = call.make(&self.refuser);
             if let Answer::Memory = answer {
-                has_told = true;
-                answer = self.again(call)?;
+                whole = Answer::Told;
+                answer = self.again(call);
             }
             match answer {
                 Answer::Goes => {}
-                Answer::Whole => return Ok(has_told),
-                Answer::Memory => return Err(Wrong::Again),
-                Answer::Other => return Err(Wrong::Other),
+                Answer::Whole => return whole,
+                _ => return answer,
             }
         }
-        Err(Wrong::NoEnd)
+        Answer::Wrong(Wrong::NoEnd)
     }
 
     /// Makes the call that was refused memory once more, with ample memory.
-    fn again<C: Call>(&self, call: &mut C) -> Result<Answer, Wrong> {
-        self.grant()?;
+    fn again<C: Call>(&self, call: &mut C) -> Answer {
+        if !self.refuser.end() {
+            return Answer::Wrong(Wrong::Untrue);
+        }
         if !call.is_kept() {
-            return Err(Wrong::Changed);
+            return Answer::Wrong(Wrong::Changed);
         }
         let answer = call.make(&self.refuser);
         if let Reach::AllAfter = self.reach {
             self.refuser.refuse(Reach::AllAfter, 1);
         }
-        Ok(answer)
+        match answer {
+            Answer::Memory => Answer::Wrong(Wrong::Again),
+            _ => answer,
+        }
     }
 }

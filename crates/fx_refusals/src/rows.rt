@@ -4,10 +4,8 @@ mod alone;
 mod closed;
 mod commands;
 mod fibers;
-mod given;
 mod marks;
 mod numbers;
-mod of_script;
 mod opened;
 mod outside;
 mod parts;
@@ -20,287 +18,238 @@ mod texts;
 mod tried;
 mod worlds;
 
-use crate::harness::Wrong;
-use crate::scripts::{WORKED, Worked};
+use crate::scripts::{LOOP, NONE, ONE, Printed, TWO, Worked, all_worked};
+use crate::steps::Part;
 use crate::tally::Tally;
-use commands::{FAULTS, Printed, Said};
-use given::{Given, given_of};
-use of_script::{OfScript, OfWorked};
-use outside::LOOP;
+use commands::{FAULTS, WORDS};
+use outside::By;
 use std::alloc::AllocGlobal;
 use std::random::RandomSource;
 use std::sync::Wait;
 use std::thread::Threads;
-use tried::{Anew, Row, requests};
+use tried::{OnScript, Row, requests};
 
 /// Those of one thread that are made on no script: the call, on what, and the row.
-const SINGLE: [(&str, &str, Row); 8] = [
+static SINGLE: [(&str, &str, Row); 8] = [
     ("Masks::enter", "13 regions", Row::Places(places::Of::Enter)),
     ("Masks::seal", "12 seals", Row::Places(places::Of::Seal)),
     ("Frames::push", "12 contexts", Row::Places(places::Of::Push)),
     (
         "Registers::bind",
         "a number",
-        Row::Anew(Anew::Numbers(numbers::Of::Bind)),
+        Row::Numbers(numbers::Of::Bind),
     ),
     (
         "Registers::copied",
         "a number",
-        Row::Anew(Anew::Numbers(numbers::Of::Copied)),
+        Row::Numbers(numbers::Of::Copied),
     ),
     (
         "Begin::copied",
         "a number",
-        Row::Anew(Anew::Numbers(numbers::Of::Begin)),
+        Row::Numbers(numbers::Of::Begin),
     ),
-    ("Code::build", "a join", Row::Anew(Anew::Build)),
-    ("schedule", "7 picks", Row::Anew(Anew::Schedule)),
+    ("Code::build", "a join", Row::Text(texts::Of::Build)),
+    ("schedule", "7 picks", Row::Text(texts::Of::Schedule)),
 ];
 
 /// Those of what threads share, of what the ports of fibers have, and of what workers have.
-const SHARED: [(&str, &str, Row); 13] = [
-    (
-        "Words::new",
-        "100 fibers",
-        Row::Anew(Anew::Part(parts::Of::Words)),
-    ),
-    (
-        "FiberQueue::new",
-        "3 fibers",
-        Row::Anew(Anew::Part(parts::Of::Queue)),
-    ),
+static SHARED: [(&str, &str, Row); 13] = [
+    ("Words::new", "100 fibers", Row::Part(parts::Of::Words)),
+    ("FiberQueue::new", "3 fibers", Row::Part(parts::Of::Queue)),
     (
         "FiberQueue::close",
         "an element",
-        Row::Anew(Anew::CloseQueue),
+        Row::Closed(closed::Of::Queue),
     ),
-    (
-        "open_queues",
-        "2 queues",
-        Row::Anew(Anew::Part(parts::Of::Queues)),
-    ),
-    ("close_queues", "2 queues", Row::Anew(Anew::CloseQueues)),
-    (
-        "Sources::new",
-        "3 fibers",
-        Row::Anew(Anew::Part(parts::Of::Sources)),
-    ),
-    (
-        "Notes::new",
-        "3 fibers",
-        Row::Anew(Anew::Part(parts::Of::Notes)),
-    ),
+    ("open_queues", "2 queues", Row::Part(parts::Of::Queues)),
+    ("close_queues", "2 queues", Row::Closed(closed::Of::Queues)),
+    ("Sources::new", "3 fibers", Row::Part(parts::Of::Sources)),
+    ("Notes::new", "3 fibers", Row::Part(parts::Of::Notes)),
     ("Marks::mark", "3 numbers", Row::Marks(marks::Of::Mark)),
     ("Marks::join", "3 numbers", Row::Marks(marks::Of::Join)),
-    (
-        "Tasks::new",
-        "4 workers",
-        Row::Anew(Anew::Part(parts::Of::Tasks)),
-    ),
+    ("Tasks::new", "4 workers", Row::Part(parts::Of::Tasks)),
     ("Owner::push", "100 tasks", Row::Put(tasks::Target::Hand)),
     (
         "Tasks::inject",
         "100 tasks",
         Row::Put(tasks::Target::Injector),
     ),
-    ("solo", "a worker", Row::Anew(Anew::Part(parts::Of::Solo))),
+    ("solo", "a worker", Row::Part(parts::Of::Solo)),
 ];
 
-/// A row on a script of its own: the call, what the row says of it, the text of the script, and the row.
-type OnText = (&'static str, &'static str, &'static str, OfScript);
-
-/// Those of one thread on a script of their own.
-const ON_ONE_THREAD: [OnText; 1] = [(
+/// That of a main fiber.
+static OF_ONE: [(&str, &str, Row); 1] = [(
     "Fiber::new",
     "a main fiber",
-    "(main (pure 5))",
-    OfScript::NewFiber,
+    Row::OnScript(OnScript::Plain(fibers::Of::New)),
 )];
 
-/// A script that can have two fibers.
-const TWO: &str = "(main (start h (pure 1) (pure 2)))";
+/// Those of the places of fibers that wait or have ended.
+static OF_TWO: [(&str, &str, Row); 2] = [
+    (
+        "Lot::new",
+        "2 fibers",
+        Row::OnScript(OnScript::Plain(fibers::Of::NewLot)),
+    ),
+    (
+        "Lot::empty",
+        "a fiber",
+        Row::OnScript(OnScript::Plain(fibers::Of::EmptyLot)),
+    ),
+];
 
-/// Those of the places of fibers that wait or have ended, and those that request a fiber from outside.
-const ON_THREADS: [OnText; 4] = [
-    ("Lot::new", "2 fibers", TWO, OfScript::NewLot),
-    ("Lot::empty", "a fiber", TWO, OfScript::EmptyLot),
+/// Those that request a fiber from outside.
+static OF_LOOP: [(&str, &str, Row); 2] = [
     (
         "Fiber::outside over ThreadPort",
         "a loop",
-        LOOP,
-        OfScript::Outside,
+        Row::OnScript(OnScript::Threads(fibers::Of::Outside(By::Fiber))),
     ),
     (
         "gated_turn over ThreadPort",
         "a loop",
-        LOOP,
-        OfScript::GatedTurn,
+        Row::OnScript(OnScript::Threads(fibers::Of::Outside(By::Gate))),
     ),
 ];
 
 /// Those of one thread of each worked script.
-const OF_ONE_THREAD: [(&str, OfWorked); 8] = [
-    ("parse", OfWorked::Parse),
-    ("PlainWorld::new", OfWorked::Fibers(OfScript::World)),
-    ("replay", OfWorked::Text(plain::Of::Replay)),
-    ("write_report", OfWorked::Text(plain::Of::WriteReport)),
-    ("write_trace", OfWorked::Text(plain::Of::WriteTrace)),
-    ("replay_text", OfWorked::Text(plain::Of::ReplayText)),
+static OF_ONE_THREAD: [(&str, Row); 8] = [
+    ("parse", Row::Text(texts::Of::Parse)),
+    (
+        "PlainWorld::new",
+        Row::OnScript(OnScript::Plain(fibers::Of::World)),
+    ),
+    ("replay", Row::OnScript(OnScript::Text(plain::Of::Replay))),
+    (
+        "write_report",
+        Row::OnScript(OnScript::Text(plain::Of::Write(Printed::Report))),
+    ),
+    (
+        "write_trace",
+        Row::OnScript(OnScript::Text(plain::Of::Write(Printed::Traces))),
+    ),
+    ("replay_text", Row::Text(texts::Of::ReplayText)),
     (
         "Fiber::step over PlainPort",
-        OfWorked::Fibers(OfScript::PlainStep),
+        Row::OnScript(OnScript::Plain(fibers::Of::Steps(Part::Step))),
     ),
     (
         "poll of Turn over PlainPort",
-        OfWorked::Fibers(OfScript::PlainTurn),
+        Row::OnScript(OnScript::Plain(fibers::Of::Steps(Part::Turn))),
     ),
 ];
 
 /// That of the bursts of its fibers.
-const OF_BURSTS: [(&str, OfWorked); 1] = [(
+static OF_BURSTS: [(&str, Row); 1] = [(
     "Fiber::burst over PlainPort",
-    OfWorked::Fibers(OfScript::PlainBurst),
+    Row::OnScript(OnScript::Plain(fibers::Of::Steps(Part::Burst))),
 )];
 
 /// The script of which no burst makes a request.
 const WITHOUT_BURST: &str = "mask";
 
 /// Those of several threads of each worked script.
-const OF_THREADS: [(&str, OfWorked); 7] = [
+static OF_THREADS: [(&str, Row); 7] = [
     (
         "Fiber::step over ThreadPort",
-        OfWorked::Fibers(OfScript::ThreadStep),
+        Row::OnScript(OnScript::Threads(fibers::Of::Steps(Part::Step))),
     ),
     (
         "poll of Turn over ThreadPort",
-        OfWorked::Fibers(OfScript::ThreadTurn),
+        Row::OnScript(OnScript::Threads(fibers::Of::Steps(Part::Turn))),
     ),
-    ("work", OfWorked::Fibers(OfScript::Work)),
-    ("report", OfWorked::Fibers(OfScript::Report)),
-    ("test_for_lost", OfWorked::Fibers(OfScript::Lost)),
-    ("run by 1", OfWorked::Run(1)),
-    ("run by 4", OfWorked::Run(4)),
-];
-
-/// The words of calls of the program that print a report, a trace or counts, by how many workers fibers run, and what
-/// is printed of a worked script.
-const WORDS: [(&str, u32, Printed); 5] = [
-    ("check F", 1, Printed::Counts),
-    ("replay F S", 1, Printed::Report),
-    ("trace F", 1, Printed::Traces),
-    ("run F 1", 1, Printed::Report),
-    ("run F 4", 4, Printed::Report),
+    ("work", Row::OnScript(OnScript::Threads(fibers::Of::Work))),
+    (
+        "report",
+        Row::OnScript(OnScript::Plain(fibers::Of::Report(reports::Of::Report))),
+    ),
+    (
+        "test_for_lost",
+        Row::OnScript(OnScript::Plain(fibers::Of::Report(reports::Of::Lost))),
+    ),
+    ("run by 1", Row::OnScript(OnScript::Run(1))),
+    ("run by 4", Row::OnScript(OnScript::Run(4))),
 ];
 
 /// Tries all rows.
 pub fn all<R: Print + Wait + Threads + Sync + RandomSource + AllocGlobal + Drop>(
-    rt: &R,
     tally: &mut Tally<R>,
 ) {
-    if let Err(wrong) = scripts(rt, tally) {
-        tally.tell("a script", "set up", Err(wrong));
-    }
-    for (name, said) in &FAULTS {
-        row(rt, tally, said.words, name, Row::Anew(Anew::Command(said)));
+    of_one_thread(tally);
+    of_several(tally);
+    for (said, on) in &FAULTS {
+        row(tally, said.words, on.name, Row::Command(said), on);
     }
 }
 
-/// Tries the row of this call on that, and prints a line on it.
-fn row<R: Print + Wait + Threads + Sync + RandomSource + AllocGlobal + Drop>(
-    rt: &R,
+/// Tries those of one thread.
+fn of_one_thread<R: Print + Wait + Threads + Sync + RandomSource + AllocGlobal + Drop>(
     tally: &mut Tally<R>,
-    call: &str,
-    of: &str,
-    row: Row,
 ) {
-    tally.tell(call, of, requests(rt, rt.alloc(), row));
+    listed(tally, &SINGLE, &NONE);
+    listed(tally, &OF_ONE, &ONE);
+    for worked in all_worked() {
+        of_worked(tally, &OF_ONE_THREAD, worked);
+        if worked.name != WITHOUT_BURST {
+            of_worked(tally, &OF_BURSTS, worked);
+        }
+    }
 }
 
-/// Tries these rows.
+/// Tries those of several threads, and calls of the program.
+fn of_several<R: Print + Wait + Threads + Sync + RandomSource + AllocGlobal + Drop>(
+    tally: &mut Tally<R>,
+) {
+    listed(tally, &SHARED, &NONE);
+    listed(tally, &OF_TWO, &TWO);
+    listed(tally, &OF_LOOP, &LOOP);
+    for worked in all_worked() {
+        of_worked(tally, &OF_THREADS, worked);
+        of_words(tally, worked);
+    }
+}
+
+/// Tries these rows on this script.
 fn listed<R: Print + Wait + Threads + Sync + RandomSource + AllocGlobal + Drop>(
-    rt: &R,
     tally: &mut Tally<R>,
     rows: &[(&str, &str, Row)],
+    on: &Worked,
 ) {
     for (call, of, it) in rows {
-        row(rt, tally, call, of, *it);
-    }
-}
-
-/// Tries these rows, each on its script.
-fn on_texts<R: Print + Wait + Threads + Sync + RandomSource + AllocGlobal + Drop>(
-    rt: &R,
-    tally: &mut Tally<R>,
-    rows: &[OnText],
-) -> Result<(), Wrong> {
-    for (call, of, text, it) in rows {
-        let given = given_of(rt.alloc(), text)?;
-        row(rt, tally, call, of, it.row(&given));
-    }
-    Ok(())
-}
-
-/// Tries these rows of a worked script, which has been read.
-fn of_given<'a, R: Print + Wait + Threads + Sync + RandomSource + AllocGlobal + Drop>(
-    rt: &R,
-    tally: &mut Tally<R>,
-    worked: &'a Worked,
-    given: &'a Given,
-    rows: &[(&str, OfWorked)],
-) {
-    for (call, it) in rows {
-        row(rt, tally, call, worked.name, it.row(given, worked));
+        row(tally, call, of, *it, on);
     }
 }
 
 /// Tries these rows of a worked script.
 fn of_worked<R: Print + Wait + Threads + Sync + RandomSource + AllocGlobal + Drop>(
-    rt: &R,
     tally: &mut Tally<R>,
+    rows: &[(&str, Row)],
     worked: &Worked,
-    rows: &[(&str, OfWorked)],
-) -> Result<(), Wrong> {
-    let given = given_of(rt.alloc(), worked.text)?;
-    of_given(rt, tally, worked, &given, rows);
-    Ok(())
+) {
+    for (call, it) in rows {
+        row(tally, call, worked.name, *it, worked);
+    }
 }
 
-/// All but calls of the program with words for people: those of one thread, and then those of several.
-fn scripts<R: Print + Wait + Threads + Sync + RandomSource + AllocGlobal + Drop>(
-    rt: &R,
-    tally: &mut Tally<R>,
-) -> Result<(), Wrong> {
-    listed(rt, tally, &SINGLE);
-    on_texts(rt, tally, &ON_ONE_THREAD)?;
-    for worked in &WORKED {
-        of_worked(rt, tally, worked, &OF_ONE_THREAD)?;
-        if worked.name != WITHOUT_BURST {
-            of_worked(rt, tally, worked, &OF_BURSTS)?;
-        }
-    }
-    listed(rt, tally, &SHARED);
-    on_texts(rt, tally, &ON_THREADS)?;
-    for worked in &WORKED {
-        of_worked(rt, tally, worked, &OF_THREADS)?;
-        words(rt, tally, worked);
-    }
-    Ok(())
-}
-
-/// Those of calls of the program of a worked script.
-fn words<R: Print + Wait + Threads + Sync + RandomSource + AllocGlobal + Drop>(
-    rt: &R,
+/// Tries those of calls of the program of a worked script.
+fn of_words<R: Print + Wait + Threads + Sync + RandomSource + AllocGlobal + Drop>(
     tally: &mut Tally<R>,
     worked: &Worked,
 ) {
-    for (words, workers, printed) in &WORDS {
-        let said = Said::of(worked, words, *workers, *printed);
-        row(
-            rt,
-            tally,
-            words,
-            worked.name,
-            Row::Anew(Anew::Command(&said)),
-        );
+    for said in &WORDS {
+        row(tally, said.words, worked.name, Row::Command(said), worked);
     }
+}
+
+/// Tries the row of this call on that, and prints a line on it.
+fn row<R: Print + Wait + Threads + Sync + RandomSource + AllocGlobal + Drop>(
+    tally: &mut Tally<R>,
+    call: &str,
+    of: &str,
+    row: Row,
+    on: &Worked,
+) {
+    let count = requests(tally.rt, row, on);
+    tally.tell(call, of, count);
 }

@@ -1,4 +1,4 @@
-//! Scripts that come to one report, however their fibers interleave.
+//! Scripts, of which those that are worked come to one report, however their fibers interleave.
 
 /// A script, how many fibers and queues it can have, its report, and the traces of its replay.
 #[derive(Clone, Copy)]
@@ -10,7 +10,65 @@ pub struct Worked {
     pub traces: &'static str,
 }
 
-pub static WORKED: [Worked; 10] = [
+/// Which text is printed of a script.
+#[derive(Clone, Copy)]
+pub enum Printed {
+    Counts,
+    Report,
+    Traces,
+}
+
+impl Worked {
+    /// That text.
+    pub fn printed(&self, printed: Printed) -> &'static str {
+        match printed {
+            Printed::Counts => self.counts,
+            Printed::Report => self.report,
+            Printed::Traces => self.traces,
+        }
+    }
+}
+
+/// For calls that are made on no script.
+pub static NONE: Worked = Worked {
+    name: "",
+    text: "",
+    counts: "",
+    report: "",
+    traces: "",
+};
+
+pub static ONE: Worked = Worked {
+    name: "a main fiber",
+    text: "(main (pure 5))",
+    counts: "",
+    report: "",
+    traces: "",
+};
+
+pub static TWO: Worked = Worked {
+    name: "2 fibers",
+    text: "(main (start h (pure 1) (pure 2)))",
+    counts: "",
+    report: "",
+    traces: "",
+};
+
+/// Its first steps show nothing, so that a request shows.
+pub static LOOP: Worked = Worked {
+    name: "a loop",
+    text: "(main (for i 9 (pure i)))",
+    counts: "",
+    report: "",
+    traces: "",
+};
+
+/// Those that are worked.
+pub fn all_worked() -> &'static [Worked] {
+    &WORKED
+}
+
+static WORKED: [Worked; 10] = [
     Worked {
         name: "queue",
         text: "(queue q 2) (main (start a (for i 9 (offer q i)) (start b (for i 9 (take q)) (pure 9))))",

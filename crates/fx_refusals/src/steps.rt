@@ -1,68 +1,59 @@
 //! Whole runs of fibers, of which each step is refused memory.
-ghost use Rattle.std.specs.Prelude.{◌≡◌};
+ghost use Rattle.std.specs.Prelude.{◌≡◌, false};
+ghost use Rattle.fx_model.specs.Step.{has_ended};
+ghost use Rattle.fx_fiber.specs.Fiber.{progress};
 
-use crate::harness::{Answer, Call, Wrong};
+use crate::given::Given;
+use crate::harness::{Answer, Call, OTHER};
 use crate::refuser::Refuser;
 use futures::Future;
-use futures::task::{Context, Poll, Solo};
+use futures::task::{Poll, Solo};
 use fx_fiber::{Fiber, Port, Report, Stepped, Turn, Turned};
 use fx_term::{Code, Memory};
 use std::alloc::Global;
 
 /// Which call of a fiber is refused memory.
 #[derive(Clone, Copy)]
-pub enum Part<'a> {
+pub enum Part {
     /// None: all have ample memory.
     None,
     Step,
     Burst,
-    Turn(&'a Solo),
+    Turn,
 }
 
-/// The fibers of a script, of which the first one goes on that can, and the report that they come to.
+/// The fibers of a script, of which the first one goes on that can, and come to its report.
 #[derive(Drop)]
 pub struct Steps<'a, P: Port> {
-    code: &'a Code,
-    report: &'a Report,
-    part: Part<'a>,
+    given: &'a Given,
+    part: Part,
     pub fibers: Vec<Fiber<P>>,
     shared: &'a mut P::Shared,
     events: usize,
-    ghost fits: { code.now.nodes ≡ P.theory.code },
-}
-
-/// The fibers before the first step of the main one, with room for so many: so none that starts later requests
-/// memory to be kept.
-fn first<P: Port + Drop>(
-    alloc: Global,
-    main: Fiber<P>,
-    room: u32,
-) -> Result<Vec<Fiber<P>>, Memory> {
-    let mut fibers = Vec::with_capacity(alloc, room as usize)?;
-    match fibers.push(main) {
-        Ok(()) => Ok(fibers),
-        Err(_) => Err(Memory),
-    }
+    ghost fits: { given.now.script.code.nodes ≡ P.theory.code },
 }
 
 impl<'a, P: Port + Drop> Steps<'a, P> {
-    /// The run that this fiber begins, with room for so many fibers.
+    /// The run that this fiber begins, with room for each that can start: so none of them requests memory to be kept.
     pub fn new(
         alloc: Global,
-        code: &'a Code,
-        report: &'a Report,
-        part: Part<'a>,
+        given: &'a Given,
+        part: Part,
         main: Fiber<P>,
-        room: u32,
         shared: &'a mut P::Shared,
     ) -> Result<Steps<'a, P>, Memory>
-        requires { code.now.nodes ≡ P.theory.code }
+        requires { given.now.script.code.nodes ≡ P.theory.code }
     {
+        let Ok(mut fibers) = Vec::with_capacity(alloc, given.script.total() as usize) else {
+            return Err(Memory);
+        };
+        if fibers.push(main).is_err() {
+            return Err(Memory);
+        }
         Ok(Steps {
-            code,
-            report,
+            given,
             part,
-            fibers: first(alloc, main, room)?,
+            fibers,
             shared,
             events: 0,
         })
@@ -70,23 +61,12 @@ impl<'a, P: Port + Drop> Steps<'a, P> {
 
     /// Has the fiber at this place go on: what was answered, or nothing where it waits or has ended.
     fn goes(&mut self, place: usize, refuser: &Refuser) -> Option<Answer> {
-        match self.part {
-            Part::None => step(&mut self.fibers, place, self.code, self.shared),
-            Part::Step => {
-                refuser.go_on();
-                let answer = step(&mut self.fibers, place, self.code, self.shared);
-                refuser.hold();
-                answer
+        match self.fibers.get_mut(place) {
+            Some(fiber) if !fiber.has_ended() => {
+                let stepped = moves(self.part, fiber, self.given, self.shared, refuser);
+                came_to(&mut self.fibers, stepped)
             }
-            Part::Burst => bursts(&mut self.fibers, place, self.code, self.shared, refuser),
-            Part::Turn(solo) => turns(
-                solo,
-                &mut self.fibers,
-                place,
-                self.code,
-                self.shared,
-                refuser,
-            ),
+            _ => None,
         }
     }
 }
@@ -111,14 +91,6 @@ pub fn are_told<P: Port>(fibers: &[Fiber<P>], report: &Report) -> bool {
     fibers.len() == report.fibers.len()
 }
 
-/// Keeps a fiber that was started.
-fn kept<P: Port + Drop>(fibers: &mut Vec<Fiber<P>>, child: Fiber<P>) -> Option<Answer> {
-    match fibers.push(child) {
-        Ok(()) => Some(Answer::Goes),
-        Err(_) => Some(Answer::Other),
-    }
-}
-
 /// What a step answered, of which a child is kept.
 fn came_to<P: Port + Drop>(
     fibers: &mut Vec<Fiber<P>>,
@@ -127,95 +99,100 @@ fn came_to<P: Port + Drop>(
     match answer {
         Err(Memory) => Some(Answer::Memory),
         Ok(Stepped::Waits(_)) => None,
-        Ok(Stepped::Child(child)) => kept(fibers, child),
+        Ok(Stepped::Child(child)) => Some(if fibers.push(child).is_ok() {
+            Answer::Goes
+        } else {
+            OTHER
+        }),
         Ok(Stepped::Went | Stepped::Gave | Stepped::Ended) => Some(Answer::Goes),
     }
 }
 
-/// A step.
-fn step<P: Port + Drop>(
-    fibers: &mut Vec<Fiber<P>>,
-    place: usize,
-    code: &Code,
+/// A step, a burst or a turn.
+fn moves<P: Port + Drop>(
+    part: Part,
+    fiber: &mut Fiber<P>,
+    given: &Given,
     shared: &mut P::Shared,
-) -> Option<Answer>
-    requires { code.now.nodes ≡ P.theory.code }
+    refuser: &Refuser,
+) -> Result<Stepped<P>, Memory>
+    requires code { given.now.script.code.nodes ≡ P.theory.code }
+    requires going { has_ended (progress P.theory.code fiber.now) ≡ false }
 {
-    let fiber = fibers.get_mut(place)?;
-    if fiber.has_ended() {
-        return None;
+    let code = &given.script.code;
+    match part {
+        Part::None => fiber.step(code, shared),
+        Part::Step => {
+            refuser.go_on();
+            let stepped = fiber.step(code, shared);
+            refuser.hold();
+            stepped
+        }
+        Part::Burst => bursts(fiber, code, shared, refuser),
+        Part::Turn => turns(&given.solo, fiber, code, shared, refuser),
     }
-    let answer = fiber.step(code, shared);
-    came_to(fibers, answer)
 }
 
 /// A step with ample memory, and a burst after it.
 fn bursts<P: Port + Drop>(
-    fibers: &mut Vec<Fiber<P>>,
-    place: usize,
+    fiber: &mut Fiber<P>,
     code: &Code,
     shared: &mut P::Shared,
     refuser: &Refuser,
-) -> Option<Answer>
-    requires { code.now.nodes ≡ P.theory.code }
+) -> Result<Stepped<P>, Memory>
+    requires code { code.now.nodes ≡ P.theory.code }
+    requires going { has_ended (progress P.theory.code fiber.now) ≡ false }
 {
-    let fiber = fibers.get_mut(place)?;
-    if fiber.has_ended() {
-        return None;
-    }
-    let answer = fiber.step(code, shared);
-    if !matches!(&answer, Ok(Stepped::Went)) {
-        return came_to(fibers, answer);
+    let stepped = fiber.step(code, shared);
+    if !matches!(&stepped, Ok(Stepped::Went)) {
+        return stepped;
     }
     refuser.go_on();
     let made = fiber.burst(code, shared, 63);
     refuser.hold();
     match made {
-        Ok(_) => Some(Answer::Goes),
-        Err(Memory) => Some(Answer::Memory),
+        Ok(_) => stepped,
+        Err(Memory) => Err(Memory),
     }
 }
 
-/// A turn.
+/// A turn, which may make several steps before its fiber waits.
 fn turns<P: Port + Drop>(
     solo: &Solo,
-    fibers: &mut Vec<Fiber<P>>,
-    place: usize,
+    fiber: &mut Fiber<P>,
     code: &Code,
     shared: &mut P::Shared,
     refuser: &Refuser,
-) -> Option<Answer>
+) -> Result<Stepped<P>, Memory>
     requires { code.now.nodes ≡ P.theory.code }
 {
-    let fiber = fibers.get_mut(place)?;
-    if fiber.has_ended() {
-        return None;
-    }
-    let mut cx = solo.begin();
-    refuser.go_on();
-    let answer = polled(fiber, code, shared, &mut cx);
-    refuser.hold();
-    let _: Poll<()> = cx.yield_now();
-    cx.park();
-    match answer {
-        Poll::Ready(Turned::Memory) => Some(Answer::Memory),
-        Poll::Ready(Turned::Child(child)) => kept(fibers, child),
-        Poll::Ready(Turned::Ended) => Some(Answer::Goes),
-        Poll::Pending if fiber.source().is_none() => Some(Answer::Goes),
-        Poll::Pending => None,
+    match polled(solo, fiber, code, shared, refuser) {
+        Poll::Ready(Turned::Memory) => Err(Memory),
+        Poll::Ready(Turned::Child(child)) => Ok(Stepped::Child(child)),
+        Poll::Ready(Turned::Ended) => Ok(Stepped::Ended),
+        Poll::Pending => Ok(match fiber.source() {
+            Some(source) => Stepped::Waits(source),
+            None => Stepped::Gave,
+        }),
     }
 }
 
 fn polled<P: Port>(
+    solo: &Solo,
     fiber: &mut Fiber<P>,
     code: &Code,
     shared: &mut P::Shared,
-    cx: &mut Context<'_>,
+    refuser: &Refuser,
 ) -> Poll<Turned<P>>
     requires { code.now.nodes ≡ P.theory.code }
 {
-    let mut turn = Turn::new(fiber, code, shared);
-    turn.poll(cx)
+    let mut cx = solo.begin();
+    refuser.go_on();
+    let turned = Turn::new(fiber, code, shared).poll(&mut cx);
+    refuser.hold();
+    let _: Poll<()> = cx.yield_now();
+    cx.park();
+    turned
 }
 
 impl<'a, P: Port + Drop> Call for Steps<'a, P> {
@@ -229,18 +206,19 @@ impl<'a, P: Port + Drop> Call for Steps<'a, P> {
         // (a turn may make steps before its fiber waits)
         if events_of(&self.fibers) > self.events {
             Answer::Goes
-        } else if are_told(&self.fibers, self.report) {
+        } else if are_told(&self.fibers, &self.given.report) {
             Answer::Whole
         } else {
-            Answer::Other
+            OTHER
         }
     }
 
     fn is_kept(&self) -> bool {
+        let events = events_of(&self.fibers);
         match self.part {
-            Part::None | Part::Step => events_of(&self.fibers) == self.events,
+            Part::None | Part::Step => events == self.events,
             // what was made before memory was refused stays
-            Part::Burst | Part::Turn(_) => events_of(&self.fibers) >= self.events,
+            Part::Burst | Part::Turn => events >= self.events,
         }
     }
 }

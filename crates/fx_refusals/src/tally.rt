@@ -8,7 +8,7 @@ use std::process::ExitCode;
 /// How many rows passed, and how many failed.
 #[derive(Drop)]
 pub struct Tally<'a, R> {
-    rt: &'a R,
+    pub rt: &'a R,
     passed: u32,
     failed: u32,
 }
@@ -30,16 +30,19 @@ impl<'a, R: Print + AllocGlobal> Tally<'a, R> {
     /// Prints a line on the row of this call on that, which makes so many requests.
     pub fn tell(&mut self, call: &str, of: &str, count: Result<u32, Wrong>) {
         match count {
-            Ok(count) => {
-                self.passed = self.passed.saturating_add(1);
-                let _ = println!(self.rt; "{call}, {of}: {count} requests");
-            }
-            Err(wrong) => {
-                self.failed = self.failed.saturating_add(1);
-                let words = wrong.words();
-                let _ = println!(self.rt; "{call}, {of}: FAILED: {words}");
-            }
+            Ok(count) => self.passes(call, of, count),
+            Err(wrong) => self.fails(call, of, wrong.words()),
         }
+    }
+
+    fn passes(&mut self, call: &str, of: &str, count: u32) {
+        self.passed = self.passed.saturating_add(1);
+        let _ = println!(self.rt; "{call}, {of}: {count} requests");
+    }
+
+    fn fails(&mut self, call: &str, of: &str, words: &str) {
+        self.failed = self.failed.saturating_add(1);
+        let _ = println!(self.rt; "{call}, {of}: FAILED: {words}");
     }
 
     /// Prints how many passed and failed, and gives the status of the program: whether none failed.

@@ -1,33 +1,18 @@
 //! The loop of a worker that is alone.
 ghost use Rattle.std.specs.Prelude.{◌≡◌, ◌≤◌, ℕ, true};
 
-use crate::harness::{Answer, Wrong, whole_where};
+use crate::given::Given;
+use crate::harness::{Answer, UNSET, whole_where};
 use crate::refuser::Refuser;
-use crate::rows::given::Given;
 use crate::steps::are_told;
 use fx_fiber::{Fiber, Port, Report};
 use fx_sched::{Free, Hand, Lot, Work, WorkerEnd, work};
+use fx_term::Memory;
 use std::alloc::{AllocGlobal, Global};
 use std::random::RandomSource;
 use std::sync::Wait;
 
-/// A worker's hand that has this fiber before it, and the injector.
-fn handed<R: Wait, P: Port + Drop>(
-    rt: &R,
-    alloc: Global,
-    main: Fiber<P>,
-) -> Result<(Work<P>, Hand<P>), Wrong> {
-    let (all, mut hands) = Work::new(alloc, 1)?;
-    let Some(hand) = hands.pop() else {
-        return Err(Wrong::SetUp);
-    };
-    match all.inject(rt, main) {
-        Ok(()) => Ok((all, hand)),
-        Err(_) => Err(Wrong::SetUp),
-    }
-}
-
-/// What a worker alone answers that has this fiber, and to what the fibers come.
+/// What a worker alone answers that has this fiber before it in the injector, and to what the fibers come.
 pub fn works<R: Wait + RandomSource + AllocGlobal, P: Port + Drop>(
     rt: &R,
     alloc: Global,
@@ -36,24 +21,58 @@ pub fn works<R: Wait + RandomSource + AllocGlobal, P: Port + Drop>(
     main: Fiber<P>,
     shared: &mut P::Shared,
     refuser: &Refuser,
-) -> Result<Answer, Wrong>
+) -> Answer
     requires code { given.now.script.code.nodes ≡ P.theory.code }
     requires total { P.theory.total ≤ total }
     requires may { (id : ℕ) → P.theory.may id ≡ true }
 {
-    let lot = Lot::new(alloc, total)?;
-    let (all, hand) = handed(rt, alloc, main)?;
-    refuser.go_on();
-    let end = work(rt, 0, hand, &all, &lot, &given.script.code, shared, &Free);
-    refuser.hold();
-    match end {
-        WorkerEnd::Memory(..) => Ok(Answer::Memory),
-        WorkerEnd::Done => came_to(alloc, lot, &given.report),
+    match Work::new(alloc, 1) {
+        Ok((all, mut hands)) => {
+            if all.inject(rt, main).is_err() {
+                return UNSET;
+            }
+            match hands.pop() {
+                Some(hand) => goes_on(rt, alloc, total, given, &all, hand, shared, refuser),
+                None => UNSET,
+            }
+        }
+        Err(Memory) => UNSET,
+    }
+}
+
+/// The same of a worker's hand.
+fn goes_on<R: Wait + RandomSource + AllocGlobal, P: Port + Drop>(
+    rt: &R,
+    alloc: Global,
+    total: u32,
+    given: &Given,
+    all: &Work<P>,
+    hand: Hand<P>,
+    shared: &mut P::Shared,
+    refuser: &Refuser,
+) -> Answer
+    requires code { given.now.script.code.nodes ≡ P.theory.code }
+    requires total { P.theory.total ≤ total }
+    requires may { (id : ℕ) → P.theory.may id ≡ true }
+{
+    match Lot::new(alloc, total) {
+        Ok(lot) => {
+            refuser.go_on();
+            let end = work(rt, 0, hand, all, &lot, &given.script.code, shared, &Free);
+            refuser.hold();
+            match end {
+                WorkerEnd::Memory(..) => Answer::Memory,
+                WorkerEnd::Done => came_to(alloc, lot, &given.report),
+            }
+        }
+        Err(Memory) => UNSET,
     }
 }
 
 /// Whether the fibers that a worker left came to this report.
-fn came_to<P: Port + Drop>(alloc: Global, lot: Lot<P>, report: &Report) -> Result<Answer, Wrong> {
-    let fibers = lot.empty(alloc)?;
-    Ok(whole_where(are_told(&fibers, report)))
+fn came_to<P: Port + Drop>(alloc: Global, lot: Lot<P>, report: &Report) -> Answer {
+    match lot.empty(alloc) {
+        Ok(fibers) => whole_where(are_told(&fibers, report)),
+        Err(Memory) => UNSET,
+    }
 }

@@ -1,12 +1,19 @@
 //! Queues as they are closed.
 
-use crate::harness::{Answer, whole_where};
+use crate::harness::{Answer, OTHER, UNSET, whole_where};
 use crate::refuser::Refuser;
 use fx_port::{close_queues, open_queues};
 use fx_queue::FiberQueue;
 use fx_term::{Item, Memory};
 use std::alloc::Global;
 use std::sync::Wait;
+
+/// What is closed.
+#[derive(Clone, Copy)]
+pub enum Of {
+    Queue,
+    Queues,
+}
 
 const FIRST: Item = Item {
     fiber: 0,
@@ -15,22 +22,24 @@ const FIRST: Item = Item {
 };
 
 /// What a queue with one element answers as it is closed.
-pub fn queue_closed<R: Wait>(rt: &R, alloc: Global, refuser: &Refuser) -> Result<Answer, Memory> {
-    let (queue, mut pass) = FiberQueue::new(alloc, 8, 3)?;
+fn queue_closed<R: Wait>(rt: &R, alloc: Global, refuser: &Refuser) -> Answer {
+    let Ok((queue, mut pass)) = FiberQueue::new(alloc, 8, 3) else {
+        return UNSET;
+    };
     if queue.offer_as(rt, &mut pass, FIRST).is_err() {
-        return Ok(Answer::Other);
+        return OTHER;
     }
     refuser.go_on();
     let rest = queue.close(rt, pass);
     refuser.hold();
     match rest {
-        Ok(rest) => Ok(whole_where(rest.as_slice() == [FIRST].as_slice())),
-        Err(Memory) => Ok(Answer::Memory),
+        Ok(rest) => whole_where(rest.as_slice() == [FIRST].as_slice()),
+        Err(Memory) => Answer::Memory,
     }
 }
 
 /// What 2 queues answer as they are closed.
-pub fn queues_closed<R: Wait>(rt: &R, alloc: Global, refuser: &Refuser) -> Result<Answer, Memory> {
+fn queues_closed<R: Wait>(rt: &R, alloc: Global, refuser: &Refuser) -> Result<Answer, Memory> {
     let (queues, passes) = open_queues(alloc, &[1, 8], 3)?;
     refuser.go_on();
     let left = close_queues(rt, alloc, queues, passes);
@@ -38,5 +47,13 @@ pub fn queues_closed<R: Wait>(rt: &R, alloc: Global, refuser: &Refuser) -> Resul
     match left {
         Ok(left) => Ok(whole_where(left.len() == 2)),
         Err(Memory) => Ok(Answer::Memory),
+    }
+}
+
+/// What the call answers.
+pub fn made<R: Wait>(rt: &R, alloc: Global, of: Of, refuser: &Refuser) -> Answer {
+    match of {
+        Of::Queue => queue_closed(rt, alloc, refuser),
+        Of::Queues => queues_closed(rt, alloc, refuser).unwrap_or(UNSET),
     }
 }

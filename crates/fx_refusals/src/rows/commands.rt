@@ -1,115 +1,150 @@
 //! Calls of the program, over texts in memory.
 
-use crate::harness::{Answer, whole_where};
+use crate::harness::{Answer, UNSET, whole_where};
 use crate::refuser::Refuser;
-use crate::scripts::Worked;
+use crate::scripts::{Printed, Worked};
 use crate::shown::room;
 use fx_command::command::{FAULT, command};
 use fx_command::files::{FetchFault, Files};
-use std::alloc::{AllocError, AllocGlobal, Global};
+use std::alloc::{AllocGlobal, Global};
 use std::io;
 use std::io::Read;
 use std::random::RandomSource;
 use std::sync::Wait;
 use std::thread::Threads;
 
-/// The words after the program's name, by how many workers fibers run, the script that they name F, and what is
-/// answered: the status, and what is printed on standard output and on standard error. The schedule that they name S
-/// picks fiber 0, fiber 0 and fiber 1.
+/// The words after the program's name, by how many workers fibers run, and what is answered: the status, which text of
+/// the script is printed on standard output, and what is printed on standard error. The words name a script F, and a
+/// schedule S that picks fiber 0, fiber 0 and fiber 1.
 #[derive(Clone, Copy)]
 pub struct Said {
     pub words: &'static str,
     pub workers: u32,
-    pub script: &'static str,
-    pub status: u8,
-    pub out: &'static str,
-    pub err: &'static str,
+    status: u8,
+    out: Printed,
+    err: &'static str,
 }
 
-/// What is printed of a worked script.
-#[derive(Clone, Copy)]
-pub enum Printed {
-    Counts,
-    Report,
-    Traces,
-}
+/// Calls that print a text of a worked script, and nothing else.
+pub static WORDS: [Said; 5] = [
+    Said {
+        words: "check F",
+        workers: 1,
+        status: 0,
+        out: Printed::Counts,
+        err: "",
+    },
+    Said {
+        words: "replay F S",
+        workers: 1,
+        status: 0,
+        out: Printed::Report,
+        err: "",
+    },
+    Said {
+        words: "trace F",
+        workers: 1,
+        status: 0,
+        out: Printed::Traces,
+        err: "",
+    },
+    Said {
+        words: "run F 1",
+        workers: 1,
+        status: 0,
+        out: Printed::Report,
+        err: "",
+    },
+    Said {
+        words: "run F 4",
+        workers: 4,
+        status: 0,
+        out: Printed::Report,
+        err: "",
+    },
+];
 
-impl Said {
-    /// A call by these words, that prints this of the script and nothing else.
-    pub fn of(worked: &Worked, words: &'static str, workers: u32, printed: Printed) -> Said {
-        let out = match printed {
-            Printed::Counts => worked.counts,
-            Printed::Report => worked.report,
-            Printed::Traces => worked.traces,
-        };
-        Said {
-            words,
-            workers,
-            script: worked.text,
-            status: 0,
-            out,
-            err: "",
-        }
-    }
-}
+/// A script of which two fibers wait for good.
+const BLOCKED: Worked = Worked {
+    name: "blocked",
+    text: "(queue q 1) (main (start h (take q) (start g (bracket p (pure 7) \
+            (join h (x (pure x)) (e (pure e)) (pure 1)) (offer q p)) (pure 3))))",
+    counts: "",
+    report: "fiber 0 succeeded 3\nfiber 1 blocked\nfiber 2 blocked\nqueue q left\n",
+    traces: "",
+};
+
+/// What is said of it.
+const WAITS: &str = "fiber 1 waits for an element of queue q\nfiber 2 waits for fiber 1 to end\n";
 
 /// Calls that have words for people, or a fault to tell.
-pub static FAULTS: [(&str, Said); 5] = [
+pub static FAULTS: [(Said, Worked); 5] = [
     (
-        "blocked",
         Said {
             words: "replay F",
             workers: 1,
-            script: "(queue q 1) (main (start h (take q) (start g (bracket p (pure 7) \
-            (join h (x (pure x)) (e (pure e)) (pure 1)) (offer q p)) (pure 3))))",
             status: 1,
-            out: "fiber 0 succeeded 3\nfiber 1 blocked\nfiber 2 blocked\nqueue q left\n",
-            err: "fiber 1 waits for an element of queue q\nfiber 2 waits for fiber 1 to end\n",
+            out: Printed::Report,
+            err: WAITS,
         },
+        BLOCKED,
     ),
     (
-        "blocked",
         Said {
             words: "run F 4",
             workers: 4,
-            script: "(queue q 1) (main (start h (take q) (start g (bracket p (pure 7) \
-            (join h (x (pure x)) (e (pure e)) (pure 1)) (offer q p)) (pure 3))))",
             status: 1,
-            out: "fiber 0 succeeded 3\nfiber 1 blocked\nfiber 2 blocked\nqueue q left\n",
-            err: "fiber 1 waits for an element of queue q\nfiber 2 waits for fiber 1 to end\n",
+            out: Printed::Report,
+            err: WAITS,
         },
+        BLOCKED,
     ),
     (
-        "no form",
         Said {
             words: "check F",
             workers: 1,
-            script: "(main (foo))",
             status: 3,
-            out: "refused 5 at 7\n",
+            out: Printed::Counts,
             err: "F:1:8: `foo` is no word of a form\n(main (foo))\n       ^\n",
+        },
+        Worked {
+            name: "no form",
+            text: "(main (foo))",
+            counts: "refused 5 at 7\n",
+            report: "",
+            traces: "",
         },
     ),
     (
-        "no text",
         Said {
             words: "check G",
             workers: 1,
-            script: "",
             status: 4,
-            out: "",
+            out: Printed::Counts,
             err: "cannot read G\n",
+        },
+        Worked {
+            name: "no text",
+            text: "",
+            counts: "",
+            report: "",
+            traces: "",
         },
     ),
     (
-        "no worker",
         Said {
             words: "run F 0",
             workers: 1,
-            script: "(main (pure 5))",
             status: 5,
-            out: "",
+            out: Printed::Report,
             err: "fault workers\n",
+        },
+        Worked {
+            name: "no worker",
+            text: "(main (pure 5))",
+            counts: "",
+            report: "",
+            traces: "",
         },
     ),
 ];
@@ -151,21 +186,26 @@ impl Files for Texts {
 }
 
 /// The words of a line.
-fn words_of(alloc: Global, line: &str) -> Result<Vec<String>, AllocError> {
+fn words_of(alloc: Global, line: &str) -> Option<Vec<String>> {
     let mut words = Vec::new(alloc);
     for word in line.split_whitespace() {
-        words.push(String::from_str(alloc, word)?)?;
+        let Ok(word) = String::from_str(alloc, word) else {
+            return None;
+        };
+        if words.push(word).is_err() {
+            return None;
+        }
     }
-    Ok(words)
+    Some(words)
 }
 
 /// What such an answer is. At want of memory nothing is printed on standard output.
-fn answer_of(said: &Said, status: u8, out: &[u8], err: &[u8]) -> Answer {
+fn answer_of(said: &Said, on: &Worked, status: u8, out: &[u8], err: &[u8]) -> Answer {
     if status == FAULT && out.is_empty() && err == b"fault memory\n".as_slice() {
         return Answer::Memory;
     }
-    let is_status = status == said.status;
-    whole_where(is_status && out == said.out.as_bytes() && err == said.err.as_bytes())
+    let is_out = out == on.printed(said.out).as_bytes();
+    whole_where(status == said.status && is_out && err == said.err.as_bytes())
 }
 
 /// What the program answers.
@@ -173,16 +213,18 @@ pub fn commands<R: Wait + Threads + Sync + RandomSource + AllocGlobal>(
     rt: &R,
     alloc: Global,
     said: &Said,
+    on: &Worked,
     refuser: &Refuser,
-) -> Result<Answer, AllocError> {
-    let words = words_of(alloc, said.words)?;
-    let mut out = room(alloc)?;
-    let mut err = room(alloc)?;
-    let mut texts = Texts {
-        script: said.script,
+) -> Answer {
+    let Some(words) = words_of(alloc, said.words) else {
+        return UNSET;
     };
+    let (Ok(mut out), Ok(mut err)) = (room(alloc), room(alloc)) else {
+        return UNSET;
+    };
+    let mut texts = Texts { script: on.text };
     refuser.go_on();
     let status = command(rt, alloc, &words, &mut texts, &mut out, &mut err);
     refuser.hold();
-    Ok(answer_of(said, status, &out, &err))
+    answer_of(said, on, status, &out, &err)
 }

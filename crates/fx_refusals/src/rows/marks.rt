@@ -1,6 +1,6 @@
 //! The marks of numbers.
 
-use crate::harness::{Answer, Call, Trial, Wrong, whole_where};
+use crate::harness::{Answer, Call, Trial, UNSET, whole_where};
 use crate::refuser::Refuser;
 use fx_port::Marks;
 use fx_term::Memory;
@@ -22,9 +22,11 @@ struct Marking {
 }
 
 /// Has the call tried.
-pub fn tried(alloc: Global, of: Of, trial: &Trial) -> Result<bool, Wrong> {
+pub fn tried(alloc: Global, of: Of, trial: &Trial) -> Answer {
     let mut other = Marks::new(alloc, 3);
-    other.mark(1)?;
+    if other.mark(1).is_err() {
+        return UNSET;
+    }
     trial.of(&mut Marking {
         of,
         marks: Marks::new(alloc, 3),

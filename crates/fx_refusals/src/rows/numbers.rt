@@ -1,6 +1,6 @@
 //! The numbers of the names in scope, and what a fiber begins with.
 
-use crate::harness::{Answer, whole_where};
+use crate::harness::{Answer, OTHER, whole_where};
 use crate::refuser::Refuser;
 use fx_term::{Arg, Begin, Memory, NodeId, Registers};
 use std::alloc::Global;
@@ -24,25 +24,21 @@ fn bound(alloc: Global, refuser: &Refuser) -> Answer {
     }
     match numbers.bind(Some(0), 7) {
         Ok(()) if numbers.number_of(Arg::Slot(0)) == 7 => Answer::Memory,
-        _ => Answer::Other,
+        _ => OTHER,
     }
 }
 
-/// What a copy of the number 7 answers.
-fn copied(alloc: Global, refuser: &Refuser) -> Result<Answer, Memory> {
+/// Whether a copy of the number 7 is as it is to be.
+fn copied(alloc: Global, refuser: &Refuser) -> Result<bool, Memory> {
     let mut numbers = Registers::new(alloc);
     numbers.bind(Some(0), 7)?;
     refuser.go_on();
-    let copy = numbers.copied(alloc);
-    refuser.hold();
-    Ok(match copy {
-        Ok(copy) => whole_where(copy.number_of(Arg::Slot(0)) == 7),
-        Err(Memory) => Answer::Memory,
-    })
+    let copy = numbers.copied(alloc)?;
+    Ok(copy.number_of(Arg::Slot(0)) == 7)
 }
 
-/// What a copy of what a fiber begins with answers, the number 7 in it.
-fn begun(alloc: Global, refuser: &Refuser) -> Result<Answer, Memory> {
+/// Whether a copy of what a fiber begins with is, the number 7 in it.
+fn begun(alloc: Global, refuser: &Refuser) -> Result<bool, Memory> {
     let mut slots = Registers::new(alloc);
     slots.bind(Some(0), 7)?;
     let begin = Begin {
@@ -52,19 +48,20 @@ fn begun(alloc: Global, refuser: &Refuser) -> Result<Answer, Memory> {
         end: 2,
     };
     refuser.go_on();
-    let copy = begin.copied(alloc);
-    refuser.hold();
-    Ok(match copy {
-        Ok(copy) => whole_where(copy.end == 2 && copy.slots.number_of(Arg::Slot(0)) == 7),
-        Err(Memory) => Answer::Memory,
-    })
+    let copy = begin.copied(alloc)?;
+    Ok(copy.end == 2 && copy.slots.number_of(Arg::Slot(0)) == 7)
 }
 
-/// What the call answers.
+/// What the call answers. What is made of it is looked at and let go without a request.
 pub fn made(alloc: Global, of: Of, refuser: &Refuser) -> Answer {
-    match of {
-        Of::Bind => bound(alloc, refuser),
-        Of::Copied => copied(alloc, refuser).unwrap_or(Answer::Other),
-        Of::Begin => begun(alloc, refuser).unwrap_or(Answer::Other),
+    let is_whole = match of {
+        Of::Bind => return bound(alloc, refuser),
+        Of::Copied => copied(alloc, refuser),
+        Of::Begin => begun(alloc, refuser),
+    };
+    refuser.hold();
+    match is_whole {
+        Ok(is_whole) => whole_where(is_whole),
+        Err(Memory) => Answer::Memory,
     }
 }

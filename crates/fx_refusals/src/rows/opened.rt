@@ -1,15 +1,13 @@
 //! What the fibers of a script have on threads before their first step.
-ghost use Rattle.std.specs.Prelude.{◌≡◌, ◌<◌, ◌≤◌, IfOk, ℕ, true};
+ghost use Rattle.std.specs.Prelude.{◌≡◌, ◌<◌, ◌≤◌, IfOk, IfSome, ℕ, true};
 ghost use Rattle.fx_model.specs.Origin.{main_begin_of};
 ghost use Rattle.fx_port.specs.Rows.{AreFirst};
 ghost use Rattle.fx_word.specs.SeatView.{first_view};
 ghost use Rattle.fx_word.specs.Words.{IsOf};
 
-use crate::harness::{Answer, Trial, Wrong};
-use crate::rows::fibers::{Done, come_of};
-use crate::rows::given::Given;
-use crate::rows::outside::{By, asked_of};
-use futures::task::Solo;
+use crate::given::Given;
+use crate::harness::{Answer, Trial, UNSET};
+use crate::rows::fibers::{Of, come_of};
 use fx_fiber::main_begin;
 use fx_port::{Notes, Passes, RunBrand, Sources, ThreadPort, open_queues};
 use fx_queue::FiberQueue;
@@ -20,15 +18,6 @@ use std::alloc::{AllocGlobal, Global};
 use std::marker::Brand;
 use std::random::RandomSource;
 use std::sync::Wait;
-
-/// What is done with the fibers of a script.
-#[derive(Clone, Copy)]
-pub enum What<'a> {
-    /// The main one is requested from outside.
-    Outside(By, &'a Solo),
-    /// This is done over their ports.
-    Over(Done<'a>),
-}
 
 /// What the fibers share, and what the main one has of it.
 #[derive(Drop)]
@@ -41,14 +30,17 @@ struct Opened {
 }
 
 /// The capacity of the script's queue, of which there is at most one; 1 where there is none.
-fn capacity_of(script: &Script) -> Result<u32, Wrong>
-    ensures { IfOk result (λ capacity. (0 < capacity) × (capacity ≤ 1024)) }
+fn capacity_of(script: &Script) -> Option<u32>
+    ensures { IfSome result (λ capacity. (0 < capacity) × (capacity ≤ 1024)) }
 {
-    let capacity = script.queues.first().map_or(1, |queue| queue.cap);
+    let capacity = match script.queues.first() {
+        Some(queue) => queue.cap,
+        None => 1,
+    };
     if capacity < 1 || 1024 < capacity {
-        return Err(Wrong::SetUp);
+        return None;
     }
-    Ok(capacity)
+    Some(capacity)
 }
 
 /// What so many fibers share, with one queue.
@@ -77,20 +69,17 @@ pub fn made<R: Wait + RandomSource + AllocGlobal>(
     rt: &R,
     alloc: Global,
     given: &Given,
-    what: What,
+    of: Of,
     trial: &Trial,
-) -> Result<Answer, Wrong> {
+) -> Answer {
     let fibers = main_begin(alloc, &given.script.code).end;
-    let Opened {
-        words,
-        queues,
-        sources,
-        seat,
-        passes,
-    } = open(alloc, capacity_of(&given.script)?, fibers)?;
-    made_as::<Brand, R>(
-        rt, alloc, given, &words, &queues, &sources, seat, passes, what, trial,
-    )
+    let Some(capacity) = capacity_of(&given.script) else {
+        return UNSET;
+    };
+    match open(alloc, capacity, fibers) {
+        Ok(opened) => made_as::<Brand, R>(rt, alloc, given, opened, of, trial),
+        Err(Memory) => UNSET,
+    }
 }
 
 /// The same, where a type names what they share.
@@ -98,26 +87,30 @@ fn made_as<N: RunBrand, R: Wait + RandomSource + AllocGlobal>(
     rt: &R,
     alloc: Global,
     given: &Given,
-    words: &Words,
-    queues: &[FiberQueue],
-    sources: &Sources,
-    seat: WordSeat,
-    passes: Passes,
-    what: What,
+    opened: Opened,
+    of: Of,
     trial: &Trial,
-) -> Result<Answer, Wrong>
+) -> Answer
     requires code { given.now.script.code.nodes ≡ N.nodes }
-    requires words { (words.now ≡ N.words) × (0 < N.words.fibers) }
-    requires queues { queues.now ≡ N.queues }
+    requires words { (opened.words ≡ N.words) × (0 < N.words.fibers) }
+    requires queues { opened.queues.items ≡ N.queues }
     requires total { N.words.fibers ≡ (main_begin_of given.now.script.code.nodes).end }
-    requires seat { IsOf seat N.words × (seat.view ≡ first_view N.words.fibers) }
-    requires passes { AreFirst N.words.fibers N.queues passes }
+    requires seat { IsOf opened.seat N.words × (opened.seat.view ≡ first_view N.words.fibers) }
+    requires passes { AreFirst N.words.fibers N.queues opened.passes }
     requires may { (id : ℕ) → N.may id ≡ true }
 {
-    let mut notes = Notes::<N>::new(alloc, words.fibers())?;
-    let port = ThreadPort::<R, N>::new(rt, alloc, words, queues, sources, seat, passes);
-    match what {
-        What::Outside(by, solo) => asked_of(alloc, given, by, solo, port, &mut notes, trial),
-        What::Over(what) => come_of(rt, alloc, given, port, &mut notes, what, trial),
+    let Opened {
+        words,
+        queues,
+        sources,
+        seat,
+        passes,
+    } = opened;
+    match Notes::<N>::new(alloc, words.fibers()) {
+        Ok(mut notes) => {
+            let port = ThreadPort::<R, N>::new(rt, alloc, &words, &queues, &sources, seat, passes);
+            come_of(rt, alloc, given, port, &mut notes, of, trial)
+        }
+        Err(Memory) => UNSET,
     }
 }

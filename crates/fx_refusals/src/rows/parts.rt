@@ -32,8 +32,10 @@ fn words(alloc: Global) -> Result<bool, Memory> {
 
 /// Whether there is a queue of 3 fibers.
 fn queue(alloc: Global) -> Result<bool, Memory> {
-    FiberQueue::new(alloc, 8, 3)?;
-    Ok(true)
+    match FiberQueue::new(alloc, 8, 3) {
+        Ok(_) => Ok(true),
+        Err(Memory) => Err(Memory),
+    }
 }
 
 /// Whether two queues are as they are to be.
@@ -44,8 +46,10 @@ fn queues(alloc: Global) -> Result<bool, Memory> {
 
 /// Whether there are the sources of 3 fibers.
 fn sources(alloc: Global) -> Result<bool, Memory> {
-    Sources::new(alloc, 3)?;
-    Ok(true)
+    match Sources::new(alloc, 3) {
+        Ok(_) => Ok(true),
+        Err(Memory) => Err(Memory),
+    }
 }
 
 /// Whether the notes of 3 fibers are as they are to be.
@@ -56,7 +60,10 @@ fn notes(alloc: Global) -> Result<bool, Memory> {
 fn notes_as<N: RunBrand>(alloc: Global) -> Result<bool, Memory>
     requires { N.words.fibers ≡ 3 }
 {
-    Ok(are_whole(Notes::<N>::new(alloc, 3)?))
+    match Notes::<N>::new(alloc, 3) {
+        Ok(notes) => Ok(are_whole(notes)),
+        Err(Memory) => Err(Memory),
+    }
 }
 
 /// Whether the notes have room for the last of 3 fibers, and tell it once.
@@ -73,8 +80,10 @@ fn tasks(alloc: Global) -> Result<bool, Memory> {
 
 /// Whether a worker has what it wakes by.
 fn bell<R: RandomSource + AllocGlobal>(rt: &R) -> Result<bool, Memory> {
-    solo(rt)?;
-    Ok(true)
+    match solo(rt) {
+        Ok(_) => Ok(true),
+        Err(Memory) => Err(Memory),
+    }
 }
 
 /// What the call answers. What is made of it is looked at and let go without a request.

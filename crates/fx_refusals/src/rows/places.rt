@@ -1,6 +1,6 @@
 //! The masks and the contexts of a fiber.
 
-use crate::harness::{Answer, Call, Trial, Wrong, whole_where};
+use crate::harness::{Answer, Call, OTHER, Trial, whole_where};
 use crate::refuser::Refuser;
 use fx_frames::{Frame, Frames};
 use fx_mask::{Masks, Region};
@@ -19,7 +19,7 @@ pub enum Of {
 }
 
 /// Has the calls tried.
-pub fn tried(alloc: Global, of: Of, trial: &Trial) -> Result<bool, Wrong> {
+pub fn tried(alloc: Global, of: Of, trial: &Trial) -> Answer {
     match of {
         Of::Enter => trial.of(&mut Entering {
             masks: Masks::new(alloc),
@@ -46,14 +46,14 @@ impl Call for Entering {
     fn make(&mut self, refuser: &Refuser) -> Answer {
         self.entered = self.masks.entries();
         if self.entered > u64::from(MANY) {
-            return Answer::Other;
+            return OTHER;
         }
         refuser.go_on();
         let region = self.masks.enter();
         refuser.hold();
         match region {
             Err(Memory) => Answer::Memory,
-            Ok(Region(number)) if number != self.entered => Answer::Other,
+            Ok(Region(number)) if number != self.entered => OTHER,
             Ok(_) if self.entered == u64::from(MANY) => Answer::Whole,
             Ok(_) => Answer::Goes,
         }
@@ -80,7 +80,7 @@ impl Call for Sealing {
         }
         self.seals = self.seals.saturating_add(1);
         if self.masks.is_open() {
-            return Answer::Other;
+            return OTHER;
         }
         if self.seals == MANY {
             return Answer::Whole;

@@ -1,20 +1,20 @@
 //! The report of fibers that are given by hand, and the test for lost ones.
-ghost use Rattle.std.specs.Prelude.{◌≡◌, ◌<◌, All, IfOk};
+ghost use Rattle.std.specs.Prelude.{◌≡◌, ◌<◌, All};
 ghost use Rattle.fx_term.specs.Script.{total};
 ghost use Rattle.fx_fiber.specs.Bare.{BareView};
 ghost use Rattle.fx_text.specs.View.{meaning};
 ghost use Rattle.fx_report.specs.Script.{script_of};
 ghost use Rattle.fx_run.specs.Reported.{RanCode, AreAscending};
 
-use crate::halting::{halted, parted};
-use crate::harness::{Answer, Wrong, whole_where};
+use crate::given::Given;
+use crate::halting::parted;
+use crate::harness::{Answer, OTHER, Trial, UNSET, whole_where};
 use crate::refuser::Refuser;
-use crate::rows::given::Given;
 use crate::steps::{Part, Steps};
 use fx_fiber::{Bare, Fiber, FiberReport, Port, Report};
 use fx_plain::replay;
 use fx_run::{RunFault, report, test_for_lost};
-use fx_term::Item;
+use fx_term::{Item, Memory};
 use fx_text::Script;
 use std::alloc::Global;
 
@@ -33,20 +33,43 @@ fn is_alike(one: &FiberReport, other: &FiberReport) -> bool {
 
 /// Whether the fibers are reported alike, in their order.
 fn are_alike(these: &[FiberReport], others: &[FiberReport]) -> bool {
+    for (place, one) in these.iter().enumerate() {
+        match others.get(place) {
+            Some(other) if is_alike(one, other) => {}
+            _ => return false,
+        }
+    }
     these.len() == others.len()
-        && these
-            .iter()
-            .zip(others)
-            .all(|(one, other)| is_alike(one, other))
 }
 
 /// Whether the same is left in each queue.
 fn are_left(these: &[Vec<Item>], others: &[Vec<Item>]) -> bool {
+    for (place, one) in these.iter().enumerate() {
+        match others.get(place) {
+            Some(other) if one.as_slice() == other.as_slice() => {}
+            _ => return false,
+        }
+    }
     these.len() == others.len()
-        && these
-            .iter()
-            .zip(others)
-            .all(|(one, other)| one.as_slice() == other.as_slice())
+}
+
+/// The fibers that a script's main fiber comes to with the others, each at its end or where it waits for good.
+fn replayed<P: Port + Drop>(
+    alloc: Global,
+    given: &Given,
+    main: Fiber<P>,
+    shared: &mut P::Shared,
+    trial: &Trial,
+) -> Option<Vec<Fiber<P>>>
+    requires { given.now.script.code.nodes ≡ P.theory.code }
+{
+    let Ok(mut steps) = Steps::new(alloc, given, Part::None, main, shared) else {
+        return None;
+    };
+    match trial.of(&mut steps) {
+        Answer::Whole => Some(steps.fibers),
+        _ => None,
+    }
 }
 
 /// What a report of these fibers answers, which is to be this one.
@@ -56,22 +79,25 @@ fn told(
     bares: Vec<Bare>,
     wanted: &Report,
     refuser: &Refuser,
-) -> Result<Answer, Wrong>
+) -> Answer
     requires code { RanCode script.now.code.nodes bares.items }
     requires ascending { AreAscending bares.items }
     requires below { All (λ (x : BareView). x.id < total (script_of (meaning script.now))) bares.items }
 {
-    let left = replay(alloc, script, &[])?.left;
+    let left = match replay(alloc, script, &[]) {
+        Ok(replayed) => replayed.left,
+        Err(Memory) => return UNSET,
+    };
     refuser.go_on();
     let answer = report(alloc, script, bares, left, Vec::new(alloc), 0);
     refuser.hold();
-    Ok(match answer {
+    match answer {
         Ok(report) => whole_where(
             are_alike(&report.fibers, &wanted.fibers) && are_left(&report.left, &wanted.left),
         ),
         Err(RunFault::Memory) => Answer::Memory,
-        Err(_) => Answer::Other,
-    })
+        Err(_) => OTHER,
+    }
 }
 
 /// What the test for lost fibers answers, of which there are none.
@@ -85,24 +111,8 @@ fn tested(alloc: Global, script: &Script, bares: &[Bare], refuser: &Refuser) -> 
     match answer {
         Ok(()) => Answer::Whole,
         Err(RunFault::Memory) => Answer::Memory,
-        Err(_) => Answer::Other,
+        Err(_) => OTHER,
     }
-}
-
-/// The fibers that a script's main fiber comes to with the others.
-fn replayed<P: Port + Drop>(
-    alloc: Global,
-    given: &Given,
-    main: Fiber<P>,
-    shared: &mut P::Shared,
-    refuser: &Refuser,
-) -> Result<Vec<Fiber<P>>, Wrong>
-    requires { given.now.script.code.nodes ≡ P.theory.code }
-{
-    let script = &given.script;
-    let (code, room) = (&script.code, script.total());
-    let steps = Steps::new(alloc, code, &given.report, Part::None, main, room, shared)?;
-    halted(steps, refuser)
 }
 
 /// What the call answers on the fibers that this one comes to with the others.
@@ -112,15 +122,19 @@ pub fn made<P: Port + Drop>(
     main: Fiber<P>,
     shared: &mut P::Shared,
     of: Of,
-    refuser: &Refuser,
-) -> Result<Answer, Wrong>
+    trial: &Trial,
+) -> Answer
     requires { given.now.script.code.nodes ≡ P.theory.code }
 {
     let script = &given.script;
-    let fibers = replayed(alloc, given, main, shared, refuser)?;
-    let bares = parted(alloc, &script.code, script.total(), fibers)?;
+    let Some(fibers) = replayed(alloc, given, main, shared, trial) else {
+        return UNSET;
+    };
+    let Ok(bares) = parted(alloc, &script.code, script.total(), fibers) else {
+        return UNSET;
+    };
     match of {
-        Of::Report => told(alloc, script, bares, &given.report, refuser),
-        Of::Lost => Ok(tested(alloc, script, &bares, refuser)),
+        Of::Report => told(alloc, script, bares, &given.report, &trial.refuser),
+        Of::Lost => tested(alloc, script, &bares, &trial.refuser),
     }
 }

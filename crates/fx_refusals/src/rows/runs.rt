@@ -1,8 +1,8 @@
 //! Whole runs on threads.
 
-use crate::harness::{Answer, whole_where};
+use crate::given::Given;
+use crate::harness::{Answer, OTHER, whole_where};
 use crate::refuser::Refuser;
-use crate::rows::given::Given;
 use crate::shown::is_written;
 use fx_run::{RunFault, run};
 use fx_sched::Free;
@@ -26,6 +26,6 @@ pub fn runs<R: Wait + Threads + Sync + RandomSource + AllocGlobal>(
     match report {
         Ok(report) => whole_where(is_written(alloc, &given.script, &report, text)),
         Err(RunFault::Memory) => Answer::Memory,
-        Err(_) => Answer::Other,
+        Err(_) => OTHER,
     }
 }

@@ -1,6 +1,6 @@
 //! The deques of workers.
 
-use crate::harness::{Answer, Call, Trial, Wrong, whole_where};
+use crate::harness::{Answer, Call, OTHER, Trial, UNSET, whole_where};
 use crate::refuser::Refuser;
 use fx_sched::{Owner, Tasks};
 use std::alloc::Global;
@@ -26,15 +26,12 @@ struct Putting<'a, R> {
 }
 
 /// Has the calls tried that put tasks there.
-pub fn tried<R: Wait + Drop>(
-    rt: &R,
-    alloc: Global,
-    target: Target,
-    trial: &Trial,
-) -> Result<bool, Wrong> {
-    let (tasks, mut hands) = Tasks::new(alloc, 1)?;
+pub fn tried<R: Wait + Drop>(rt: &R, alloc: Global, target: Target, trial: &Trial) -> Answer {
+    let Ok((tasks, mut hands)) = Tasks::new(alloc, 1) else {
+        return UNSET;
+    };
     let Some(hand) = hands.pop() else {
-        return Err(Wrong::SetUp);
+        return UNSET;
     };
     trial.of(&mut Putting {
         rt,
@@ -65,7 +62,7 @@ impl<'a, R: Wait> Call for Putting<'a, R> {
         refuser.hold();
         match put {
             Err(back) if back == self.put => return Answer::Memory,
-            Err(_) => return Answer::Other,
+            Err(_) => return OTHER,
             Ok(()) => {}
         }
         self.put = self.put.saturating_add(1);

@@ -1,16 +1,14 @@
 //! What a row is, and how it is tried.
 
-use crate::harness::{Answer, Trial, Wrong};
+use crate::given::{Given, given_of};
+use crate::harness::{Answer, OTHER, Trial, UNSET, Wrong};
 use crate::refuser::Reach;
 use crate::rows::commands::{Said, commands};
-use crate::rows::fibers::{Done, Main};
-use crate::rows::given::Given;
-use crate::rows::outside::By;
 use crate::rows::runs::runs;
-use crate::rows::{closed, marks, numbers, opened, parts, places, plain, tasks, texts, worlds};
+use crate::rows::{
+    closed, fibers, marks, numbers, opened, parts, places, plain, tasks, texts, worlds,
+};
 use crate::scripts::Worked;
-use crate::steps::Part;
-use fx_sched::solo;
 use std::alloc::{AllocGlobal, Global};
 use std::random::RandomSource;
 use std::sync::Wait;
@@ -19,233 +17,150 @@ use std::thread::Threads;
 /// No row makes as many requests.
 const MOST_REQUESTS: u32 = 4000;
 
-/// Which call of a fiber is refused memory.
-#[derive(Clone, Copy)]
-pub enum Of {
-    Step,
-    Burst,
-    Turn,
-}
-
 /// A row: one call or several.
 #[derive(Clone, Copy)]
-pub enum Row<'a> {
+pub enum Row {
     Places(places::Of),
     Marks(marks::Of),
     Put(tasks::Target),
-    /// The steps of fibers of one thread.
-    Plain(Of, &'a Given),
-    /// Those of fibers of several threads, on one.
-    Threads(Of, &'a Given),
-    /// A request of a fiber from outside.
-    Outside(By, &'a Given),
-    /// A call that sets up all that it is made on.
-    Anew(Anew<'a>),
-}
-
-/// A call that sets up all that it is made on, but for the script.
-#[derive(Clone, Copy)]
-pub enum Anew<'a> {
     Numbers(numbers::Of),
-    Schedule,
-    Build,
-    Parse(&'a Worked),
-    Plain(plain::Of, &'a Given, &'a Worked),
-    World(worlds::What<'a>, &'a Given),
     Part(parts::Of),
-    CloseQueue,
-    CloseQueues,
-    /// A worker that is alone has fibers of several threads go on.
-    Work(&'a Given),
-    /// A run of the script by so many workers.
-    Run(&'a Given, &'a Worked, u32),
+    Closed(closed::Of),
+    Text(texts::Of),
+    OnScript(OnScript),
     /// The program, called by words.
-    Command(&'a Said),
+    Command(&'static Said),
 }
 
-impl<'a> Row<'a> {
+/// A row that is made on a script which was read.
+#[derive(Clone, Copy)]
+pub enum OnScript {
+    /// A call that goes from the script to a text.
+    Text(plain::Of),
+    /// What fibers of one thread do.
+    Plain(fibers::Of),
+    /// What fibers of several threads do, on one.
+    Threads(fibers::Of),
+    /// A run by so many workers.
+    Run(u32),
+}
+
+impl Row {
     /// Whether it runs fibers by several workers, each on a thread of its own.
-    fn has_threads(&self) -> bool {
+    fn has_threads(self) -> bool {
         match self {
-            Row::Anew(Anew::Run(_, _, workers)) => *workers > 1,
-            Row::Anew(Anew::Command(said)) => said.workers > 1,
+            Row::OnScript(OnScript::Run(workers)) => workers > 1,
+            Row::Command(said) => said.workers > 1,
             _ => false,
         }
     }
 }
 
-/// What a call answers. A method of a trait cannot hand a handle to threads, so this is none.
-fn made<R: Wait + Threads + Sync + RandomSource + AllocGlobal>(
-    rt: &R,
-    alloc: Global,
-    call: Anew,
-    trial: &Trial,
-) -> Answer {
-    let refuser = trial.refuser();
-    match call {
-        Anew::Numbers(of) => numbers::made(alloc, of, refuser),
-        Anew::Schedule => texts::scheduled(alloc, refuser),
-        Anew::Build => texts::built(alloc, refuser),
-        Anew::Parse(worked) => texts::parsed(alloc, worked, refuser),
-        Anew::Plain(of, given, worked) => plain::made(alloc, given, worked, of, refuser),
-        Anew::World(what, given) => worlds::made(rt, alloc, given, what, trial).unwrap_or(
-            Answer::Other,
-        ),
-        Anew::Part(of) => parts::made(rt, alloc, of, refuser),
-        Anew::CloseQueue => closed::queue_closed(rt, alloc, refuser).unwrap_or(Answer::Other),
-        Anew::CloseQueues => closed::queues_closed(rt, alloc, refuser).unwrap_or(Answer::Other),
-        Anew::Work(given) => {
-            let what = opened::What::Over(Done::Main(Main::Work));
-            opened::made(rt, alloc, given, what, trial).unwrap_or(Answer::Other)
-        }
-        Anew::Run(given, worked, workers) => runs(
-            rt,
-            alloc,
-            given,
-            worked.report,
-            workers,
-            refuser,
-        ),
-        Anew::Command(said) => commands(rt, alloc, said, refuser).unwrap_or(Answer::Other),
-    }
-}
-
-/// Makes the call, and where it was refused memory again with ample memory: whether it was.
-fn told<R: Wait + Threads + Sync + RandomSource + AllocGlobal>(
-    rt: &R,
-    alloc: Global,
-    call: Anew,
-    trial: &Trial,
-) -> Result<bool, Wrong> {
-    let mut has_told = false;
-    let mut answer = made(rt, alloc, call, trial);
-    if let Answer::Memory = answer {
-        has_told = true;
-        trial.grant()?;
-        answer = made(rt, alloc, call, trial);
-    }
-    match answer {
-        Answer::Whole => Ok(has_told),
-        Answer::Memory => Err(Wrong::Again),
-        Answer::Goes | Answer::Other => Err(Wrong::Other),
-    }
-}
-
-/// Over what port fibers go on.
-#[derive(Clone, Copy)]
-enum Over {
-    Plain,
-    Threads,
-}
-
-/// Has the steps of a script's fibers tried.
-fn steps<R: Wait + RandomSource + AllocGlobal>(
-    rt: &R,
-    alloc: Global,
-    over: Over,
-    of: Of,
-    given: &Given,
-    trial: &Trial,
-) -> Result<bool, Wrong> {
-    let solo = solo(rt)?;
-    let part = match of {
-        Of::Step => Part::Step,
-        Of::Burst => Part::Burst,
-        Of::Turn => Part::Turn(&solo),
-    };
-    let what = Done::Main(Main::Steps(part));
-    came_to(match over {
-        Over::Plain => worlds::made(rt, alloc, given, worlds::What::Over(what), trial),
-        Over::Threads => opened::made(rt, alloc, given, opened::What::Over(what), trial),
-    })
-}
-
-/// Has a fiber requested from outside.
-fn outside<R: Wait + RandomSource + AllocGlobal>(
-    rt: &R,
-    alloc: Global,
-    by: By,
-    given: &Given,
-    trial: &Trial,
-) -> Result<bool, Wrong> {
-    let solo = solo(rt)?;
-    let what = opened::What::Outside(by, &solo);
-    came_to(opened::made(rt, alloc, given, what, trial))
-}
-
-/// Whether one of several calls said that memory was refused.
-fn came_to(answer: Result<Answer, Wrong>) -> Result<bool, Wrong> {
-    match answer {
-        Ok(Answer::Memory) => Ok(true),
-        Ok(Answer::Whole) => Ok(false),
-        Ok(Answer::Goes | Answer::Other) => Err(Wrong::Other),
-        Err(wrong) => Err(wrong),
-    }
-}
-
-/// Whether a call of the row said that memory was refused, and all came as it is to come.
-fn tried<R: Wait + Threads + Sync + RandomSource + AllocGlobal + Drop>(
+/// What a call answers, and what several come to. A method of a trait cannot hand a handle to threads, so this is none.
+fn made<R: Wait + Threads + Sync + RandomSource + AllocGlobal + Drop>(
     rt: &R,
     alloc: Global,
     row: Row,
+    on: &Worked,
     trial: &Trial,
-) -> Result<bool, Wrong> {
+) -> Answer {
     match row {
         Row::Places(of) => places::tried(alloc, of, trial),
         Row::Marks(of) => marks::tried(alloc, of, trial),
         Row::Put(target) => tasks::tried(rt, alloc, target, trial),
-        Row::Plain(of, given) => steps(rt, alloc, Over::Plain, of, given, trial),
-        Row::Threads(of, given) => steps(rt, alloc, Over::Threads, of, given, trial),
-        Row::Outside(by, given) => outside(rt, alloc, by, given, trial),
-        Row::Anew(call) => told(rt, alloc, call, trial),
+        Row::Numbers(of) => numbers::made(alloc, of, &trial.refuser),
+        Row::Part(of) => parts::made(rt, alloc, of, &trial.refuser),
+        Row::Closed(of) => closed::made(rt, alloc, of, &trial.refuser),
+        Row::Text(of) => texts::made(alloc, on, of, &trial.refuser),
+        Row::OnScript(of) => on_script(rt, alloc, of, on, trial),
+        Row::Command(said) => commands(rt, alloc, said, on, &trial.refuser),
     }
 }
 
-/// What came of a request that was to be refused.
-#[derive(Clone, Copy)]
-enum Met {
-    /// It was not made.
-    Nothing,
-    /// The call said that memory ran out.
-    Told,
-    /// It was for a thread, and the others did its work.
-    Spared,
+/// The same on a script, which is read first.
+fn on_script<R: Wait + Threads + Sync + RandomSource + AllocGlobal>(
+    rt: &R,
+    alloc: Global,
+    of: OnScript,
+    on: &Worked,
+    trial: &Trial,
+) -> Answer {
+    match given_of(rt, alloc, on.text) {
+        Some(given) => on_given(rt, alloc, of, on, &given, trial),
+        None => UNSET,
+    }
 }
 
-/// Refuses the request of this number, and with that reach all after it.
-fn came_of<R: Wait + Threads + Sync + RandomSource + AllocGlobal + Drop>(
+/// The same, where it has been read.
+fn on_given<R: Wait + Threads + Sync + RandomSource + AllocGlobal>(
+    rt: &R,
+    alloc: Global,
+    of: OnScript,
+    on: &Worked,
+    given: &Given,
+    trial: &Trial,
+) -> Answer {
+    match of {
+        OnScript::Text(of) => plain::made(alloc, given, on, of, &trial.refuser),
+        OnScript::Plain(of) => worlds::made(rt, alloc, given, of, trial),
+        OnScript::Threads(of) => opened::made(rt, alloc, given, of, trial),
+        OnScript::Run(workers) => runs(rt, alloc, given, on.report, workers, &trial.refuser),
+    }
+}
+
+/// What the row comes to. A call that sets up all that it is made on, and was refused memory, is made again with ample
+/// memory.
+fn tried<R: Wait + Threads + Sync + RandomSource + AllocGlobal + Drop>(
     rt: &R,
     alloc: Global,
     row: Row,
-    reach: Reach,
-    number: u32,
-) -> Result<Met, Wrong> {
-    let trial = Trial::new(alloc, reach, number);
-    trial.begin();
-    match trial.end(tried(rt, alloc, row, &trial)) {
-        Ok(false) => Ok(Met::Nothing),
-        Ok(true) => Ok(Met::Told),
-        Err(Wrong::Hidden) if row.has_threads() => Ok(Met::Spared),
-        Err(wrong) => Err(wrong),
+    on: &Worked,
+    trial: &Trial,
+) -> Answer {
+    let first = made(rt, alloc, row, on, trial);
+    if !matches!(first, Answer::Memory) {
+        return first;
+    }
+    if !trial.refuser.end() {
+        return Answer::Wrong(Wrong::Untrue);
+    }
+    match made(rt, alloc, row, on, trial) {
+        Answer::Whole => Answer::Told,
+        Answer::Memory => Answer::Wrong(Wrong::Again),
+        Answer::Goes | Answer::Told => OTHER,
+        wrong => wrong,
     }
 }
 
-/// Refuses the first request, the second and so on, until none is met: how many were, and there must be some. Some
-/// must be told too: where each was spared, want of memory is hidden.
+/// How many requests were met before the first one that was not made, and there must be some. Some must be told too:
+/// where each was spared, want of memory is hidden.
+fn counted(count: u32, has_told: bool) -> Result<u32, Wrong> {
+    if count == 0 {
+        Err(Wrong::NoRequest)
+    } else if has_told {
+        Ok(count)
+    } else {
+        Err(Wrong::Hidden)
+    }
+}
+
+/// Refuses the first request, the second and so on, and with that reach all after it, until none is met: how many were.
 fn requests_at<R: Wait + Threads + Sync + RandomSource + AllocGlobal + Drop>(
     rt: &R,
-    alloc: Global,
     row: Row,
+    on: &Worked,
     reach: Reach,
 ) -> Result<u32, Wrong> {
     let mut has_told = false;
     for count in 0..MOST_REQUESTS {
-        match came_of(rt, alloc, row, reach, count + 1)? {
-            Met::Nothing if count == 0 => return Err(Wrong::NoRequest),
-            Met::Nothing if has_told => return Ok(count),
-            Met::Nothing => return Err(Wrong::Hidden),
-            Met::Told => has_told = true,
-            Met::Spared => {}
+        let trial = Trial::begin(rt.alloc(), reach, count + 1);
+        match trial.end(tried(rt, rt.alloc(), row, on, &trial)) {
+            Answer::Whole => return counted(count, has_told),
+            Answer::Told => has_told = true,
+            // one for a thread was spared, and the others did its work
+            Answer::Wrong(Wrong::Hidden) if row.has_threads() => {}
+            Answer::Wrong(wrong) => return Err(wrong),
+            Answer::Memory | Answer::Goes => return Err(Wrong::Other),
         }
     }
     Err(Wrong::NoEnd)
@@ -254,10 +169,14 @@ fn requests_at<R: Wait + Threads + Sync + RandomSource + AllocGlobal + Drop>(
 /// How many requests the row makes, where each was refused in turn and all came as it is to come.
 pub fn requests<R: Wait + Threads + Sync + RandomSource + AllocGlobal + Drop>(
     rt: &R,
-    alloc: Global,
     row: Row,
+    on: &Worked,
 ) -> Result<u32, Wrong> {
-    let count = requests_at(rt, alloc, row, Reach::Alone)?;
-    requests_at(rt, alloc, row, Reach::AllAfter)?;
-    Ok(count)
+    let alone = requests_at(rt, row, on, Reach::Alone);
+    if alone.is_ok() {
+        if let Err(wrong) = requests_at(rt, row, on, Reach::AllAfter) {
+            return Err(wrong);
+        }
+    }
+    alone
 }
