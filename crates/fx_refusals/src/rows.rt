@@ -18,7 +18,7 @@ mod texts;
 mod tried;
 mod worlds;
 
-use crate::scripts::{LOOP, NONE, ONE, Printed, TWO, Worked, all_worked};
+use crate::scripts::{LOOP, NONE, ONE, Printed, TWO, WORKED, Worked};
 use crate::steps::Part;
 use crate::tally::Tally;
 use commands::{FAULTS, WORDS};
@@ -189,7 +189,7 @@ fn of_one_thread<R: Print + Wait + Threads + Sync + RandomSource + AllocGlobal +
 ) {
     listed(tally, &SINGLE, &NONE);
     listed(tally, &OF_ONE, &ONE);
-    for worked in all_worked() {
+    for worked in &WORKED {
         of_worked(tally, &OF_ONE_THREAD, worked);
         if worked.name != WITHOUT_BURST {
             of_worked(tally, &OF_BURSTS, worked);
@@ -204,7 +204,7 @@ fn of_several<R: Print + Wait + Threads + Sync + RandomSource + AllocGlobal + Dr
     listed(tally, &SHARED, &NONE);
     listed(tally, &OF_TWO, &TWO);
     listed(tally, &OF_LOOP, &LOOP);
-    for worked in all_worked() {
+    for worked in &WORKED {
         of_worked(tally, &OF_THREADS, worked);
         of_words(tally, worked);
     }

@@ -63,12 +63,7 @@ pub static LOOP: Worked = Worked {
     traces: "",
 };
 
-/// Those that are worked.
-pub fn all_worked() -> &'static [Worked] {
-    &WORKED
-}
-
-static WORKED: [Worked; 10] = [
+pub static WORKED: [Worked; 10] = [
     Worked {
         name: "queue",
         text: "(queue q 2) (main (start a (for i 9 (offer q i)) (start b (for i 9 (take q)) (pure 9))))",
