@@ -48,6 +48,7 @@ pub mod PlainMachineOpening
 pub mod PlainMachineWay
 pub mod PlainMachineWork
 pub mod PlainMachineBursts
+pub mod PlainMachineGoing
 pub mod PlainMachineReports
 pub mod NamedQueues
 pub mod Waits

@@ -167,12 +167,9 @@ module _ {J : Type 0} (nodes : List Node) (f : ℕ) (p q : PlainMachine J)
       let less = try_leaves_less nodes some.0 q p' on.0 f so (tries some.0 on.0 so) in
       omega arith
 
--- where a fiber goes on in a machine whose world is the same
-pub goes_on_the_same : {J : Type 0} (nodes : List Node) (f : ℕ) (p q : PlainMachine J) (w : WorldView) → w ≡ p.world
-    → ((s : ScriptView) (m : WholeMachine) → StandsForRun nodes s (record p { world = w }) m
-    → (m' : WholeMachine) × GoesOn nodes s f m (record p { world = w }) m' q)
+-- where a fiber goes on in a machine that is the same
+pub goes_on_the_same : {J : Type 0} (nodes : List Node) (f : ℕ) (p q r : PlainMachine J) → r ≡ p
+    → ((s : ScriptView) (m : WholeMachine) → StandsForRun nodes s r m → (m' : WholeMachine) × GoesOn nodes s f m r m' q)
     → (s : ScriptView) (m : WholeMachine) → StandsForRun nodes s p m → (m' : WholeMachine) × GoesOn nodes s f m p m' q
-goes_on_the_same nodes f p q w same on = subst
-    (λ (v : WorldView). (s : ScriptView) (m : WholeMachine) → StandsForRun nodes s (record p { world = v }) m
-    → (m' : WholeMachine) × GoesOn nodes s f m (record p { world = v }) m' q)
-    same on
+goes_on_the_same {J} nodes f p q r same on =
+    subst (λ (r : PlainMachine J). (s : ScriptView) (m : WholeMachine) → StandsForRun nodes s r m → (m' : WholeMachine) × GoesOn nodes s f m r m' q) same on

@@ -86,6 +86,8 @@ impl ClassSets {
     }
 
     /// Puts a fiber of that class where it is to be.
+    // (laid into who calls it, which mostly knows the class)
+    #[inline(always)]
     pub fn insert(&mut self, fiber: u32, class: Class)
         requires { fiber < NUMBERS }
         ensures { AreWith true fiber class self.old self.new }
@@ -107,6 +109,8 @@ impl ClassSets {
     }
 
     /// Takes a fiber of that class out of where it is.
+    // (laid in, as `insert` is)
+    #[inline(always)]
     pub fn remove(&mut self, fiber: u32, class: Class)
         requires { fiber < NUMBERS }
         ensures { AreWith false fiber class self.old self.new }

@@ -100,6 +100,8 @@ impl Classes {
     }
 
     /// The fiber comes into that class.
+    // (laid into who calls it, which knows the class)
+    #[inline(always)]
     fn come_into(&mut self, fiber: u32, class: Class)
         requires { fiber < length self.old.of }
         ensures { self.new ≡ record self.old { of = slice_set self.old.of fiber class } }

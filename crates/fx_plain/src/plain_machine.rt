@@ -1,5 +1,5 @@
 //! All fibers of a script on one thread.
-ghost use Rattle.std.specs.Prelude.{◌≡◌, ℕ, ◌<◌, ◌-◌, ◌^◌, ◌∷◌, [], true, false, Some, None, List, IfOk, OnOk};
+ghost use Rattle.std.specs.Prelude.{◌≡◌, ℕ, ◌<◌, ◌-◌, ◌^◌, ◌∷◌, [], true, false, Some, None, List, IfOk, IfSome, IfNone, OnOk};
 ghost use Rattle.std.specs.Prelude.{length, option_and_then, replicate, slice_index_or, slice_set};
 ghost use Rattle.fx_term.specs.Code.{IsCode};
 ghost use Rattle.fx_term.specs.Script.{ScriptView};
@@ -8,11 +8,13 @@ ghost use Rattle.fx_text.specs.declared.pick.Pick.{Pick};
 ghost use Rattle.fx_plain.specs.WholeMachine.{WholeMachine, opening};
 ghost use Rattle.fx_plain.specs.Chosen.{IsReplay};
 ghost use Rattle.fx_plain.specs.ClassSets.{class_at, is_able};
+ghost use Rattle.fx_plain.specs.NumberSet.{IsLeastOf};
 ghost use Rattle.fx_plain.specs.World.{is_ready_in};
 ghost use Rattle.fx_plain.specs.PlainMachine.{all_reported, StandsForRun, StandsForSome, Tries, IsUnderWay, Halts};
 ghost use Rattle.fx_plain.specs.PlainMachine.{IsGoingAt, StepsAt, BurstsAt, GoesOn};
 ghost use Rattle.fx_plain.specs.PlainMachine.{all_waits};
 ghost use Rattle.fx_plain.specs.Started.{wait_of};
+ghost use Rattle.fx_plain.specs.declared.plain_machine.Next.TheVariants.{Step};
 ghost use Rattle.fx_report.specs.Script.{script_of};
 
 use crate::plain_port::PlainPort;
@@ -203,6 +205,7 @@ impl<J: CodeBrand> PlainMachine<J> {
         requires stands { StandsForSome J.nodes self.old }
         ensures goes { OnOk result ((s : ScriptView) (m : WholeMachine) → StandsForRun J.nodes s self.old m
             → (m' : WholeMachine) × GoesOn J.nodes s id m self.old m' self.new) }
+        ensures none { next ≡ Step → self.new ≡ self.old }
     {
         if matches!(next, Next::Burst) && self.world.is_able(id) {
             burst_at(&mut self.fibers[id as usize], code, &mut self.world)?;
@@ -223,6 +226,46 @@ impl<J: CodeBrand> PlainMachine<J> {
         self.step_able(code, id)
     }
 
+    /// Who makes the next step: the fiber that is given, or else the least one that is ready.
+    fn chosen(&mut self, only: Option<u32>) -> Option<u32>
+        ensures only { IfSome only (λ f. result ≡ Some f) }
+        ensures least { IfNone only (IsLeastOf (is_ready_in self.old.world) result) }
+        ensures same { self.new ≡ self.old }
+    {
+        match only {
+            Some(fiber) => Some(fiber),
+            None => self.world.least(),
+        }
+    }
+
+    /// Given a fiber, which is ready, lets it make one step, or notes that it waits. Given none, lets the ready
+    /// fiber with the least number make one step, again and again, until none is ready.
+    // (both are one loop, since LLVM lays a step into its loop only where nothing else calls it)
+    fn go(&mut self, code: &Code, only: Option<u32>) -> Result<(), Memory>
+        requires code { code.now.nodes ≡ J.nodes }
+        requires ready { IfSome only (λ f. is_ready_in self.old.world f ≡ true) }
+        requires stands { StandsForSome J.nodes self.old }
+        ensures tries { OnOk result (IfSome only (λ f. (s : ScriptView) (m : WholeMachine)
+            → StandsForRun J.nodes s self.old m → Tries J.nodes s m f self.old self.new)) }
+        ensures halts { OnOk result (IfNone only (Halts self.new)) }
+        ensures way { OnOk result (IfNone only ((s : ScriptView) (all : List Pick)
+            → IsUnderWay J.nodes s all [] self.old → IsUnderWay J.nodes s all [] self.new)) }
+    {
+        let mut next = if only.is_some() {
+            Next::Step
+        } else {
+            Next::Burst
+        };
+        while let Some(fiber) = self.chosen(only) {
+            self.burst(code, fiber, next)?;
+            next = self.try_step(code, fiber)?;
+            if only.is_some() {
+                return Ok(());
+            }
+        }
+        Ok(())
+    }
+
     /// Takes a pick: the step of a fiber, or a request from outside. What cannot be done is skipped.
     pub fn take_pick(&mut self, code: &Code, pick: Pick) -> Result<(), Memory>
         requires code { code.now.nodes ≡ J.nodes }
@@ -235,7 +278,7 @@ impl<J: CodeBrand> PlainMachine<J> {
         match pick {
             Pick::Step(fiber) => {
                 if self.world.is_ready(fiber) {
-                    let _ = self.try_step(code, fiber)?;
+                    self.go(code, Some(fiber))?;
                 }
             }
             Pick::Cancel(fiber) => self.world.request_from_outside(fiber),
@@ -251,12 +294,7 @@ impl<J: CodeBrand> PlainMachine<J> {
         ensures way { OnOk result ((s : ScriptView) (all : List Pick)
             → IsUnderWay J.nodes s all [] self.old → IsUnderWay J.nodes s all [] self.new) }
     {
-        let mut next = Next::Burst;
-        while let Some(fiber) = self.world.least() {
-            self.burst(code, fiber, next)?;
-            next = self.try_step(code, fiber)?;
-        }
-        Ok(())
+        self.go(code, None)
     }
 
     /// What the blocked fibers wait for, once no fiber is ready.

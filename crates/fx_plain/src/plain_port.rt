@@ -72,6 +72,7 @@ impl<J: CodeBrand> Port for PlainPort<J> {
         world.outcome(id)
     }
 
+    #[inline(always)]
     fn offer(&mut self, world: &mut PlainWorld, queue: u8, value: u64) -> Result<Offered, Memory> {
         if !world.has_room(queue) {
             return Ok(Offered::Full);
@@ -88,6 +89,7 @@ impl<J: CodeBrand> Port for PlainPort<J> {
         Ok(Offered::Done)
     }
 
+    #[inline(always)]
     fn take(&mut self, world: &mut PlainWorld, queue: u8) -> Option<u64> {
         world.take(queue)
     }

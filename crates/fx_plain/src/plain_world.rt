@@ -205,6 +205,7 @@ impl PlainWorld {
     }
 
     /// Puts the element at the back of the queue.
+    #[inline(always)]
     pub fn put(&mut self, queue: u8, item: Item) -> Result<(), Memory>
         requires { have_room self.old.queues queue ≡ true }
         ensures ok { OnOk result (self.new ≡ after_put queue item self.old) }
@@ -219,6 +220,7 @@ impl PlainWorld {
     }
 
     /// Takes the front of the queue, if it has one, and answers its value.
+    #[inline(always)]
     pub fn take(&mut self, queue: u8) -> Option<u64>
         ensures value { result
             ≡ option_map (λ item. item.value) (front_of (queue_at self.old.queues queue)) }
