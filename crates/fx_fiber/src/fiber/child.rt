@@ -16,6 +16,8 @@ use fx_term::{Begin, Code, Memory, NodeId};
 
 /// What the child of a `start` begins with, and what it has beside its port, but for the numbers of the
 /// names in scope: it is under no mask and not canceled. Its own number is had by this name.
+// (laid into each step, of which there is one for each port: LLVM alone would call it)
+#[inline(always)]
 pub(crate) fn child_of(
     machine: &mut Machine,
     code: &Code,

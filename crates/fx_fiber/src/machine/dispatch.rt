@@ -75,6 +75,8 @@ impl Machine {
     }
 
     /// The row of a result in its context, and the ends.
+    // (laid into each step, of which there is one for each port, as the end is)
+    #[inline(always)]
     pub fn result_rule(&mut self, code: &Code, done: Done) -> Result<Made, Memory>
         ghost nodes: { List Node }
         requires code { code.now.nodes ≡ nodes }
@@ -104,6 +106,8 @@ impl Machine {
     }
 
     /// The rule of a result in no context: the end of the fiber, or of a clean-up.
+    // (as `result_rule` is)
+    #[inline(always)]
     fn end_rule(&mut self, done: Done) -> Made
         ghost nodes: { List Node }
         requires given { ReturnsOut nodes self.old done }
