@@ -103,3 +103,49 @@ fn run_of(rt: &impl Machine, line: &str, texts: &[(&str, Text<'_>)]) -> Result<R
 fn replayed(rt: &impl Machine, script: &[u8]) -> Result<Ran, AllocError> {
     run_of(rt, "replay F", &[("F", whole(script))])
 }
+
+/// How a call is to end, and what it is to print on standard output and on standard error, where that matters.
+#[derive(Clone, Copy)]
+struct Wanted<'a> {
+    status: u8,
+    out: Option<&'a str>,
+    err: Option<&'a str>,
+}
+
+/// Sees that this was printed, where that matters.
+fn assert_text(rt: &impl Abort, printed: &[u8], wanted: Option<&str>, script: &str) {
+    if let Some(wanted) = wanted {
+        assert_eq!(rt; printed, wanted.as_bytes(), "{script}");
+    }
+}
+
+/// Sees that the run of the program with these words, over these texts, comes to that. One that does not is told with
+/// its script.
+fn assert_call(
+    rt: &impl Machine,
+    line: &str,
+    texts: &[(&str, Text<'_>)],
+    script: &str,
+    wanted: &Wanted<'_>,
+) -> Result<(), Fail> {
+    let ran = run_of(rt, line, texts)?;
+    assert_text(rt, &ran.out, wanted.out, script);
+    assert_text(rt, &ran.err, wanted.err, script);
+    assert_eq!(rt; ran.status, wanted.status, "{line} {script}");
+    Ok(())
+}
+
+/// The same, of a script F and a schedule S.
+fn assert_run(
+    rt: &impl Machine,
+    line: &str,
+    script: &str,
+    schedule: &str,
+    wanted: &Wanted<'_>,
+) -> Result<(), Fail> {
+    let texts = [
+        ("F", whole(script.as_bytes())),
+        ("S", whole(schedule.as_bytes())),
+    ];
+    assert_call(rt, line, &texts, script, wanted)
+}

@@ -5,7 +5,7 @@ ghost use Rattle.fx_term.specs.declared.node.Node.{Node};
 
 use fx_fiber::{Closed, Fiber, Port, Source, Stepped, main_begin};
 use fx_term::{Arg, Begin, Code, CodeBrand, Event, Memory, Node, NodeId, Offered, Outcome};
-use std::alloc::Global;
+use std::alloc::{AllocError, Global};
 use std::cell::Cell;
 use std::marker::{Brand, PhantomData};
 use std::process::Abort;
@@ -274,6 +274,34 @@ impl Ran {
     }
 }
 
+/// The main fiber of a code, before its first step.
+fn main_fiber<J: CodeBrand>(alloc: Global, code: &Code) -> Result<Fiber<TestPort<J>>, Memory>
+    requires { code.now.nodes ≡ J.nodes }
+{
+    let port: TestPort<J> = TestPort::new(alloc, 0, main_begin(alloc, code));
+    Fiber::new(alloc, code, port)
+}
+
+/// Lets a fiber make so many steps, or as many as there are to its end: what they answered.
+fn stepped<J: CodeBrand>(
+    alloc: Global,
+    code: &Code,
+    fiber: &mut Fiber<TestPort<J>>,
+    looks: &mut Looks,
+    steps: u32,
+) -> Result<Vec<Answer>, Fail>
+    requires { code.now.nodes ≡ J.nodes }
+{
+    let mut answers = Vec::new(alloc);
+    for _ in 0..steps {
+        if fiber.has_ended() {
+            break;
+        }
+        answers.push(answer_of(&fiber.step(code, looks)?))?;
+    }
+    Ok(answers)
+}
+
 /// Runs the main fiber of a code for so many steps at most.
 fn drive<J: CodeBrand>(
     alloc: Global,
@@ -284,16 +312,9 @@ fn drive<J: CodeBrand>(
     requires { code.now.nodes ≡ J.nodes }
 {
     let mut looks = Looks::new(request);
-    let port: TestPort<J> = TestPort::new(alloc, 0, main_begin(alloc, code));
-    let mut fiber = Fiber::new(alloc, code, port)?;
+    let mut fiber = main_fiber::<J>(alloc, code)?;
     let had_ended_first = fiber.has_ended();
-    let mut answers = Vec::new(alloc);
-    for _ in 0..steps {
-        if fiber.has_ended() {
-            break;
-        }
-        answers.push(answer_of(&fiber.step(code, &mut looks)?))?;
-    }
+    let answers = stepped(alloc, code, &mut fiber, &mut looks, steps)?;
     Ok(Ran {
         id: fiber.id(),
         answers,

@@ -1,8 +1,9 @@
 //! Readers and writers that fail.
 use fx_plain::{ENDED, PlainFault, replay_text};
+use std::alloc::Global;
 use std::io;
 use std::io::{Read, Write};
-use std::test::Fail;
+use std::process::Abort;
 
 /// Gives a text byte by byte, and then an error.
 #[derive(Drop)]
@@ -25,22 +26,24 @@ impl Read for Broken<'_> {
     }
 }
 
+/// Sees that nothing is written where the reader breaks off behind this text, and that this is told.
+fn assert_unread(rt: &impl Abort, alloc: Global, text: &[u8], error: io::ErrorKind) {
+    let mut reader = Broken { text, error };
+    let mut printed = Vec::new(alloc);
+    let fault = replay_text(alloc, &mut reader, &[], &mut printed);
+    let given = text.len();
+    assert_eq!(rt; fault, Err(PlainFault::Read), "after {given} bytes");
+    assert!(rt; printed.is_empty(), "after {given} bytes");
+}
+
 #[test]
-fn reader_that_fails_or_is_interrupted_leaves_nothing_written(rt: HostRuntime) -> Result<(), Fail> {
+fn reader_that_fails_or_is_interrupted_leaves_nothing_written(rt: HostRuntime) {
     let script = b"(main (pure 5))";
     for error in [io::ErrorKind::Other, io::ErrorKind::Interrupted] {
         for given in 0..=15 {
-            let mut reader = Broken {
-                text: &script[..given],
-                error,
-            };
-            let mut printed = Vec::new(rt.alloc());
-            let fault = replay_text(rt.alloc(), &mut reader, &[], &mut printed);
-            assert_eq!(rt; fault, Err(PlainFault::Read), "after {given} bytes");
-            assert!(rt; printed.is_empty(), "after {given} bytes");
+            assert_unread(&rt, rt.alloc(), &script[..given], error);
         }
     }
-    Ok(())
 }
 
 /// Gives a text byte by byte.
@@ -87,27 +90,34 @@ impl Write for Full {
     }
 }
 
+/// Sees that a writer with so much room has that much of this text, and that this is told.
+fn assert_prefix(rt: &impl Abort, alloc: Global, whole: &[u8], room: usize) {
+    let mut reader = Slow {
+        text: b"(main (pure 5))",
+    };
+    let mut writer = Full {
+        taken: Vec::new(alloc),
+        room,
+    };
+    let status = replay_text(alloc, &mut reader, &[], &mut writer);
+    let wanted = if room < whole.len() {
+        Err(PlainFault::Write)
+    } else {
+        Ok(ENDED)
+    };
+    assert_eq!(rt; status, wanted, "room for {room}");
+    assert_eq!(rt;
+        writer.taken.as_slice(),
+        &whole[..room.min(whole.len())],
+        "room for {room}"
+    );
+}
+
 #[test]
-fn writer_that_fails_has_a_prefix_of_the_text(rt: HostRuntime) -> Result<(), Fail> {
-    let whole = b"fiber 0 succeeded 5\n";
+fn writer_that_fails_has_a_prefix_of_the_text(rt: HostRuntime) {
     for room in 0..=20 {
-        let mut reader = Slow {
-            text: b"(main (pure 5))",
-        };
-        let mut writer = Full {
-            taken: Vec::new(rt.alloc()),
-            room,
-        };
-        let status = replay_text(rt.alloc(), &mut reader, &[], &mut writer);
-        let wanted = if room < 20 {
-            Err(PlainFault::Write)
-        } else {
-            Ok(ENDED)
-        };
-        assert_eq!(rt; status, wanted, "room for {room}");
-        assert_eq!(rt; writer.taken.as_slice(), &whole[..room], "room for {room}");
+        assert_prefix(&rt, rt.alloc(), b"fiber 0 succeeded 5\n", room);
     }
-    Ok(())
 }
 
 #[test]

@@ -131,18 +131,51 @@ fn is_writable(script: &Script, report: &Report) -> bool
     report.left.len() == script.queues.len() && are_writable(script.queues.len(), &report.fibers)
 }
 
+/// Sees that the report is written so.
+fn assert_report(
+    rt: &impl Abort,
+    alloc: Global,
+    script: &Script,
+    report: &Report,
+    text: &str,
+) -> Result<(), Fail>
+    requires { IsWritable (queue_names (meaning script.now)) report.now }
+{
+    let mut written = Vec::new(alloc);
+    write_report(alloc, script, report, &mut written)?;
+    assert_eq!(rt; written.as_slice(), text.as_bytes());
+    Ok(())
+}
+
+/// Sees that its traces are.
+fn assert_traces(
+    rt: &impl Abort,
+    alloc: Global,
+    script: &Script,
+    report: &Report,
+    text: &str,
+) -> Result<(), Fail>
+    requires { IsWritable (queue_names (meaning script.now)) report.now }
+{
+    let mut written = Vec::new(alloc);
+    write_trace(alloc, script, report, &mut written)?;
+    assert_eq!(rt; written.as_slice(), text.as_bytes());
+    Ok(())
+}
+
+/// Sees that both texts of the row's report are these.
+fn assert_texts(rt: &impl Abort, alloc: Global, script: &Script, row: &Row) -> Result<(), Fail> {
+    let report = report_of(alloc, row)?;
+    assert!(rt; is_writable(script, &report));
+    assert_report(rt, alloc, script, &report, row.report)?;
+    assert_traces(rt, alloc, script, &report, row.traces)
+}
+
 /// Sees that both texts of each report are these, where the script's queues have these names.
 fn assert_writes(rt: &impl Abort, alloc: Global, names: &[&str], rows: &[Row]) -> Result<(), Fail> {
     let script = script_with(alloc, names)?;
     for row in rows {
-        let report = report_of(alloc, row)?;
-        assert!(rt; is_writable(&script, &report));
-        let mut written = Vec::new(alloc);
-        write_report(alloc, &script, &report, &mut written)?;
-        assert_eq!(rt; written.as_slice(), row.report.as_bytes());
-        let mut written = Vec::new(alloc);
-        write_trace(alloc, &script, &report, &mut written)?;
-        assert_eq!(rt; written.as_slice(), row.traces.as_bytes());
+        assert_texts(rt, alloc, &script, row)?;
     }
     Ok(())
 }
@@ -171,33 +204,57 @@ impl Write for Full {
     }
 }
 
+/// Sees that a writer with so much room has that much of the text, and that this is told.
+fn assert_prefix(
+    rt: &impl Abort,
+    alloc: Global,
+    script: &Script,
+    report: &Report,
+    room: usize,
+    whole: &[u8],
+) -> Result<(), Fail>
+    requires { IsWritable (queue_names (meaning script.now)) report.now }
+{
+    let mut writer = Full {
+        taken: Vec::new(alloc),
+        room,
+    };
+    let written = write_report(alloc, script, report, &mut writer);
+    let wanted = if room < whole.len() {
+        Err(OutFault::Write)
+    } else {
+        Ok(())
+    };
+    assert_eq!(rt; written, wanted, "room for {room}");
+    assert_eq!(rt;
+        writer.taken.as_slice(),
+        &whole[..room.min(whole.len())],
+        "room for {room}"
+    );
+    Ok(())
+}
+
+static BLOCKED: Row<'static> = Row {
+    fibers: &[(0, State::Blocked, &[])],
+    left: &[&[6]],
+    report: "fiber 0 blocked\nqueue q left 6\n",
+    traces: "",
+};
+
 #[test]
 fn writer_that_fails_has_a_prefix_of_the_text(rt: HostRuntime) -> Result<(), Fail> {
-    let whole = b"fiber 0 blocked\nqueue q left 6\n";
     let script = script_with(rt.alloc(), &["q"])?;
-    let report = report_of(
-        rt.alloc(),
-        &Row {
-            fibers: &[(0, State::Blocked, &[])],
-            left: &[&[6]],
-            report: "",
-            traces: "",
-        },
-    )?;
+    let report = report_of(rt.alloc(), &BLOCKED)?;
     assert!(rt; is_writable(&script, &report));
     for room in 0..=31 {
-        let mut writer = Full {
-            taken: Vec::new(rt.alloc()),
+        assert_prefix(
+            &rt,
+            rt.alloc(),
+            &script,
+            &report,
             room,
-        };
-        let written = write_report(rt.alloc(), &script, &report, &mut writer);
-        let wanted = if room < 31 {
-            Err(OutFault::Write)
-        } else {
-            Ok(())
-        };
-        assert_eq!(rt; written, wanted, "room for {room}");
-        assert_eq!(rt; writer.taken.as_slice(), &whole[..room], "room for {room}");
+            BLOCKED.report.as_bytes(),
+        )?;
     }
     assert_eq!(rt; OutFault::Write.number(), 1);
     assert_eq!(rt; OutFault::Memory.number(), 2);

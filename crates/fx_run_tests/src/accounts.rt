@@ -1,6 +1,24 @@
 //! What each report must account for, told from its traces alone.
+use crate::rows::Machine;
 use fx_fiber::{FiberReport, Report, State};
+use fx_run::run;
+use fx_sched::Gate;
 use fx_term::{Event, Item, Outcome};
+use fx_text::Script;
+use std::test::Fail;
+
+/// Runs a script by so many workers, and fails where its report does not add up, or only a sweep put a fiber back.
+pub fn assert_adds_up<G: Gate + Sync>(
+    rt: &impl Machine,
+    script: &Script,
+    workers: u32,
+    gate: &G,
+) -> Result<(), Fail> {
+    let report = run(rt, rt.alloc(), script, workers, gate)?;
+    assert!(rt; adds_up(&report));
+    assert_eq!(rt; report.late, 0);
+    Ok(())
+}
 
 /// Whether the report accounts for its fibers and for the elements of its queues.
 pub fn adds_up(report: &Report) -> bool {

@@ -1,10 +1,10 @@
 //! Fibers that are canceled from outside, before a turn that the gate counts to.
 use crate::accounts::adds_up;
-use crate::rows::{PAIRS, run_text};
+use crate::rows::{Machine, PAIRS, assert_comes_to, run_text};
 use fx_run::run;
 use fx_sched::{At, Free};
 use fx_term::{Event, Outcome};
-use fx_text::parse;
+use fx_text::{Script, parse};
 use std::test::Fail;
 
 /// A script, the turn and the fiber of the gate, and what one worker comes to.
@@ -93,27 +93,29 @@ const PASSED_ON: &str = "(queue q 1) (main (start a (take q) (start b (take q) \
 
 #[test]
 fn a_fiber_that_is_canceled_passes_its_wake_on(rt: HostRuntime) -> Result<(), Fail> {
-    let written = run_text(&rt, PASSED_ON, 1, &Free)?;
     let report = "fiber 0 succeeded 3\nfiber 1 canceled\nfiber 2 succeeded 3\nqueue q left\n";
-    assert_eq!(rt;
-        (written.text.as_slice(), written.late),
-        (report.as_bytes(), 0)
-    );
-    Ok(())
+    assert_comes_to(&rt, PASSED_ON, 1, &Free, report)
 }
 
 /// How many turns of the pairs the gate counts through.
 const TURNS: u64 = 200;
+
+/// Runs a script whose gate names that fiber before that turn, and fails where its report does not add up, it has another
+/// request from outside, or only a sweep put a fiber back.
+fn assert_canceled_at(rt: &impl Machine, script: &Script, turn: u64, id: u32) -> Result<(), Fail> {
+    let report = run(rt, rt.alloc(), script, 4, &At::new(turn, id))?;
+    let outside = report.outside.as_slice();
+    assert!(rt; adds_up(&report) && (outside.is_empty() || outside == [id].as_slice()));
+    assert_eq!(rt; report.late, 0);
+    Ok(())
+}
 
 #[test]
 fn each_fiber_may_be_canceled_at_each_turn(rt: HostRuntime) -> Result<(), Fail> {
     let script = parse(rt.alloc(), PAIRS.as_bytes())?;
     for turn in 0..=TURNS {
         for id in 0..=4u32 {
-            let report = run(&rt, rt.alloc(), &script, 4, &At::new(turn, id))?;
-            let outside = report.outside.as_slice();
-            assert!(rt; adds_up(&report) && (outside.is_empty() || outside == [id].as_slice()));
-            assert_eq!(rt; report.late, 0);
+            assert_canceled_at(&rt, &script, turn, id)?;
         }
     }
     Ok(())

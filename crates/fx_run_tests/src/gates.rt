@@ -1,7 +1,7 @@
 //! Gates that hold a turn until others have come.
 ghost use Rattle.std.specs.Prelude.{false};
 
-use crate::rows::{PAIRS, run_text};
+use crate::rows::{PAIRS, assert_comes_to, run_text};
 use fx_sched::Gate;
 use std::sync::atomic::{AtomicU64, Ordering};
 use std::test::Fail;
@@ -96,11 +96,9 @@ fn a_waiting_fiber_is_woken_while_a_turn_is_held(rt: HostRuntime) -> Result<(), 
         turns: AtomicU64::new(0),
         gave_up: AtomicU64::new(0),
     };
-    let written = run_text(&rt, WAITS, 2, &gate)?;
     let report =
         "fiber 0 succeeded 9\nfiber 1 succeeded 1\nfiber 2 succeeded 5\nfiber 3 succeeded 0\nqueue q left\n";
-    assert_eq!(rt; written.text.as_slice(), report.as_bytes());
-    assert_eq!(rt; written.late, 0);
+    assert_comes_to(&rt, WAITS, 2, &gate, report)?;
     assert_eq!(rt; gate.gave_up.load(Ordering::SeqCst), 0);
     Ok(())
 }

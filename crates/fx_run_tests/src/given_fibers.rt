@@ -1,10 +1,12 @@
 //! What `report` answers to fibers that are given to it by hand.
-ghost use Rattle.std.specs.Prelude.{◌≡◌};
+ghost use Rattle.std.specs.Prelude.{◌≡◌, IfOk, []};
+ghost use Rattle.fx_model.specs.Origin.{main_begin_of};
+ghost use Rattle.fx_fiber.specs.PortFacts.{first_facts};
 
-use fx_fiber::{Fiber, Report, State};
+use fx_fiber::{Bare, Fiber, Port, Report, State};
 use fx_plain::PlainWorld;
 use fx_run::{RunFault, report};
-use fx_term::{CodeBrand, Event, Outcome};
+use fx_term::{Code, CodeBrand, Event, Memory, Outcome};
 use fx_text::{Script, parse};
 use std::alloc::Global;
 use std::marker::Brand;
@@ -17,20 +19,64 @@ enum Given {
     After(u32),
 }
 
-/// What `report` answers to a script's main fiber alone, whose children are dropped as they start.
+/// Lets a fiber make so many steps at most, and drops the children that it starts.
+fn go_on<P: Port + Drop>(
+    fiber: &mut Fiber<P>,
+    code: &Code,
+    shared: &mut P::Shared,
+    steps: u32,
+) -> Result<(), Memory>
+    requires { code.now.nodes ≡ P.theory.code }
+{
+    for _ in 0..steps {
+        if fiber.has_ended() {
+            return Ok(());
+        }
+        if fiber.step(code, shared).is_err() {
+            return Err(Memory);
+        }
+    }
+    Ok(())
+}
+
+/// The main fiber with this port, after so many steps at most.
+fn parted<P: Port + Drop>(
+    alloc: Global,
+    code: &Code,
+    port: P,
+    shared: &mut P::Shared,
+    steps: u32,
+) -> Result<Bare, Memory>
+    requires code { code.now.nodes ≡ P.theory.code }
+    requires facts { P.theory.facts port ≡ first_facts 0 (main_begin_of code.now.nodes) }
+    requires total { (main_begin_of code.now.nodes).end ≡ P.theory.total }
+    requires fresh { P.theory.agrees port [] }
+    ensures { IfOk result (λ bare. bare.nodes ≡ code.now.nodes) }
+{
+    let mut main = Fiber::new(alloc, code, port)?;
+    go_on(&mut main, code, shared, steps)?;
+    let (bare, _port) = main.part(code);
+    Ok(bare)
+}
+
+/// A script's main fiber after so many steps at most.
+fn main_after<J: CodeBrand>(alloc: Global, script: &Script, steps: u32) -> Result<Bare, Memory>
+    requires { script.now.code.nodes ≡ J.nodes }
+    ensures { IfOk result (λ bare. bare.nodes ≡ script.now.code.nodes) }
+{
+    match PlainWorld::new::<J>(alloc, script) {
+        Ok((mut world, port)) => parted(alloc, &script.code, port, &mut world, steps),
+        Err(Memory) => Err(Memory),
+    }
+}
+
+/// What `report` answers to the main fiber alone.
 fn reported<J: CodeBrand>(alloc: Global, script: &Script, given: Given) -> Result<Report, RunFault>
     requires { script.now.code.nodes ≡ J.nodes }
 {
     let mut bares = Vec::new(alloc);
     if let Given::After(steps) = given {
-        let (mut world, port) = PlainWorld::new::<J>(alloc, script)?;
-        let mut fiber = Fiber::new(alloc, &script.code, port)?;
-        for _ in 0..steps {
-            if !fiber.has_ended() {
-                fiber.step(&script.code, &mut world)?;
-            }
-        }
-        let (bare, _port) = fiber.part(&script.code);
+        let bare = main_after::<J>(alloc, script, steps)?;
         if bare.id() < script.total() && bares.push(bare).is_err() {
             return Err(RunFault::Memory);
         }
@@ -60,20 +106,24 @@ fn what_is_missing_and_what_could_go_on_is_told(rt: HostRuntime) -> Result<(), F
     Ok(())
 }
 
+/// Scripts, the state of the main fiber at the end, and the first event of its trace.
+static REPORTED: [(&str, State, Option<Event>); 2] = [
+    (
+        "(main (pure 5))",
+        State::Ended,
+        Some(Event::Ended(Outcome::Succeeded(5))),
+    ),
+    ("(main (never))", State::Blocked, None),
+];
+
 #[test]
 fn what_has_ended_or_waits_is_reported(rt: HostRuntime) -> Result<(), Fail> {
-    for (text, state, end) in [
-        (
-            "(main (pure 5))",
-            State::Ended,
-            Some(Event::Ended(Outcome::Succeeded(5))),
-        ),
-        ("(main (never))", State::Blocked, None),
-    ] {
+    for (text, state, first) in &REPORTED {
         let report = answered(rt.alloc(), text, Given::After(9))??;
-        assert_eq!(rt; report.fibers.len(), 1);
-        assert_eq!(rt; report.fibers[0].state, state);
-        assert_eq!(rt; report.fibers[0].trace.first().copied(), end);
+        let [main] = report.fibers.as_slice() else {
+            panic!(rt; "the main fiber alone is reported")
+        };
+        assert_eq!(rt; (&main.state, main.trace.first()), (state, first.as_ref()));
     }
     Ok(())
 }

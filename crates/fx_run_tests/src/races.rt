@@ -1,6 +1,5 @@
 //! Scripts whose fibers race, so that a run may come to one of several reports.
-use crate::accounts::adds_up;
-use fx_run::run;
+use crate::accounts::assert_adds_up;
 use fx_sched::Free;
 use fx_text::parse;
 use std::test::Fail;
@@ -9,7 +8,7 @@ use std::test::Fail;
 const RUNS: u32 = 50;
 
 /// Races, cancellations that meet waits, masks and brackets, and queues that several fibers share.
-pub const SCRIPTS: [&str; 12] = [
+pub static SCRIPTS: [&str; 12] = [
     "(main (race (for i 20 (cede)) (for i 20 (cede))))",
     "(main (race (race (pure 1) (never)) (seq (cede) (pure 2))))",
     "(queue q 1) (main (start a (for i 20 (offer q i)) (start b (for i 20 (take q)) (seq (cede) (cancel a) (cancel b)))))",
@@ -26,13 +25,11 @@ pub const SCRIPTS: [&str; 12] = [
 
 #[test]
 fn each_report_adds_up_by_any_number_of_workers(rt: HostRuntime) -> Result<(), Fail> {
-    for text in SCRIPTS {
+    for text in &SCRIPTS {
         let script = parse(rt.alloc(), text.as_bytes())?;
         for workers in [1u32, 2, 4, 16] {
             for _ in 0..RUNS {
-                let report = run(&rt, rt.alloc(), &script, workers, &Free)?;
-                assert!(rt; adds_up(&report));
-                assert_eq!(rt; report.late, 0);
+                assert_adds_up(&rt, &script, workers, &Free)?;
             }
         }
     }

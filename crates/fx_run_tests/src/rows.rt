@@ -4,10 +4,16 @@ use fx_run::{RunFault, run};
 use fx_sched::{Free, Gate};
 use fx_text::parse;
 use std::alloc::AllocGlobal;
+use std::process::Abort;
 use std::random::RandomSource;
 use std::sync::Wait;
 use std::test::Fail;
 use std::thread::Threads;
+
+/// What a run takes of the machine, and what an assertion that fails does.
+pub trait Machine: Wait + Threads + Sync + RandomSource + AllocGlobal + Abort {}
+
+impl<R: Wait + Threads + Sync + RandomSource + AllocGlobal + Abort> Machine for R {}
 
 /// What a run of a script came to: the text of its report, the fibers that were requested from outside, and
 /// how many fibers only a sweep put back.
@@ -19,8 +25,8 @@ pub struct Written {
 }
 
 /// Runs a script by so many workers, and writes its report.
-pub fn run_text<R: Wait + Threads + Sync + RandomSource + AllocGlobal, G: Gate + Sync>(
-    rt: &R,
+pub fn run_text<G: Gate + Sync>(
+    rt: &impl Machine,
     script: &str,
     workers: u32,
     gate: &G,
@@ -37,12 +43,26 @@ pub fn run_text<R: Wait + Threads + Sync + RandomSource + AllocGlobal, G: Gate +
     })
 }
 
+/// Runs a script by so many workers, and fails where it comes to another report, or only a sweep put a fiber back.
+pub fn assert_comes_to<G: Gate + Sync>(
+    rt: &impl Machine,
+    script: &str,
+    workers: u32,
+    gate: &G,
+    report: &str,
+) -> Result<(), Fail> {
+    let written = run_text(rt, script, workers, gate)?;
+    assert_eq!(rt; written.text.as_slice(), report.as_bytes());
+    assert_eq!(rt; written.late, 0);
+    Ok(())
+}
+
 /// A producer and a consumer of each of two kinds, for one queue of two.
 pub const PAIRS: &str =
     "(queue q 2) (main (start a (for i 100 (offer q i)) (start b (for i 100 (offer q i)) \
     (start c (for i 100 (take q)) (start d (for i 100 (take q)) (pure 9))))))";
 
-const ROWS: [(&str, &str); 19] = [
+static ROWS: [(&str, &str); 19] = [
     ("(main (pure 5))", "fiber 0 succeeded 5\n"),
     ("(main (seq (canceled) (pure 5)))", "fiber 0 canceled\n"),
     (
@@ -114,7 +134,7 @@ const ROWS: [(&str, &str); 19] = [
     ),
 ];
 
-const RELEASED_BY_CASE: [(&str, &str); 3] = [
+static RELEASED_BY_CASE: [(&str, &str); 3] = [
     (
         "(queue q 4) (main (bracketcase x (pure 7) (pure 5) (y (offer q y)) (z (offer q z)) (offer q x)))",
         "fiber 0 succeeded 5\nqueue q left 5\n",
@@ -131,10 +151,9 @@ const RELEASED_BY_CASE: [(&str, &str); 3] = [
 
 #[test]
 fn a_resource_is_released_by_how_its_use_ended(rt: HostRuntime) -> Result<(), Fail> {
-    for (script, report) in RELEASED_BY_CASE {
+    for (script, report) in &RELEASED_BY_CASE {
         for workers in [1u32, 4] {
-            let written = run_text(&rt, script, workers, &Free)?;
-            assert_eq!(rt; written.text.as_slice(), report.as_bytes());
+            assert_comes_to(&rt, script, workers, &Free, report)?;
         }
     }
     Ok(())
@@ -142,11 +161,9 @@ fn a_resource_is_released_by_how_its_use_ended(rt: HostRuntime) -> Result<(), Fa
 
 #[test]
 fn reports_do_not_depend_on_how_fibers_interleave(rt: HostRuntime) -> Result<(), Fail> {
-    for (script, report) in ROWS {
+    for (script, report) in &ROWS {
         for workers in [1u32, 2, 4, 64] {
-            let written = run_text(&rt, script, workers, &Free)?;
-            assert_eq!(rt; written.text.as_slice(), report.as_bytes());
-            assert_eq!(rt; written.late, 0);
+            assert_comes_to(&rt, script, workers, &Free, report)?;
         }
     }
     Ok(())

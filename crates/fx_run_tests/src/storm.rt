@@ -1,9 +1,8 @@
 //! Scripts that race, by gates that cancel any fiber at any turn and hold turns.
 ghost use Rattle.std.specs.Prelude.{true};
 
-use crate::accounts::adds_up;
+use crate::accounts::assert_adds_up;
 use crate::races::SCRIPTS;
-use fx_run::run;
 use fx_sched::Gate;
 use fx_text::parse;
 use std::sync::atomic::{AtomicU64, Ordering};
@@ -49,7 +48,7 @@ const RUNS: u64 = 5;
 
 #[test]
 fn each_report_adds_up_in_a_storm_of_cancellations(rt: HostRuntime) -> Result<(), Fail> {
-    for text in SCRIPTS {
+    for text in &SCRIPTS {
         let script = parse(rt.alloc(), text.as_bytes())?;
         for workers in [1u32, 2, 4, 16] {
             for seed in 0..RUNS {
@@ -57,9 +56,7 @@ fn each_report_adds_up_in_a_storm_of_cancellations(rt: HostRuntime) -> Result<()
                     seed: seed << 32,
                     begun: AtomicU64::new(0),
                 };
-                let report = run(&rt, rt.alloc(), &script, workers, &gate)?;
-                assert!(rt; adds_up(&report));
-                assert_eq!(rt; report.late, 0);
+                assert_adds_up(&rt, &script, workers, &gate)?;
             }
         }
     }

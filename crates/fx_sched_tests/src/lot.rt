@@ -64,6 +64,23 @@ fn left<P: Port + Drop>(alloc: Global, lot: Lot<P>) -> Result<Vec<(u32, bool)>, 
     Ok(left)
 }
 
+/// Those of a new lot, once the fibers of this main fiber are laid down there.
+fn left_from<P: Port + Drop, R: Wait>(
+    rt: &R,
+    alloc: Global,
+    total: u32,
+    main: Fiber<P>,
+    code: &Code,
+    shared: &mut P::Shared,
+) -> Result<Vec<(u32, bool)>, Memory>
+    requires code { code.now.nodes ≡ P.theory.code }
+    requires total { P.theory.total ≤ total }
+{
+    let lot = Lot::new(alloc, total)?;
+    lay_down(rt, &lot, main, code, shared)?;
+    left(alloc, lot)
+}
+
 fn left_of<J: CodeBrand, R: Wait>(
     rt: &R,
     alloc: Global,
@@ -75,9 +92,7 @@ fn left_of<J: CodeBrand, R: Wait>(
     let board = Mutex::new(Board::new(alloc, total, 1)?);
     let mut notes: Notes<J> = Notes::new(alloc, total)?;
     let main = main_fiber::<R, J>(rt, &board, alloc, code)?;
-    let lot = Lot::new(alloc, total)?;
-    lay_down(rt, &lot, main, code, &mut notes)?;
-    left(alloc, lot)
+    left_from(rt, alloc, total, main, code, &mut notes)
 }
 
 fn left_of_nodes<R: Wait>(

@@ -7,16 +7,12 @@ pub(super) type Row = (&'static str, &'static str, &'static str, u8, &'static st
 /// Sees that each run prints its text, with its status.
 pub(super) fn assert_runs(rt: &impl Machine, rows: &[Row]) -> Result<(), Fail> {
     for (words, script, schedule, status, printed) in rows {
-        let texts = [
-            ("F", whole(script.as_bytes())),
-            ("S", whole(schedule.as_bytes())),
-        ];
-        let ran = run_of(rt, words, &texts)?;
-        assert_eq!(rt;
-            (ran.status, ran.out.as_slice()),
-            (*status, printed.as_bytes()),
-            "{words} {script}"
-        );
+        let wanted = Wanted {
+            status: *status,
+            out: Some(printed),
+            err: None,
+        };
+        assert_run(rt, words, script, schedule, &wanted)?;
     }
     Ok(())
 }

@@ -224,12 +224,12 @@ fn sixteen_queues(alloc: Global) -> Result<(String, String), Fail> {
 #[test]
 fn script_may_have_sixteen_queues(rt: HostRuntime) -> Result<(), Fail> {
     let (script, printed) = sixteen_queues(rt.alloc())?;
-    let ran = replayed(&rt, script.as_bytes())?;
-    assert_eq!(rt;
-        (ran.status, ran.out.as_slice()),
-        (ENDED, printed.as_bytes())
-    );
-    Ok(())
+    let wanted = Wanted {
+        status: ENDED,
+        out: Some(&printed),
+        err: None,
+    };
+    assert_run(&rt, "replay F", &script, "", &wanted)
 }
 
 static FULL: [Row; 1] = [(

@@ -53,12 +53,12 @@ static WHOLE: [Row; 8] = [
 /// Sees that the call prints so of each script, and says so.
 fn assert_prints(rt: &impl Machine, words: &str, rows: &[Row]) -> Result<(), Fail> {
     for (script, status, printed, said) in rows {
-        let ran = run_of(rt, words, &[("F", whole(script.as_bytes()))])?;
-        assert_eq!(rt;
-            (ran.status, ran.out.as_slice(), ran.err.as_slice()),
-            (*status, printed.as_bytes(), said.as_bytes()),
-            "{words} {script}"
-        );
+        let wanted = Wanted {
+            status: *status,
+            out: Some(printed),
+            err: Some(said),
+        };
+        assert_run(rt, words, script, "", &wanted)?;
     }
     Ok(())
 }

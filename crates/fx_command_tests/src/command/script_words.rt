@@ -7,12 +7,13 @@ type Row = (&'static str, &'static str);
 /// Sees that each script is refused, and that this is said of it.
 fn assert_explains(rt: &impl Machine, rows: &[Row]) -> Result<(), Fail> {
     for (script, words) in rows {
-        let ran = run_of(rt, "check -", &[("-", whole(script.as_bytes()))])?;
-        assert_eq!(rt;
-            (ran.status, ran.err.as_slice()),
-            (REFUSED, words.as_bytes()),
-            "{script}"
-        );
+        let wanted = Wanted {
+            status: REFUSED,
+            out: None,
+            err: Some(words),
+        };
+        let texts = [("-", whole(script.as_bytes()))];
+        assert_call(rt, "check -", &texts, script, &wanted)?;
     }
     Ok(())
 }

@@ -7,12 +7,12 @@ type Row = (&'static str, &'static str);
 /// Sees that each script prints its line, with this status.
 fn assert_prints(rt: &impl Machine, status: u8, rows: &[Row]) -> Result<(), Fail> {
     for (script, line) in rows {
-        let ran = replayed(rt, script.as_bytes())?;
-        assert_eq!(rt;
-            (ran.status, ran.out.as_slice()),
-            (status, line.as_bytes()),
-            "{script}"
-        );
+        let wanted = Wanted {
+            status,
+            out: Some(line),
+            err: None,
+        };
+        assert_run(rt, "replay F", script, "", &wanted)?;
     }
     Ok(())
 }

@@ -52,6 +52,32 @@ static PRINTED: [Row; 3] = [
     ),
 ];
 
+/// The run of the program with these words, over this script F, into an output with so much room.
+fn run_into(
+    rt: &impl Machine,
+    line: &str,
+    script: &str,
+    room: usize,
+    when_full: WhenFull,
+) -> Result<Ran, AllocError> {
+    let alloc = rt.alloc();
+    let words = words_of(alloc, line)?;
+    let texts = [("F", whole(script.as_bytes()))];
+    let mut texts = Texts { texts: &texts };
+    let mut out = Full {
+        taken: Vec::new(alloc),
+        room,
+        when_full,
+    };
+    let mut err = Vec::new(alloc);
+    let status = command(rt, alloc, &words, &mut texts, &mut out, &mut err);
+    Ok(Ran {
+        status,
+        out: out.taken,
+        err,
+    })
+}
+
 /// Sees that an output with so much room has a prefix of the text, and that this is told.
 fn assert_prefix(
     rt: &impl Machine,
@@ -59,31 +85,15 @@ fn assert_prefix(
     room: usize,
     when_full: WhenFull,
 ) -> Result<(), Fail> {
-    let alloc = rt.alloc();
     let (line, script, printed, ended) = *row;
-    let words = words_of(alloc, line)?;
-    let texts = [("F", whole(script.as_bytes()))];
-    let mut out = Full {
-        taken: Vec::new(alloc),
-        room,
-        when_full,
-    };
-    let mut err = Vec::new(alloc);
-    let status = command(
-        rt,
-        alloc,
-        &words,
-        &mut Texts { texts: &texts },
-        &mut out,
-        &mut err,
-    );
+    let ran = run_into(rt, line, script, room, when_full)?;
     let has_room = room >= printed.len();
-    let is_told = err.as_slice() == b"fault write\n".as_slice();
+    let is_told = ran.err.as_slice() == b"fault write\n".as_slice();
     let wanted = &printed.as_bytes()[..room.min(printed.len())];
     // where words for people are told, they are those of a refusal
     assert!(rt; is_told != has_room, "{script}, room for {room}");
     assert_eq!(rt;
-        (status, out.taken.as_slice()),
+        (ran.status, ran.out.as_slice()),
         (if has_room { ended } else { FAULT }, wanted),
         "{script}, room for {room}"
     );

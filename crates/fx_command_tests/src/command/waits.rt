@@ -82,33 +82,22 @@ static SAID: [Row; 13] = [
 #[test]
 fn each_blocked_fiber_is_said_to_wait_for_something(rt: HostRuntime) -> Result<(), Fail> {
     for (words, script, schedule, said) in &SAID {
-        let texts = [
-            ("F", whole(script.as_bytes())),
-            ("S", whole(schedule.as_bytes())),
-        ];
-        let ran = run_of(&rt, words, &texts)?;
-        assert_eq!(rt;
-            (ran.status, ran.err.as_slice()),
-            (
-                if said.is_empty() { ENDED } else { BLOCKED },
-                said.as_bytes()
-            ),
-            "{words} {script}"
-        );
+        let wanted = Wanted {
+            status: if said.is_empty() { ENDED } else { BLOCKED },
+            out: None,
+            err: Some(said),
+        };
+        assert_run(&rt, words, script, schedule, &wanted)?;
     }
     Ok(())
 }
 
 #[test]
 fn script_on_standard_input_has_its_lines(rt: HostRuntime) -> Result<(), Fail> {
-    let ran = run_of(&rt, "", &[("-", whole(b"(main (never))"))])?;
-    assert_eq!(rt;
-        (ran.status, ran.out.as_slice(), ran.err.as_slice()),
-        (
-            BLOCKED,
-            b"fiber 0 blocked\n".as_slice(),
-            b"fiber 0 waits for nothing that comes\n".as_slice()
-        )
-    );
-    Ok(())
+    let wanted = Wanted {
+        status: BLOCKED,
+        out: Some("fiber 0 blocked\n"),
+        err: Some("fiber 0 waits for nothing that comes\n"),
+    };
+    assert_call(&rt, "", &[("-", whole(b"(main (never))"))], "", &wanted)
 }

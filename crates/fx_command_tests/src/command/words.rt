@@ -48,12 +48,12 @@ static TEXTS: [(&str, Text<'static>); 9] = [
 /// Sees that each run answers so.
 fn assert_answers(rt: &impl Machine, rows: &[Row]) -> Result<(), Fail> {
     for (words, status, printed, said) in rows {
-        let ran = run_of(rt, words, &TEXTS)?;
-        assert_eq!(rt;
-            (ran.status, ran.out.as_slice(), ran.err.as_slice()),
-            (*status, printed.as_bytes(), said.as_bytes()),
-            "{words}"
-        );
+        let wanted = Wanted {
+            status: *status,
+            out: Some(printed),
+            err: Some(said),
+        };
+        assert_call(rt, words, &TEXTS, "", &wanted)?;
     }
     Ok(())
 }
@@ -170,10 +170,12 @@ fn text_that_cannot_be_read_is_named(rt: HostRuntime) -> Result<(), Fail> {
 
 #[test]
 fn standard_input_that_breaks_off_is_named_so(rt: HostRuntime) -> Result<(), Fail> {
-    let ran = run_of(&rt, "", &[("-", broken!(b"(main"))])?;
-    assert_eq!(rt; ran.status, UNREADABLE);
-    assert_eq!(rt; ran.err.as_slice(), b"cannot read -\n".as_slice());
-    Ok(())
+    let wanted = Wanted {
+        status: UNREADABLE,
+        out: None,
+        err: Some("cannot read -\n"),
+    };
+    assert_call(&rt, "", &[("-", broken!(b"(main"))], "", &wanted)
 }
 
 static WORKERS: [Row; 6] = [

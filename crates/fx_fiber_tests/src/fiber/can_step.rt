@@ -23,15 +23,23 @@ fn fiber_after<J: CodeBrand>(
     requires { code.now.nodes ≡ J.nodes }
 {
     let mut looks = Looks::new(None);
-    let port: TestPort<J> = TestPort::new(alloc, 0, main_begin(alloc, code));
-    let mut fiber = Fiber::new(alloc, code, port)?;
-    for _ in 0..steps {
-        if fiber.has_ended() {
-            break;
-        }
-        let _ = fiber.step(code, &mut looks)?;
-    }
+    let mut fiber = main_fiber::<J>(alloc, code)?;
+    stepped(alloc, code, &mut fiber, &mut looks, steps)?;
     Ok(fiber)
+}
+
+/// Where fibers have ended so, and these are requested.
+fn ended(
+    alloc: Global,
+    outcomes: &[Option<Outcome>],
+    requested: &[bool],
+) -> Result<Closed, AllocError> {
+    Ok(Closed {
+        caps: Vec::new(alloc),
+        rests: Vec::new(alloc),
+        outcomes: Vec::from_slice(alloc, outcomes)?,
+        requested: Vec::from_slice(alloc, requested)?,
+    })
 }
 
 fn answers<J: CodeBrand>(
@@ -42,16 +50,10 @@ fn answers<J: CodeBrand>(
 ) -> Result<(bool, bool), Fail>
     requires { code.now.nodes ≡ J.nodes }
 {
+    let other = ended(alloc, outcomes, &[false, true])?;
+    let itself = ended(alloc, outcomes, &[true])?;
     let fiber: Fiber<TestPort<J>> = fiber_after(alloc, code, steps)?;
-    let mut closed = Closed {
-        caps: Vec::new(alloc),
-        rests: Vec::new(alloc),
-        outcomes: Vec::from_slice(alloc, outcomes)?,
-        requested: Vec::from_slice(alloc, &[false, true])?,
-    };
-    let unrequested = fiber.can_step(code, &closed);
-    closed.requested = Vec::from_slice(alloc, &[true])?;
-    Ok((unrequested, fiber.can_step(code, &closed)))
+    Ok((fiber.can_step(code, &other), fiber.can_step(code, &itself)))
 }
 
 fn answers_after(
@@ -210,13 +212,13 @@ fn goes_on<J: CodeBrand>(
 ) -> Result<bool, Fail>
     requires { code.now.nodes ≡ J.nodes }
 {
-    let fiber: Fiber<TestPort<J>> = fiber_after(alloc, code, 0)?;
     let closed = Closed {
         caps: Vec::from_slice(alloc, caps)?,
         rests: Vec::from_slice(alloc, rests)?,
         outcomes: Vec::new(alloc),
         requested: Vec::new(alloc),
     };
+    let fiber: Fiber<TestPort<J>> = main_fiber(alloc, code)?;
     Ok(fiber.can_step(code, &closed))
 }
 

@@ -29,34 +29,15 @@ impl Parted {
     }
 }
 
-/// Lets a fiber make so many steps, or as many as there are to its end.
-fn step<J: CodeBrand>(
-    fiber: &mut Fiber<TestPort<J>>,
-    code: &Code,
-    looks: &mut Looks,
-    steps: u32,
-) -> Result<(), Fail>
-    requires { code.now.nodes ≡ J.nodes }
-{
-    for _ in 0..steps {
-        if fiber.has_ended() {
-            break;
-        }
-        let _ = fiber.step(code, looks)?;
-    }
-    Ok(())
-}
-
 fn part<J: CodeBrand>(alloc: Global, code: &Code, request: Request) -> Result<Parted, Fail>
     requires { code.now.nodes ≡ J.nodes }
 {
     let (id, before, after) = request;
     let mut looks = Looks::new(None);
-    let port: TestPort<J> = TestPort::new(alloc, 0, main_begin(alloc, code));
-    let mut fiber = Fiber::new(alloc, code, port)?;
-    step(&mut fiber, code, &mut looks, before)?;
+    let mut fiber = main_fiber::<J>(alloc, code)?;
+    stepped(alloc, code, &mut fiber, &mut looks, before)?;
     fiber.outside(&mut looks, id)?;
-    step(&mut fiber, code, &mut looks, after)?;
+    stepped(alloc, code, &mut fiber, &mut looks, after)?;
     let (bare, port) = fiber.part(code);
     Ok(Parted {
         id: bare.id(),
@@ -125,8 +106,7 @@ fn registers<J: CodeBrand>(
     requires { code.now.nodes ≡ J.nodes }
 {
     let mut looks = Looks::new(None);
-    let port: TestPort<J> = TestPort::new(alloc, 0, main_begin(alloc, code));
-    let mut fiber = Fiber::new(alloc, code, port)?;
+    let mut fiber = main_fiber::<J>(alloc, code)?;
     let at_first = fiber.source();
     fiber.wait_on(&mut looks, source);
     let registered = fiber.source();
