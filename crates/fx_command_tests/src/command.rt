@@ -113,14 +113,14 @@ struct Wanted<'a> {
 }
 
 /// Sees that this was printed, where that matters.
-fn assert_text(rt: &impl Abort, printed: &[u8], wanted: Option<&str>, script: &str) {
+fn assert_text(rt: &impl Abort, printed: &[u8], wanted: Option<&str>, line: &str, script: &str) {
     if let Some(wanted) = wanted {
-        assert_eq!(rt; printed, wanted.as_bytes(), "{script}");
+        assert_eq!(rt; printed, wanted.as_bytes(), "{line} {script}");
     }
 }
 
 /// Sees that the run of the program with these words, over these texts, comes to that. One that does not is told with
-/// its script.
+/// them and its script.
 fn assert_call(
     rt: &impl Machine,
     line: &str,
@@ -129,8 +129,8 @@ fn assert_call(
     wanted: &Wanted<'_>,
 ) -> Result<(), Fail> {
     let ran = run_of(rt, line, texts)?;
-    assert_text(rt, &ran.out, wanted.out, script);
-    assert_text(rt, &ran.err, wanted.err, script);
+    assert_text(rt, &ran.out, wanted.out, line, script);
+    assert_text(rt, &ran.err, wanted.err, line, script);
     assert_eq!(rt; ran.status, wanted.status, "{line} {script}");
     Ok(())
 }
