@@ -1,7 +1,7 @@
 //! Runs of the program over texts in memory.
-use fx_command::command::{FAULT, OTHER_WORDS, UNREADABLE, command};
+use fx_command::command::{FAULT, UNREADABLE, command};
 use fx_command::files::{FetchFault, Files};
-use fx_plain::{BLOCKED, ENDED, REFUSED};
+use fx_plain::{ENDED, REFUSED};
 use std::alloc::{AllocError, AllocGlobal, Global};
 use std::io::{self, Read, Write};
 use std::process::Abort;
@@ -10,17 +10,9 @@ use std::sync::Wait;
 use std::test::Fail;
 use std::thread::Threads;
 
-mod fibers;
+mod inputs;
 mod limits;
-mod queues;
-mod runs;
-mod schedule_words;
-mod script_words;
-mod scripts;
 mod streams;
-mod tour;
-mod waits;
-mod words;
 
 /// What a test has of the machine: all that a run of the program needs, and the end at a failure.
 trait Machine: Wait + Threads + Sync + RandomSource + AllocGlobal + Abort {}
@@ -97,55 +89,4 @@ fn run_of(rt: &impl Machine, line: &str, texts: &[(&str, Text<'_>)]) -> Result<R
     let mut err = Vec::new(alloc);
     let status = command(rt, alloc, &words, &mut Texts { texts }, &mut out, &mut err);
     Ok(Ran { status, out, err })
-}
-
-/// The replay of a script with the empty schedule.
-fn replayed(rt: &impl Machine, script: &[u8]) -> Result<Ran, AllocError> {
-    run_of(rt, "replay F", &[("F", whole(script))])
-}
-
-/// How a call is to end, and what it is to print on standard output and on standard error, where that matters.
-#[derive(Clone, Copy)]
-struct Wanted<'a> {
-    status: u8,
-    out: Option<&'a str>,
-    err: Option<&'a str>,
-}
-
-/// Sees that this was printed, where that matters.
-fn assert_text(rt: &impl Abort, printed: &[u8], wanted: Option<&str>, line: &str, script: &str) {
-    if let Some(wanted) = wanted {
-        assert_eq!(rt; printed, wanted.as_bytes(), "{line} {script}");
-    }
-}
-
-/// Sees that the run of the program with these words, over these texts, comes to that. One that does not is told with
-/// them and its script.
-fn assert_call(
-    rt: &impl Machine,
-    line: &str,
-    texts: &[(&str, Text<'_>)],
-    script: &str,
-    wanted: &Wanted<'_>,
-) -> Result<(), Fail> {
-    let ran = run_of(rt, line, texts)?;
-    assert_text(rt, &ran.out, wanted.out, line, script);
-    assert_text(rt, &ran.err, wanted.err, line, script);
-    assert_eq!(rt; ran.status, wanted.status, "{line} {script}");
-    Ok(())
-}
-
-/// The same, of a script F and a schedule S.
-fn assert_run(
-    rt: &impl Machine,
-    line: &str,
-    script: &str,
-    schedule: &str,
-    wanted: &Wanted<'_>,
-) -> Result<(), Fail> {
-    let texts = [
-        ("F", whole(script.as_bytes())),
-        ("S", whole(schedule.as_bytes())),
-    ];
-    assert_call(rt, line, &texts, script, wanted)
 }

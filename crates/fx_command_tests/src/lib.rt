@@ -1,7 +1,6 @@
-//! What `fx_command` prints for the words of a call, over texts in memory: worked scripts with their
-//! reports, those of the README and of the language's description too, refusals in words, and streams that
-//! fail. What is written is proved; that the definitions say what is meant is seen here, and what no
-//! contract says: which call the words make, and what is said on standard error.
+//! What `fx_command` does over texts in memory: with one that breaks off, with an output that is full, and with
+//! scripts at the edges of what a text may hold. What it prints for the words of a call is seen in the transcripts
+//! of the program, in `fibers`.
 #![tactic(auto)]
 
 #[cfg(test)]

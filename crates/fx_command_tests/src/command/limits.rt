@@ -20,20 +20,6 @@ fn repeated(
 }
 
 #[test]
-fn loop_of_a_million_turns_ends(rt: HostRuntime) -> Result<(), Fail> {
-    for script in [
-        "(main (for i 1000000 (cede)))",
-        "(main (for i 1000 (for j 1000 (cede))))",
-    ] {
-        assert!(rt;
-            prints(&rt, script.as_bytes(), ENDED, "fiber 0 succeeded 0\n"),
-            "{script}"
-        );
-    }
-    Ok(())
-}
-
-#[test]
 fn limit_of_open_parentheses_is_100(rt: HostRuntime) -> Result<(), Fail> {
     let mut text = repeated(rt.alloc(), b"(main ", b"(handle ", 98, b"(raise 9)")?;
     for _ in 0..98 {
@@ -66,7 +52,7 @@ const SMALL_STACK: usize = 2 * 1024 * 1024;
 
 /// Does a replay of this text print this line, and answer this status?
 fn prints(rt: &impl Machine, text: &[u8], status: u8, line: &str) -> bool {
-    match replayed(rt, text) {
+    match run_of(rt, "replay F", &[("F", whole(text))]) {
         Ok(ran) => ran.status == status && ran.out.as_slice() == line.as_bytes(),
         Err(_) => false,
     }
