@@ -1,22 +1,40 @@
 //! The order in which tasks come out of the deques.
-use fx_sched::Tasks;
+use fx_sched::{Owner, Tasks};
+use std::sync::Wait;
 use std::test::Fail;
+
+/// Puts 1 and 2 into the deque of one hand and injects 3: whether there was room.
+fn are_put<R: Wait>(rt: &R, work: &Tasks<u32>, hand: &mut Owner<u32>) -> bool {
+    hand.push(1).is_ok() && hand.push(2).is_ok() && work.inject(rt, 3).is_ok()
+}
+
+/// What that hand takes then, and what another one takes after it.
+fn taken<R: Wait>(
+    rt: &R,
+    work: &Tasks<u32>,
+    hand: &mut Owner<u32>,
+    other: &mut Owner<u32>,
+) -> [Option<u32>; 4] {
+    [
+        hand.next(rt, work),
+        other.next(rt, work),
+        other.next(rt, work),
+        other.next(rt, work),
+    ]
+}
 
 #[test]
 fn its_own_come_first_and_then_the_injected_and_then_those_of_others(
     rt: HostRuntime,
 ) -> Result<(), Fail> {
     let (work, mut hands) = Tasks::new(rt.alloc(), 2)?;
-    let (Some(mut one), Some(mut two)) = (hands.pop(), hands.pop()) else {
+    let [hand, other] = hands.as_mut_slice() else {
         panic!(rt; "two workers have two hands")
     };
-    assert!(rt; one.push(1).is_ok() && one.push(2).is_ok() && work.inject(&rt, 3).is_ok());
-    let first = one.next(&rt, &work);
-    let others = [
-        two.next(&rt, &work),
-        two.next(&rt, &work),
-        two.next(&rt, &work),
-    ];
-    assert_eq!(rt; (first, others), (Some(1), [Some(3), Some(2), None]));
+    assert!(rt; are_put(&rt, &work, hand));
+    assert_eq!(rt;
+        taken(&rt, &work, hand, other),
+        [Some(1), Some(3), Some(2), None]
+    );
     Ok(())
 }

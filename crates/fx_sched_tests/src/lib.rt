@@ -14,6 +14,8 @@ mod lot;
 #[cfg(test)]
 mod notes;
 #[cfg(test)]
+mod play;
+#[cfg(test)]
 mod rounds;
 #[cfg(test)]
 mod steps;

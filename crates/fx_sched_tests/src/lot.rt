@@ -1,16 +1,13 @@
 //! A fiber in its bay.
 ghost use Rattle.std.specs.Prelude.{◌≡◌, ◌≤◌};
 
-use crate::board::Board;
-use crate::locked_port::main_fiber;
-use crate::notes::Notes;
-use crate::steps::{step, unable_to_step};
-use fx_fiber::{Fiber, Port, main_begin};
-use fx_sched::Lot;
-use fx_term::{Arg, Code, CodeBrand, Memory, Node, NodeId};
+use crate::play::{Plan, play};
+use crate::steps::{last_events, start, unable_to_step};
+use fx_fiber::{Fiber, Port};
+use fx_sched::{Free, Lot};
+use fx_term::{Arg, Code, Event, Memory, Node, NodeId, Outcome};
 use std::alloc::Global;
-use std::marker::Brand;
-use std::sync::{Mutex, Wait};
+use std::sync::Wait;
 use std::test::Fail;
 
 /// `start h (pure 1) (pure 2)`.
@@ -18,6 +15,12 @@ const STARTS: &[Node] = &[
     Node::Pure(Arg::Number(1)),
     Node::Pure(Arg::Number(2)),
     Node::Start(0, NodeId(0), NodeId(1)),
+];
+
+/// How main and the other one end.
+static ENDS: [Event; 2] = [
+    Event::Ended(Outcome::Succeeded(2)),
+    Event::Ended(Outcome::Succeeded(1)),
 ];
 
 /// The fiber, where a wake that was left gives it back, once, and a wake after that finds it parked.
@@ -46,8 +49,8 @@ fn lay_down<P: Port + Drop, R: Wait>(
     requires code { code.now.nodes ≡ P.theory.code }
     requires total { P.theory.total ≤ lot.now }
 {
-    if let Some(child) = step(&mut main, code, shared)? {
-        lot.settle(rt, unable_to_step(child, code, shared)?);
+    if let Some(child) = start(&mut main, code, shared)? {
+        lot.settle(rt, child);
     }
     if let Some(main) = woken_twice(rt, lot, main) {
         lot.settle(rt, unable_to_step(main, code, shared)?);
@@ -55,60 +58,27 @@ fn lay_down<P: Port + Drop, R: Wait>(
     Ok(())
 }
 
-/// The fibers that are left in a lot, by number, and whether each has ended.
-fn left<P: Port + Drop>(alloc: Global, lot: Lot<P>) -> Result<Vec<(u32, bool)>, Memory> {
-    let mut left = Vec::new(alloc);
-    for fiber in lot.empty(alloc)? {
-        left.push((fiber.id(), fiber.has_ended()))?;
-    }
-    Ok(left)
-}
-
-/// Those of a new lot, once the fibers of this main fiber are laid down there.
-fn left_from<P: Port + Drop, R: Wait>(
+/// The last event of each of the fibers of a main fiber, once they are laid down in a new lot.
+pub fn ends_in_lot<P: Port + Drop, R: Wait>(
     rt: &R,
     alloc: Global,
     total: u32,
     main: Fiber<P>,
     code: &Code,
     shared: &mut P::Shared,
-) -> Result<Vec<(u32, bool)>, Memory>
+) -> Result<Vec<Event>, Memory>
     requires code { code.now.nodes ≡ P.theory.code }
     requires total { P.theory.total ≤ total }
 {
     let lot = Lot::new(alloc, total)?;
     lay_down(rt, &lot, main, code, shared)?;
-    left(alloc, lot)
-}
-
-fn left_of<J: CodeBrand, R: Wait>(
-    rt: &R,
-    alloc: Global,
-    code: &Code,
-) -> Result<Vec<(u32, bool)>, Memory>
-    requires { code.now.nodes ≡ J.nodes }
-{
-    let total = main_begin(alloc, code).end;
-    let board = Mutex::new(Board::new(alloc, total, 1)?);
-    let mut notes: Notes<J> = Notes::new(alloc, total)?;
-    let main = main_fiber::<R, J>(rt, &board, alloc, code)?;
-    left_from(rt, alloc, total, main, code, &mut notes)
-}
-
-fn left_of_nodes<R: Wait>(
-    rt: &R,
-    alloc: Global,
-    nodes: &[Node],
-) -> Result<Vec<(u32, bool)>, Memory> {
-    let Ok(code) = Code::build(alloc, Vec::from_slice(alloc, nodes)?, 0) else {
-        return Err(Memory);
-    };
-    left_of::<Brand, R>(rt, alloc, &code)
+    let fibers = lot.empty(alloc)?;
+    last_events(alloc, &fibers)
 }
 
 #[test]
 fn a_wake_that_was_left_gives_a_fiber_back_once(rt: HostRuntime) -> Result<(), Fail> {
-    let left = left_of_nodes(&rt, rt.alloc(), STARTS)?;
-    assert!(rt; left.as_slice() == [(0, true), (1, true)].as_slice());
+    let seen = play(&rt, STARTS, 1, Plan::Lot, &Free)?;
+    assert!(rt; seen.events.as_slice() == ENDS.as_slice());
     Ok(())
 }

@@ -1,75 +1,45 @@
 //! Rounds of four workers.
 ghost use Rattle.std.specs.Prelude.{◌≡◌, ◌≤◌, ℕ, true, false};
-ghost use Rattle.fx_model.specs.Origin.{main_begin_of};
 
-use crate::board::Board;
-use crate::locked_port::main_fiber;
-use crate::notes::Notes;
-use crate::steps::{step, unable_to_step};
-use fx_fiber::{Fiber, Port, main_begin};
+use crate::play::{Plan, play};
+use crate::steps::{last_events, start};
+use fx_fiber::{Fiber, Port};
 use fx_sched::{Free, Gate, round};
-use fx_term::{Arg, Code, CodeBrand, Event, Memory, Node, NodeId, Outcome};
+use fx_term::{Arg, Code, Event, Memory, Node, NodeId, Outcome};
 use std::alloc::{AllocGlobal, Global};
-use std::marker::Brand;
 use std::random::RandomSource;
+use std::sync::Wait;
 use std::sync::atomic::{AtomicU64, Ordering};
-use std::sync::{Mutex, Wait};
 use std::test::Fail;
 use std::thread;
 use std::thread::Threads;
 
-/// The last event of each fiber, ascending by number.
-type Ends = Vec<Option<Event>>;
-
-/// Plays a script of these nodes, with one queue of this capacity. Before the round the main fiber starts
-/// so many, and these go on until each waits or has ended.
-fn ends<R: Wait + Threads + Send + Sync + RandomSource + AllocGlobal, G: Gate + Sync>(
-    rt: &R,
-    nodes: &[Node],
-    capacity: usize,
-    starts: u32,
-    gate: &G,
-) -> Result<Ends, Memory> {
-    let alloc = rt.alloc();
-    let Ok(code) = Code::build(alloc, Vec::from_slice(alloc, nodes)?, 1) else {
-        return Err(Memory);
-    };
-    ends_of::<Brand, R, G>(rt, alloc, &code, capacity, starts, gate)
-}
-
-fn ends_of<
-    J: CodeBrand + Send + Sync,
-    R: Wait + Threads + Send + Sync + RandomSource + AllocGlobal,
-    G: Gate + Sync,
->(
-    rt: &R,
+/// Those that the main fiber starts by so many steps, each once it waits or has ended.
+fn started<P: Port + Drop>(
     alloc: Global,
-    code: &Code,
-    capacity: usize,
+    main: &mut Fiber<P>,
     starts: u32,
-    gate: &G,
-) -> Result<Ends, Memory>
-    requires { code.now.nodes ≡ J.nodes }
+    code: &Code,
+    shared: &mut P::Shared,
+) -> Result<Vec<Fiber<P>>, Memory>
+    requires code { code.now.nodes ≡ P.theory.code }
 {
-    let total = main_begin(alloc, code).end;
-    let board = Mutex::new(Board::new(alloc, total, capacity)?);
-    let notes: Notes<J> = Notes::new(alloc, total)?;
-    let main = main_fiber::<R, J>(rt, &board, alloc, code)?;
-    let shared = notes_of_four(alloc, total)?;
-    ends_from(rt, alloc, total, main, starts, notes, shared, code, gate)
-}
-
-fn notes_of_four<J: CodeBrand>(alloc: Global, total: u32) -> Result<Vec<Notes<J>>, Memory>
-    requires { total ≤ (main_begin_of J.nodes).end }
-{
-    let mut all = Vec::new(alloc);
-    for _ in 0..4u32 {
-        all.push(Notes::new(alloc, total)?)?;
+    let mut unable = Vec::new(alloc);
+    for _ in 0..starts {
+        if let Some(child) = start(main, code, shared)? {
+            unable.push(child)?;
+        }
     }
-    Ok(all)
+    Ok(unable)
 }
 
-/// The main fiber after it has started so many, and these, each once it waits or has ended.
+fn alone<P: Port + Drop>(alloc: Global, fiber: Fiber<P>) -> Result<Vec<Fiber<P>>, Memory> {
+    let mut fibers = Vec::new(alloc);
+    fibers.push(fiber)?;
+    Ok(fibers)
+}
+
+/// The main fiber after that, and those.
 fn begun<P: Port + Drop>(
     alloc: Global,
     mut main: Fiber<P>,
@@ -79,18 +49,13 @@ fn begun<P: Port + Drop>(
 ) -> Result<(Vec<Fiber<P>>, Vec<Fiber<P>>), Memory>
     requires code { code.now.nodes ≡ P.theory.code }
 {
-    let mut unable = Vec::new(alloc);
-    for _ in 0..starts {
-        if let Some(child) = step(&mut main, code, shared)? {
-            unable.push(unable_to_step(child, code, shared)?)?;
-        }
-    }
-    let mut able = Vec::new(alloc);
-    able.push(main)?;
-    Ok((able, unable))
+    let unable = started(alloc, &mut main, starts, code, shared)?;
+    Ok((alone(alloc, main)?, unable))
 }
 
-fn ends_from<
+/// The last event of each fiber, ascending by number, after a round of a worker for each element of
+/// `shared`. Before it the main fiber starts so many.
+pub fn ends_of_round<
     R: Wait + Threads + Sync + RandomSource + AllocGlobal,
     P: Port<Shared: Send + Drop> + Send + Drop,
     G: Gate + Sync,
@@ -100,26 +65,18 @@ fn ends_from<
     total: u32,
     main: Fiber<P>,
     starts: u32,
-    mut before: P::Shared,
+    before: &mut P::Shared,
     shared: Vec<P::Shared>,
     code: &Code,
     gate: &G,
-) -> Result<Ends, Memory>
+) -> Result<Vec<Event>, Memory>
     requires code { code.now.nodes ≡ P.theory.code }
     requires total { P.theory.total ≤ total }
     requires gate { (id : ℕ) → G.may gate.now id ≡ true → P.theory.may id ≡ true }
 {
-    let (able, unable) = begun(alloc, main, starts, code, &mut before)?;
+    let (able, unable) = begun(alloc, main, starts, code, before)?;
     let end = round(rt, alloc, total, able, unable, shared, code, gate)?;
-    last_events(alloc, end.fibers)
-}
-
-fn last_events<P: Port + Drop>(alloc: Global, fibers: Vec<Fiber<P>>) -> Result<Ends, Memory> {
-    let mut ends = Vec::new(alloc);
-    for fiber in fibers {
-        ends.push(fiber.trace().last().copied())?;
-    }
-    Ok(ends)
+    last_events(alloc, &end.fibers)
 }
 
 /// Two producers and two consumers of 200 elements each, joined by the main fiber.
@@ -152,12 +109,12 @@ const PAIRS: &[Node] = &[
 ];
 
 /// How they end: the main fiber gives 7, and the others 0.
-static WELL: [Option<Event>; 5] = [
-    Some(Event::Ended(Outcome::Succeeded(7))),
-    Some(Event::Ended(Outcome::Succeeded(0))),
-    Some(Event::Ended(Outcome::Succeeded(0))),
-    Some(Event::Ended(Outcome::Succeeded(0))),
-    Some(Event::Ended(Outcome::Succeeded(0))),
+static WELL: [Event; 5] = [
+    Event::Ended(Outcome::Succeeded(7)),
+    Event::Ended(Outcome::Succeeded(0)),
+    Event::Ended(Outcome::Succeeded(0)),
+    Event::Ended(Outcome::Succeeded(0)),
+    Event::Ended(Outcome::Succeeded(0)),
 ];
 
 /// It counts the turns of each worker, and holds the first turns of fiber 1 until another worker had a
@@ -208,8 +165,8 @@ fn four_workers_run_all_fibers_and_one_steals_from_another(rt: HostRuntime) -> R
             AtomicU64::new(0),
         ],
     };
-    let ends = ends(&rt, PAIRS, 4, 0, &gate)?;
-    assert!(rt; ends.as_slice() == WELL.as_slice() && gate.workers() > 1);
+    let seen = play(&rt, PAIRS, 4, Plan::Round(0), &gate)?;
+    assert!(rt; seen.events.as_slice() == WELL.as_slice() && gate.workers() > 1);
     Ok(())
 }
 
@@ -222,15 +179,15 @@ const WAITED: &[Node] = &[
     Node::Start(0, NodeId(0), NodeId(3)),
 ];
 
-static WOKEN: [Option<Event>; 3] = [
-    Some(Event::Ended(Outcome::Succeeded(0))),
-    Some(Event::Ended(Outcome::Succeeded(1))),
-    Some(Event::Ended(Outcome::Succeeded(5))),
+static WOKEN: [Event; 3] = [
+    Event::Ended(Outcome::Succeeded(0)),
+    Event::Ended(Outcome::Succeeded(1)),
+    Event::Ended(Outcome::Succeeded(5)),
 ];
 
 #[test]
 fn a_fiber_that_waits_as_the_round_begins_is_woken(rt: HostRuntime) -> Result<(), Fail> {
-    let ends = ends(&rt, WAITED, 1, 2, &Free)?;
-    assert!(rt; ends.as_slice() == WOKEN.as_slice());
+    let seen = play(&rt, WAITED, 1, Plan::Round(2), &Free)?;
+    assert!(rt; seen.events.as_slice() == WOKEN.as_slice());
     Ok(())
 }

@@ -1,11 +1,12 @@
-//! Steps of a fiber by hand.
+//! Steps of a fiber by hand, and what fibers came to.
 ghost use Rattle.std.specs.Prelude.{◌≡◌};
 
 use fx_fiber::{Fiber, Port, Stepped};
-use fx_term::{Code, Memory};
+use fx_term::{Code, Event, Memory};
+use std::alloc::Global;
 
 /// A step of the fiber, if it has not ended, and the fiber that it starts. Where it waits it is registered.
-pub fn step<P: Port + Drop>(
+fn step<P: Port + Drop>(
     fiber: &mut Fiber<P>,
     code: &Code,
     shared: &mut P::Shared,
@@ -37,4 +38,32 @@ pub fn unable_to_step<P: Port + Drop>(
         let _child = step(&mut fiber, code, shared)?;
     }
     Ok(fiber)
+}
+
+/// The fiber that a step of this one starts, once it waits or has ended.
+pub fn start<P: Port + Drop>(
+    fiber: &mut Fiber<P>,
+    code: &Code,
+    shared: &mut P::Shared,
+) -> Result<Option<Fiber<P>>, Memory>
+    requires code { code.now.nodes ≡ P.theory.code }
+{
+    match step(fiber, code, shared)? {
+        Some(child) => Ok(Some(unable_to_step(child, code, shared)?)),
+        None => Ok(None),
+    }
+}
+
+/// The last event of each fiber, where it has one.
+pub fn last_events<P: Port + Drop>(
+    alloc: Global,
+    fibers: &[Fiber<P>],
+) -> Result<Vec<Event>, Memory> {
+    let mut events = Vec::new(alloc);
+    for fiber in fibers {
+        if let Some(&last) = fiber.trace().last() {
+            events.push(last)?;
+        }
+    }
+    Ok(events)
 }

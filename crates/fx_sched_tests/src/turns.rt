@@ -1,16 +1,12 @@
 //! Turns of one fiber, by a gate.
 ghost use Rattle.std.specs.Prelude.{◌≡◌, ℕ, true};
 
-use crate::board::Board;
-use crate::locked_port::main_fiber;
-use crate::notes::Notes;
-use fx_fiber::{Fiber, Port, main_begin};
+use crate::play::{Plan, Seen, play};
+use fx_fiber::{Fiber, Port};
 use fx_sched::{Gate, gated_turn, solo};
-use fx_term::{Arg, Code, CodeBrand, Event, Memory, Node, NodeId, Outcome};
-use std::alloc::{AllocGlobal, Global};
-use std::marker::Brand;
+use fx_term::{Arg, Code, Event, Memory, Node, NodeId, Outcome};
+use std::alloc::AllocGlobal;
 use std::random::RandomSource;
-use std::sync::{Mutex, Wait};
 use std::test::Fail;
 
 /// Before each turn it names this fiber, or none.
@@ -75,62 +71,39 @@ static ROWS: [Row; 3] = [
 ];
 
 /// How many turns of a fiber go on before that in which it ends, if that is soon, and its trace.
-fn turns<P: Port + Drop, R: RandomSource + AllocGlobal>(
+pub fn turns<P: Port + Drop, R: RandomSource + AllocGlobal, G: Gate>(
     rt: &R,
-    gate: Names,
     mut fiber: Fiber<P>,
     code: &Code,
     shared: &mut P::Shared,
-) -> Result<(u32, Vec<Event>), Memory>
+    gate: &G,
+) -> Result<Seen, Memory>
     requires code { code.now.nodes ≡ P.theory.code }
-    requires may { (id : ℕ) → P.theory.may id ≡ true }
+    requires gate { (id : ℕ) → G.may gate.now id ≡ true → P.theory.may id ≡ true }
 {
     let solo = solo(rt)?;
     let mut pending = 0u32;
     for turn in 1..9u32 {
-        if gated_turn(&solo, &gate, 0, &mut fiber, code, shared).is_ready() {
+        if gated_turn(&solo, gate, 0, &mut fiber, code, shared).is_ready() {
             break;
         }
         pending = turn;
     }
-    Ok((pending, fiber.into_trace()))
+    Ok(Seen {
+        pending,
+        events: fiber.into_trace(),
+    })
 }
 
-fn turns_of<J: CodeBrand, R: Wait + RandomSource + AllocGlobal>(
-    rt: &R,
-    gate: Names,
-    alloc: Global,
-    code: &Code,
-) -> Result<(u32, Vec<Event>), Memory>
-    requires { code.now.nodes ≡ J.nodes }
-{
-    let total = main_begin(alloc, code).end;
-    let board = Mutex::new(Board::new(alloc, total, 1)?);
-    let mut notes: Notes<J> = Notes::new(alloc, total)?;
-    let main = main_fiber::<R, J>(rt, &board, alloc, code)?;
-    turns(rt, gate, main, code, &mut notes)
-}
-
-fn turns_of_nodes<R: Wait + RandomSource + AllocGlobal>(
-    rt: &R,
-    gate: Names,
-    alloc: Global,
-    nodes: &[Node],
-) -> Result<(u32, Vec<Event>), Memory> {
-    let Ok(code) = Code::build(alloc, Vec::from_slice(alloc, nodes)?, 0) else {
-        return Err(Memory);
-    };
-    turns_of::<Brand, R>(rt, gate, alloc, &code)
+fn is_told(seen: &Seen, row: &Row) -> bool {
+    seen.pending == row.pending && seen.events.as_slice() == row.trace
 }
 
 #[test]
 fn a_turn_begins_with_its_request_and_ends_in_time(rt: HostRuntime) -> Result<(), Fail> {
     for row in &ROWS {
-        let (pending, trace) = turns_of_nodes(&rt, row.gate, rt.alloc(), row.nodes)?;
-        assert_eq!(rt;
-            (row.what, pending, trace.as_slice()),
-            (row.what, row.pending, row.trace)
-        );
+        let seen = play(&rt, row.nodes, 1, Plan::Turns, &row.gate)?;
+        assert!(rt; is_told(&seen, row), "{}", row.what);
     }
     Ok(())
 }
