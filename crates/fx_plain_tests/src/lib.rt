@@ -5,6 +5,8 @@
 #![tactic(auto)]
 
 #[cfg(test)]
+mod full;
+#[cfg(test)]
 mod library;
 #[cfg(test)]
 mod plain_port;

@@ -6,6 +6,7 @@ use fx_plain::replay;
 use fx_term::{Event, Item, Outcome};
 use fx_text::{Pick, Script, parse};
 use std::alloc::Global;
+use std::process::Abort;
 use std::test::Fail;
 
 /// A script's text, a schedule, the trace of each fiber, and what is left in each queue.
@@ -30,6 +31,19 @@ fn tells(report: &Report, row: &Row) -> bool {
             .iter()
             .zip(row.left)
             .all(|(items, &left)| items.as_slice() == left)
+}
+
+/// Sees that the replay of this script by the row's schedule tells what the row does.
+fn assert_told(rt: &impl Abort, alloc: Global, script: &Script, row: &Row) -> Result<(), Fail> {
+    let report = replay(alloc, script, row.picks)?;
+    assert!(rt; tells(&report, row));
+    Ok(())
+}
+
+/// The same, where the script is that of the row's text.
+fn assert_row(rt: &impl Abort, alloc: Global, row: &Row) -> Result<(), Fail> {
+    let script = parse(alloc, row.script)?;
+    assert_told(rt, alloc, &script, row)
 }
 
 /// Fiber 1 looks before it is requested, where it steps first, and else after it. Whoever awaits its end
@@ -69,8 +83,7 @@ static REQUESTS: [Row; 2] = [
 #[test]
 fn a_port_sees_what_another_one_did(rt: HostRuntime) -> Result<(), Fail> {
     for row in &REQUESTS {
-        let script = parse(rt.alloc(), row.script)?;
-        assert!(rt; tells(&replay(rt.alloc(), &script, row.picks)?, row));
+        assert_row(&rt, rt.alloc(), row)?;
     }
     Ok(())
 }
@@ -108,9 +121,7 @@ static IN_ORDER: Row = Row {
 
 #[test]
 fn elements_are_taken_in_the_order_in_which_they_were_put(rt: HostRuntime) -> Result<(), Fail> {
-    let script = parse(rt.alloc(), IN_ORDER.script)?;
-    assert!(rt; tells(&replay(rt.alloc(), &script, IN_ORDER.picks)?, &IN_ORDER));
-    Ok(())
+    assert_row(&rt, rt.alloc(), &IN_ORDER)
 }
 
 /// What is left in the queues 0 and 1. Queue 0 has one place, and there is no queue 2.
@@ -163,6 +174,5 @@ fn without_last_queue(alloc: Global, text: &[u8]) -> Result<Script, Fail> {
 #[test]
 fn what_is_left_has_its_fiber_and_its_number_there(rt: HostRuntime) -> Result<(), Fail> {
     let script = without_last_queue(rt.alloc(), LEFT.script)?;
-    assert!(rt; tells(&replay(rt.alloc(), &script, LEFT.picks)?, &LEFT));
-    Ok(())
+    assert_told(&rt, rt.alloc(), &script, &LEFT)
 }

@@ -1,21 +1,25 @@
 //! Readers and writers that fail.
+use crate::full::Full;
 use fx_plain::{ENDED, PlainFault, replay_text};
 use std::alloc::Global;
 use std::io;
-use std::io::{Read, Write};
+use std::io::Read;
 use std::process::Abort;
 
-/// Gives a text byte by byte, and then an error.
+/// Gives a text byte by byte, and then this error, or its end.
 #[derive(Drop)]
-struct Broken<'a> {
+struct Slow<'a> {
     text: &'a [u8],
-    error: io::ErrorKind,
+    error: Option<io::ErrorKind>,
 }
 
-impl Read for Broken<'_> {
+impl Read for Slow<'_> {
     fn read(&mut self, buf: &mut [u8]) -> io::Result<usize> {
         let Some((first, rest)) = self.text.split_first() else {
-            return Err(io::Error::from(self.error));
+            return match self.error {
+                Some(error) => Err(io::Error::from(error)),
+                None => Ok(0),
+            };
         };
         if buf.is_empty() {
             return Ok(0);
@@ -28,7 +32,10 @@ impl Read for Broken<'_> {
 
 /// Sees that nothing is written where the reader breaks off behind this text, and that this is told.
 fn assert_unread(rt: &impl Abort, alloc: Global, text: &[u8], error: io::ErrorKind) {
-    let mut reader = Broken { text, error };
+    let mut reader = Slow {
+        text,
+        error: Some(error),
+    };
     let mut printed = Vec::new(alloc);
     let fault = replay_text(alloc, &mut reader, &[], &mut printed);
     let given = text.len();
@@ -46,59 +53,13 @@ fn reader_that_fails_or_is_interrupted_leaves_nothing_written(rt: HostRuntime) {
     }
 }
 
-/// Gives a text byte by byte.
-#[derive(Drop)]
-struct Slow<'a> {
-    text: &'a [u8],
-}
-
-impl Read for Slow<'_> {
-    fn read(&mut self, buf: &mut [u8]) -> io::Result<usize> {
-        let Some((first, rest)) = self.text.split_first() else {
-            return Ok(0);
-        };
-        if buf.is_empty() {
-            return Ok(0);
-        }
-        buf[0] = *first;
-        self.text = rest;
-        Ok(1)
-    }
-}
-
-/// Takes so many bytes, one at a time, and then answers an error.
-#[derive(Drop)]
-struct Full {
-    taken: Vec<u8>,
-    room: usize,
-}
-
-impl Write for Full {
-    fn write(&mut self, buf: &[u8]) -> io::Result<usize> {
-        let Some(first) = buf.first() else {
-            return Ok(0);
-        };
-        if self.taken.len() >= self.room {
-            return Err(io::Error::from(io::ErrorKind::Other));
-        }
-        self.taken.push(*first)?;
-        Ok(1)
-    }
-
-    fn flush(&mut self) -> io::Result<()> {
-        Ok(())
-    }
-}
-
 /// Sees that a writer with so much room has that much of this text, and that this is told.
 fn assert_prefix(rt: &impl Abort, alloc: Global, whole: &[u8], room: usize) {
     let mut reader = Slow {
         text: b"(main (pure 5))",
+        error: None,
     };
-    let mut writer = Full {
-        taken: Vec::new(alloc),
-        room,
-    };
+    let mut writer = Full::new(alloc, room);
     let status = replay_text(alloc, &mut reader, &[], &mut writer);
     let wanted = if room < whole.len() {
         Err(PlainFault::Write)
@@ -106,11 +67,7 @@ fn assert_prefix(rt: &impl Abort, alloc: Global, whole: &[u8], room: usize) {
         Ok(ENDED)
     };
     assert_eq!(rt; status, wanted, "room for {room}");
-    assert_eq!(rt;
-        writer.taken.as_slice(),
-        &whole[..room.min(whole.len())],
-        "room for {room}"
-    );
+    writer.assert_has(rt, whole);
 }
 
 #[test]

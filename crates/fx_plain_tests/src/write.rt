@@ -6,13 +6,12 @@ ghost use Rattle.fx_report.specs.Text.{queue_names, ends};
 ghost use Rattle.fx_report.specs.Text.{IsWritableFiber, IsWritable};
 ghost use Rattle.fx_term.specs.QueuesNamed.{NamesQueueBelow};
 
+use crate::full::Full;
 use fx_fiber::{FiberReport, Report, State};
 use fx_plain::{OutFault, write_report, write_trace};
 use fx_term::{Event, Item, Outcome};
 use fx_text::{QueueDecl, Script, parse};
 use std::alloc::Global;
-use std::io;
-use std::io::Write;
 use std::process::Abort;
 use std::test::Fail;
 
@@ -55,9 +54,10 @@ fn items(alloc: Global, values: &[u64]) -> Result<Vec<Item>, Fail> {
     Ok(items)
 }
 
-fn report_of(alloc: Global, row: &Row) -> Result<Report, Fail> {
+/// The fibers of a report of which this is told.
+fn fibers_of(alloc: Global, told: &[Told]) -> Result<Vec<FiberReport>, Fail> {
     let mut fibers = Vec::new(alloc);
-    for (id, state, trace) in row.fibers {
+    for (id, state, trace) in told {
         fibers.push(FiberReport {
             id: *id,
             parent: None,
@@ -65,13 +65,22 @@ fn report_of(alloc: Global, row: &Row) -> Result<Report, Fail> {
             trace: Vec::from_slice(alloc, trace)?,
         })?;
     }
+    Ok(fibers)
+}
+
+/// What is left in its queues, where these are the values.
+fn left_of(alloc: Global, queues: &[&[u64]]) -> Result<Vec<Vec<Item>>, Fail> {
     let mut left = Vec::new(alloc);
-    for values in row.left {
+    for values in queues {
         left.push(items(alloc, values)?)?;
     }
+    Ok(left)
+}
+
+fn report_of(alloc: Global, row: &Row) -> Result<Report, Fail> {
     Ok(Report {
-        fibers,
-        left,
+        fibers: fibers_of(alloc, row.fibers)?,
+        left: left_of(alloc, row.left)?,
         outside: Vec::new(alloc),
         late: 0,
     })
@@ -180,30 +189,6 @@ fn assert_writes(rt: &impl Abort, alloc: Global, names: &[&str], rows: &[Row]) -
     Ok(())
 }
 
-/// Takes so many bytes, one at a time, and then answers an error.
-#[derive(Drop)]
-struct Full {
-    taken: Vec<u8>,
-    room: usize,
-}
-
-impl Write for Full {
-    fn write(&mut self, buf: &[u8]) -> io::Result<usize> {
-        let Some(first) = buf.first() else {
-            return Ok(0);
-        };
-        if self.taken.len() >= self.room {
-            return Err(io::Error::from(io::ErrorKind::Other));
-        }
-        self.taken.push(*first)?;
-        Ok(1)
-    }
-
-    fn flush(&mut self) -> io::Result<()> {
-        Ok(())
-    }
-}
-
 /// Sees that a writer with so much room has that much of the text, and that this is told.
 fn assert_prefix(
     rt: &impl Abort,
@@ -212,13 +197,10 @@ fn assert_prefix(
     report: &Report,
     room: usize,
     whole: &[u8],
-) -> Result<(), Fail>
+)
     requires { IsWritable (queue_names (meaning script.now)) report.now }
 {
-    let mut writer = Full {
-        taken: Vec::new(alloc),
-        room,
-    };
+    let mut writer = Full::new(alloc, room);
     let written = write_report(alloc, script, report, &mut writer);
     let wanted = if room < whole.len() {
         Err(OutFault::Write)
@@ -226,12 +208,7 @@ fn assert_prefix(
         Ok(())
     };
     assert_eq!(rt; written, wanted, "room for {room}");
-    assert_eq!(rt;
-        writer.taken.as_slice(),
-        &whole[..room.min(whole.len())],
-        "room for {room}"
-    );
-    Ok(())
+    writer.assert_has(rt, whole);
 }
 
 static BLOCKED: Row<'static> = Row {
@@ -241,22 +218,24 @@ static BLOCKED: Row<'static> = Row {
     traces: "",
 };
 
+/// Sees that of the report of `BLOCKED`.
+fn assert_prefixes(rt: &impl Abort, alloc: Global, script: &Script, report: &Report) {
+    assert!(rt; is_writable(script, report));
+    for room in 0..=31 {
+        assert_prefix(rt, alloc, script, report, room, BLOCKED.report.as_bytes());
+    }
+}
+
 #[test]
 fn writer_that_fails_has_a_prefix_of_the_text(rt: HostRuntime) -> Result<(), Fail> {
     let script = script_with(rt.alloc(), &["q"])?;
     let report = report_of(rt.alloc(), &BLOCKED)?;
-    assert!(rt; is_writable(&script, &report));
-    for room in 0..=31 {
-        assert_prefix(
-            &rt,
-            rt.alloc(),
-            &script,
-            &report,
-            room,
-            BLOCKED.report.as_bytes(),
-        )?;
-    }
+    assert_prefixes(&rt, rt.alloc(), &script, &report);
+    Ok(())
+}
+
+#[test]
+fn faults_have_their_numbers(rt: HostRuntime) {
     assert_eq!(rt; OutFault::Write.number(), 1);
     assert_eq!(rt; OutFault::Memory.number(), 2);
-    Ok(())
 }
