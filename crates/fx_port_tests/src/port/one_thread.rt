@@ -1,16 +1,8 @@
 //! Fibers on one thread, and what they see of one another.
-use super::play::{Move, Plan, play};
+use super::play::{Move, Row, Told, assert_rows};
 use Move::Step;
 use fx_term::{Arg, Event, Node, NodeId, Outcome};
 use std::test::Fail;
-
-/// A script with a queue of capacity 1, how it goes, and the trace of the main fiber.
-struct Row {
-    what: &'static str,
-    nodes: &'static [Node],
-    moves: &'static [Move],
-    trace: &'static [Event],
-}
 
 static ROWS: [Row; 3] = [
     Row {
@@ -21,11 +13,11 @@ static ROWS: [Row; 3] = [
             Node::Start(0, NodeId(0), NodeId(1)),
         ],
         moves: &[Step(0), Step(1), Step(0), Step(0)],
-        trace: &[
+        told: Told::Trace(&[
             Event::Start(1),
             Event::Got(0, 5),
             Event::Ended(Outcome::Succeeded(5)),
-        ],
+        ]),
     },
     Row {
         what: "a fiber is canceled and awaited",
@@ -43,12 +35,12 @@ static ROWS: [Row; 3] = [
             Step(0),
             Step(0),
         ],
-        trace: &[
+        told: Told::Trace(&[
             Event::Start(1),
             Event::Request(1),
             Event::Awaited(1),
             Event::Ended(Outcome::Succeeded(0)),
-        ],
+        ]),
     },
     Row {
         what: "a full queue refuses",
@@ -58,19 +50,15 @@ static ROWS: [Row; 3] = [
             Node::Let(None, NodeId(0), NodeId(1)),
         ],
         moves: &[Step(0), Step(0), Step(0), Step(0)],
-        trace: &[
+        told: Told::Trace(&[
             Event::Put(0, 5),
             Event::Refused(0),
             Event::Ended(Outcome::Succeeded(0)),
-        ],
+        ]),
     },
 ];
 
 #[test]
 fn a_fiber_sees_what_others_did(rt: HostRuntime) -> Result<(), Fail> {
-    for row in &ROWS {
-        let seen = play(&rt, rt.alloc(), row.nodes, 1, Plan::Moves(row.moves))?;
-        assert_eq!(rt; (row.what, seen.trace.as_slice()), (row.what, row.trace));
-    }
-    Ok(())
+    assert_rows(&rt, rt.alloc(), &ROWS)
 }

@@ -1,5 +1,6 @@
 //! Plays a script over words and rings.
-ghost use Rattle.std.specs.Prelude.{◌≡◌, ◌<◌, ◌≤◌, ℕ, true};
+ghost use Rattle.std.specs.Prelude.{◌≡◌, ◌<◌, ◌≤◌, [], IfOk, ℕ, true};
+ghost use Rattle.fx_fiber.specs.PortFacts.{first_facts};
 ghost use Rattle.fx_model.specs.Origin.{main_begin_of};
 ghost use Rattle.fx_port.specs.Rows.{AreFirst};
 ghost use Rattle.fx_word.specs.SeatView.{first_view};
@@ -12,7 +13,9 @@ use fx_term::{Code, Event, Memory, Node};
 use fx_word::{WordSeat, Words};
 use std::alloc::Global;
 use std::marker::Brand;
+use std::process::Abort;
 use std::sync::Wait;
+use std::test::Fail;
 use std::thread;
 use std::thread::Threads;
 
@@ -45,6 +48,37 @@ pub struct Seen {
     pub woken: Vec<u32>,
 }
 
+/// What the fibers share, and what the main one has of it.
+#[derive(Drop)]
+struct Opened {
+    words: Words,
+    queues: Vec<FiberQueue>,
+    sources: Sources,
+    seat: WordSeat,
+    passes: Passes,
+}
+
+/// What so many fibers share, with one queue of this capacity.
+fn open(alloc: Global, capacity: u32, fibers: u32) -> Result<Opened, Memory>
+    requires capacity { (0 < capacity) × (capacity ≤ 1024) }
+    requires fibers { (0 < fibers) × (fibers ≤ 4096) }
+    ensures words { IfOk result (λ all. all.words.fibers ≡ fibers) }
+    ensures seat { IfOk result
+        (λ all. IsOf all.seat all.words × (all.seat.view ≡ first_view fibers)) }
+    ensures passes { IfOk result (λ all. AreFirst fibers all.queues.items all.passes) }
+{
+    let (words, seat) = Words::new(alloc, fibers)?;
+    let (queues, passes) = open_queues(alloc, &[capacity], fibers)?;
+    let sources = Sources::new(alloc, fibers)?;
+    Ok(Opened {
+        words,
+        queues,
+        sources,
+        seat,
+        passes,
+    })
+}
+
 /// Plays a script of these nodes, with one queue of this capacity.
 pub fn play<R: Threads + Wait + Sync>(
     rt: &R,
@@ -58,37 +92,56 @@ pub fn play<R: Threads + Wait + Sync>(
     let Ok(code) = Code::build(alloc, Vec::from_slice(alloc, nodes)?, 1) else {
         return Err(Memory);
     };
-    let fibers = main_begin(alloc, &code).end;
-    let (words, seat) = Words::new(alloc, fibers)?;
-    let (queues, passes) = open_queues(alloc, &[capacity], fibers)?;
-    let sources = Sources::new(alloc, fibers)?;
-    play_as::<Brand, R>(
-        rt, alloc, &code, &words, &queues, &sources, seat, passes, plan,
-    )
+    let opened = open(alloc, capacity, main_begin(alloc, &code).end)?;
+    play_as::<Brand, R>(rt, alloc, &code, opened, plan)
 }
 
+/// The same, where a type names what the fibers share.
 fn play_as<N: RunBrand + Send + Sync, R: Threads + Wait + Sync>(
     rt: &R,
     alloc: Global,
     code: &Code,
-    words: &Words,
-    queues: &[FiberQueue],
-    sources: &Sources,
-    seat: WordSeat,
-    passes: Passes,
+    opened: Opened,
     plan: Plan<'_>,
 ) -> Result<Seen, Memory>
     requires code { code.now.nodes ≡ N.nodes }
-    requires words { (words.now ≡ N.words) × (0 < N.words.fibers) }
-    requires queues { queues.now ≡ N.queues }
+    requires words { (opened.words ≡ N.words) × (0 < N.words.fibers) }
+    requires queues { opened.queues.items ≡ N.queues }
     requires total { N.words.fibers ≡ (main_begin_of code.now.nodes).end }
-    requires seat { IsOf seat N.words × (seat.view ≡ first_view N.words.fibers) }
-    requires passes { AreFirst N.words.fibers N.queues passes }
+    requires seat { IsOf opened.seat N.words × (opened.seat.view ≡ first_view N.words.fibers) }
+    requires passes { AreFirst N.words.fibers N.queues opened.passes }
     requires may { (id : ℕ) → N.may id ≡ true }
 {
-    let mine = Notes::<N>::new(alloc, words.fibers())?;
-    let theirs = Notes::<N>::new(alloc, words.fibers())?;
-    let port = ThreadPort::<R, N>::new(rt, alloc, words, queues, sources, seat, passes);
+    let mine = Notes::<N>::new(alloc, opened.words.fibers())?;
+    let theirs = Notes::<N>::new(alloc, opened.words.fibers())?;
+    let Opened {
+        words,
+        queues,
+        sources,
+        seat,
+        passes,
+    } = opened;
+    let port = ThreadPort::<R, N>::new(rt, alloc, &words, &queues, &sources, seat, passes);
+    play_over(rt, alloc, code, port, mine, theirs, plan)
+}
+
+/// The same over a port of any kind, so that nothing below is proved of one kind. Its fiber is the main one, and
+/// has not begun.
+fn play_over<R: Threads + Wait + Sync, P: Port<Shared: Send + Drop> + Send + Drop>(
+    rt: &R,
+    alloc: Global,
+    code: &Code,
+    port: P,
+    mine: P::Shared,
+    theirs: P::Shared,
+    plan: Plan<'_>,
+) -> Result<Seen, Memory>
+    requires code { code.now.nodes ≡ P.theory.code }
+    requires facts { P.theory.facts port ≡ first_facts 0 (main_begin_of code.now.nodes) }
+    requires total { (main_begin_of code.now.nodes).end ≡ P.theory.total }
+    requires fresh { P.theory.agrees port [] }
+    requires may { (id : ℕ) → P.theory.may id ≡ true }
+{
     let main = Fiber::new(alloc, code, port)?;
     match plan {
         Plan::Moves(moves) => by_moves(alloc, code, main, mine, moves),
@@ -186,26 +239,40 @@ fn beside<R: Threads + Wait + Sync, P: Port<Shared: Send + Drop> + Send + Drop>(
     code: &Code,
     mut main: Fiber<P>,
     mut mine: P::Shared,
-    mut theirs: P::Shared,
+    theirs: P::Shared,
 ) -> Result<Seen, Memory>
     requires code { code.now.nodes ≡ P.theory.code }
 {
-    let woken = Vec::new(alloc);
-    let Some(other) = step(&mut main, code, &mut mine)? else {
-        let trace = main.into_trace();
-        return Ok(Seen { trace, woken });
+    let trace = match step(&mut main, code, &mut mine)? {
+        Some(other) => on_two_threads(rt, code, main, other, mine, theirs)?,
+        None => main.into_trace(),
     };
-    let (one, two) = thread::join(
+    let woken = Vec::new(alloc);
+    Ok(Seen { trace, woken })
+}
+
+/// The trace of one fiber, where it and another one are stepped till they have ended.
+fn on_two_threads<R: Threads + Wait + Sync, P: Port<Shared: Send + Drop> + Send + Drop>(
+    rt: &R,
+    code: &Code,
+    one: Fiber<P>,
+    other: Fiber<P>,
+    mut mine: P::Shared,
+    mut theirs: P::Shared,
+) -> Result<Vec<Event>, Memory>
+    requires code { code.now.nodes ≡ P.theory.code }
+{
+    let (one, other) = thread::join(
         rt,
         move || -> Result<Vec<Event>, Memory>
             requires { code.now.nodes ≡ P.theory.code }
-        { to_end(rt, code, main, &mut mine) },
+        { to_end(rt, code, one, &mut mine) },
         move || -> Result<Vec<Event>, Memory>
             requires { code.now.nodes ≡ P.theory.code }
         { to_end(rt, code, other, &mut theirs) },
     );
-    let _other = two?;
-    Ok(Seen { trace: one?, woken })
+    let _other = other?;
+    one
 }
 
 /// Steps the fiber till it has ended. Those that it starts make no step.
@@ -225,4 +292,40 @@ fn to_end<R: Wait, P: Port + Drop>(
         thread::yield_now();
     }
     Ok(fiber.into_trace())
+}
+
+/// What is to be seen of a run.
+pub enum Told {
+    /// The trace of the main fiber.
+    Trace(&'static [Event]),
+    /// Who was woken, in their order.
+    Woken(&'static [u32]),
+}
+
+/// A script with a queue of capacity 1, how it goes, and what is seen then.
+pub struct Row {
+    pub what: &'static str,
+    pub nodes: &'static [Node],
+    pub moves: &'static [Move],
+    pub told: Told,
+}
+
+fn is_seen(seen: &Seen, told: &Told) -> bool {
+    match *told {
+        Told::Trace(trace) => seen.trace.as_slice() == trace,
+        Told::Woken(woken) => seen.woken.as_slice() == woken,
+    }
+}
+
+/// Sees that each script goes as it is told.
+pub fn assert_rows<R: Threads + Wait + Sync + Abort>(
+    rt: &R,
+    alloc: Global,
+    rows: &[Row],
+) -> Result<(), Fail> {
+    for row in rows {
+        let seen = play(rt, alloc, row.nodes, 1, Plan::Moves(row.moves))?;
+        assert!(rt; is_seen(&seen, &row.told), "{}", row.what);
+    }
+    Ok(())
 }

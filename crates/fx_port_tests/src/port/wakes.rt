@@ -1,16 +1,8 @@
 //! Whom each deed wakes.
-use super::play::{Move, Plan, play};
+use super::play::{Move, Row, Told, assert_rows};
 use Move::{Request, Step};
 use fx_term::{Arg, Node, NodeId};
 use std::test::Fail;
-
-/// A script with a queue of capacity 1, how it goes, and who was woken, in their order.
-struct Row {
-    what: &'static str,
-    nodes: &'static [Node],
-    moves: &'static [Move],
-    woken: &'static [u32],
-}
 
 /// `start h (pure 1) (join h (x (pure x)) (e (raise e)) (pure 2))`.
 const JOINS: &[Node] = &[
@@ -38,7 +30,7 @@ static ROWS: [Row; 8] = [
             Node::Start(0, NodeId(0), NodeId(1)),
         ],
         moves: &[Step(0), Step(1), Step(0)],
-        woken: &[1],
+        told: Told::Woken(&[1]),
     },
     Row {
         what: "a get wakes who waits for room",
@@ -50,31 +42,31 @@ static ROWS: [Row; 8] = [
             Node::Let(None, NodeId(0), NodeId(3)),
         ],
         moves: &[Step(0), Step(0), Step(0), Step(1), Step(0)],
-        woken: &[1],
+        told: Told::Woken(&[1]),
     },
     Row {
         what: "a request wakes its fiber",
         nodes: CANCELS,
         moves: &[Step(0), Step(1), Step(0)],
-        woken: &[1],
+        told: Told::Woken(&[1]),
     },
     Row {
         what: "a request from outside wakes its fiber",
         nodes: CANCELS,
         moves: &[Step(0), Step(1), Request(1)],
-        woken: &[1],
+        told: Told::Woken(&[1]),
     },
     Row {
         what: "an end wakes who waits for its outcome",
         nodes: JOINS,
         moves: &[Step(0), Step(0), Step(1), Step(1)],
-        woken: &[0],
+        told: Told::Woken(&[0]),
     },
     Row {
         what: "an end wakes nobody who has not waited",
         nodes: JOINS,
         moves: &[Step(0), Step(1), Step(1), Step(0)],
-        woken: &[],
+        told: Told::Woken(&[]),
     },
     Row {
         // the put wakes fiber 1, which is canceled before it takes the element
@@ -98,7 +90,7 @@ static ROWS: [Row; 8] = [
             Step(0),
             Step(1),
         ],
-        woken: &[1, 1, 2],
+        told: Told::Woken(&[1, 1, 2]),
     },
     Row {
         // fiber 1 is canceled before the put
@@ -125,15 +117,11 @@ static ROWS: [Row; 8] = [
             Step(0),
             Step(0),
         ],
-        woken: &[1, 2],
+        told: Told::Woken(&[1, 2]),
     },
 ];
 
 #[test]
 fn each_deed_wakes_those_that_wait_for_it_alone(rt: HostRuntime) -> Result<(), Fail> {
-    for row in &ROWS {
-        let seen = play(&rt, rt.alloc(), row.nodes, 1, Plan::Moves(row.moves))?;
-        assert_eq!(rt; (row.what, seen.woken.as_slice()), (row.what, row.woken));
-    }
-    Ok(())
+    assert_rows(&rt, rt.alloc(), &ROWS)
 }
