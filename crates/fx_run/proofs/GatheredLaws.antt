@@ -1,7 +1,7 @@
 -- What the fibers of a run left is gathered one fiber after the other.
 use Rattle.std.proofs.Common.{◌≡◌, ◌↔◌, ℕ, ◌<◌, Bool, true, Option, Some, None, List, [], ◌∷◌, ◌++◌, length, map, slice_get, zero, suc}
 use Rattle.std.proofs.Common.{refl, sym, ◌∙◌, ap, subst, inl, inr, ⊎_elim, arith}
-use Rattle.std.specs.Prelude.{◌==◌}
+use Rattle.std.specs.Prelude.{◌==◌, option_map}
 use Rattle.std.specs.List.Sorted.{IsStrictlyIncreasing}
 use Rattle.std.proofs.lemmas.Bool.{eqb-true}
 use Rattle.std.proofs.lemmas.Option.{same_Some}
@@ -197,12 +197,12 @@ first_is_lost nodes f fs rises other = ((by_find (bare_at (map (without_port nod
               absurd (omega (arith, lt, zero)))
         ]
 
-pub main_is_lost : (nodes : List Node) (all : List (FiberView PortView)) (f : FiberView PortView) (fs : List (FiberView PortView)) → all ≡ f ∷ fs
-    → IsStrictlyIncreasing (map (λ (f : FiberView PortView). f.port.words.own.id) all) → (f.port.words.own.id ≡ 0 → ⊥)
+pub main_is_lost : (nodes : List Node) (all : List (FiberView PortView))
+    → IsStrictlyIncreasing (map (λ (f : FiberView PortView). f.port.words.own.id) all)
+    → (option_map (λ (f : FiberView PortView). f.port.words.own.id) (slice_get all 0) ≡ Some 0 → ⊥)
     → IsLeast (IsLost (map (without_port nodes) all)) 0
-main_is_lost nodes all f fs is rises other =
-    subst (λ l. IsLeast (IsLost (map (without_port nodes) l)) 0) (sym is)
-    (first_is_lost nodes f fs (subst (λ l. IsStrictlyIncreasing (map (λ (f : FiberView PortView). f.port.words.own.id) l)) is rises) other)
+main_is_lost nodes [] rises other = ((refl, inl refl), λ g lt. absurd (omega (arith, lt)))
+main_is_lost nodes (f ∷ fs) rises other = first_is_lost nodes f fs rises (λ e. other (ap Some e))
 
 pub rises_so : (nodes : List Node) (all : List (FiberView PortView)) (bares : List BareView) → bares ≡ map (without_port nodes) all
     → IsStrictlyIncreasing (map (λ (f : FiberView PortView). f.port.words.own.id) all) → AreAscending bares
@@ -211,3 +211,10 @@ rises_so nodes all bares is rises = subst AreAscending (sym is) (rise_without_po
 pub none_left : {A : Type 0} (xs : List A) → length xs ≡ 0 → xs ≡ []
 none_left [] e = refl
 none_left (x ∷ xs) e = absurd (omega (arith, e))
+
+-- the main fiber without its port, and then those after it
+pub all_without_ports : (nodes : List Node) (all : List (FiberView PortView)) (main : FiberView PortView) (others : List (FiberView PortView))
+    (first bares : List BareView) → all ≡ main ∷ others → first ≡ without_port nodes main ∷ [] → bares ≡ first ++ map (without_port nodes) others
+    → bares ≡ map (without_port nodes) all
+all_without_ports nodes all main others first bares is one more =
+    more ∙ ap (λ (l : List BareView). l ++ map (without_port nodes) others) one ∙ ap (map (without_port nodes)) (sym is)

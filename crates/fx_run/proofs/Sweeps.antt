@@ -1,9 +1,9 @@
--- A sweep that finds no fiber that can step leaves all fibers, and none of them can.
-use Rattle.std.proofs.Common.{◌≡◌, ℕ, Bool, true, false, Option, List, [], ◌∷◌, map, length, All, refl, sym, ◌∙◌, ap, subst, cond, arith}
+-- A sweep tries one fiber after the other; one that finds no fiber that can step leaves all fibers, and none of them can.
+use Rattle.std.proofs.Common.{◌≡◌, ℕ, Bool, true, false, Option, List, [], ◌∷◌, ◌++◌, append_assoc, map, length, All, refl, sym, ◌∙◌, ap, subst, cond, arith}
 use Rattle.std.specs.Prelude.{not}
 use Rattle.std.specs.List.{filter}
 use Rattle.std.specs.List.Sorted.{IsStrictlyIncreasing}
-use Rattle.std.proofs.lemmas.List.Elements.{All-nil, All-cons}
+use Rattle.std.proofs.lemmas.List.Elements.{All-nil, All-cons, filter-append}
 use Rattle.fx_term.specs.declared.node.Node.{Node}
 use Rattle.fx_term.specs.declared.outcome.Outcome.{Outcome}
 use Rattle.fx_term.specs.Script.{ScriptView}
@@ -14,6 +14,15 @@ use Rattle.fx_run.specs.Told.{ToldView, nothing_told, with_live, with_lives}
 use Rattle.fx_run.specs.Flows.{with_moves, rests_in, rests_of}
 use Rattle.fx_run.proofs.BetweenLaws.{told_outcomes, told_requested}
 use Rattle.fx_run.proofs.FlowLaws.{counted_rests, moves_append}
+
+-- what passes of the next one comes after what passed of those before it
+pub next_passes : {A : Type 0} (test : A → Bool) (kept more : List A) (x : A) (xs rest all : List A) → rest ≡ x ∷ xs
+    → more ≡ kept ++ filter test (x ∷ []) → kept ++ filter test rest ≡ filter test all → more ++ filter test xs ≡ filter test all
+next_passes {A} test kept more x xs rest all is put so =
+    ap (λ (l : List A). l ++ filter test xs) put
+    ∙ append_assoc kept (filter test (x ∷ [])) (filter test xs)
+    ∙ ap (λ (l : List A). kept ++ l) (sym (filter-append test (x ∷ []) xs) ∙ ap (filter test) (sym is))
+    ∙ so
 
 -- where none passes, each fails
 module _ {A : Type 0} (test : A → Bool) where

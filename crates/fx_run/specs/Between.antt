@@ -7,9 +7,11 @@ use Rattle.fx_term.specs.declared.event.Event.{Event}
 use Rattle.fx_term.specs.declared.outcome.Outcome.{Outcome}
 use Rattle.fx_term.specs.Script.{ScriptView, total}
 use Rattle.fx_model.specs.declared.closed.Closed.{Closed}
+use Rattle.fx_model.specs.Closed.{outside_of}
 use Rattle.fx_model.specs.Outside.{Outside, outside_of_lists, can_step}
 use Rattle.fx_model.specs.Report.{outcome_shown, is_request_for}
 use Rattle.fx_fiber.specs.Fiber.{FiberView, progress}
+use Rattle.fx_fiber.specs.Theory.{Theory}
 use Rattle.fx_port.specs.Marks.{is_marked}
 use Rattle.fx_port.specs.PortView.{PortView}
 use Rattle.fx_run.specs.Flows.{rests_of}
@@ -54,6 +56,13 @@ can_go nodes c f = can_step (outside_at c) f.port.words.own.id f.counts (progres
 
 abbrev pub is_unable : List Node → ClosedLists → FiberView PortView → Bool
 is_unable nodes c f = not (can_go nodes c f)
+
+-- the same of a fiber over a port of any kind
+abbrev pub can_go_by : {P S : Type 0} → Theory P S → Closed → FiberView P → Bool
+can_go_by theory c f = can_step (outside_of c) (theory.facts f.port).number f.counts (progress theory.code f)
+
+abbrev pub is_unable_by : {P S : Type 0} → Theory P S → Closed → FiberView P → Bool
+is_unable_by theory c f = not (can_go_by theory c f)
 
 -- none of the fibers can step by what they have come to
 abbrev pub NoneCanGo : List Node → ScriptView → List (FiberView PortView) → Type 0

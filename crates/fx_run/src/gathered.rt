@@ -1,21 +1,24 @@
 //! Gathers what the fibers of a run left.
-ghost use Rattle.std.specs.Prelude.{◌≡◌, ◌++◌, ◌∷◌, [], map, IfOk, IfErr, OnOk};
+ghost use Rattle.std.specs.Prelude.{◌≡◌, ◌≢◌, ◌++◌, ◌∷◌, [], Some, option_map, slice_get, map, IfOk, IfErr, OnOk};
 ghost use Rattle.std.specs.List.Sorted.{IsStrictlyIncreasing};
+ghost use Rattle.std.specs.Vec.Iter.{into_iter_items};
 ghost use Rattle.fx_fiber.specs.Fiber.{FiberView};
 ghost use Rattle.fx_port.specs.PortView.{PortView};
 ghost use Rattle.fx_run.specs.Apart.{without_port};
 ghost use Rattle.fx_run.specs.Reported.{AreAscending};
 ghost use Rattle.fx_run.specs.RunFault.{IsLostFault};
 ghost use Rattle.fx_run.specs.Gathered.{IsGathered, AreAllowed};
+ghost use Rattle.fx_run.specs.declared.run_fault.RunFault.TheVariants.{Lost};
 
 use crate::run_fault::RunFault;
-use fx_fiber::{Bare, Fiber};
+use fx_fiber::{Bare, Fiber, Port};
 use fx_port::{Marks, Passes, RunBrand, ThreadPort, gather};
 use fx_queue::FiberQueue;
 use fx_term::{Code, Memory};
 use fx_word::{WordSeat, Words};
 use std::alloc::Global;
 use std::sync::Wait;
+use std::vec::IntoIter;
 
 /// What the fibers of a run left: themselves, ascending, and what their ports had, taken in by the main
 /// fiber's seat and passes, with a mark for each number that was requested from outside.
@@ -76,6 +79,50 @@ impl Gathered {
         self.bares.push(bare)?;
         Ok(())
     }
+
+    /// Takes in what these fibers left, one after the other.
+    fn take_in_all<'a, R: Wait, N: RunBrand>(
+        &mut self,
+        words: &Words,
+        queues: &[FiberQueue],
+        code: &Code,
+        fibers: IntoIter<Fiber<ThreadPort<'a, R, N>>>,
+    ) -> Result<(), Memory>
+        requires words { words.now ≡ N.words }
+        requires queues { queues.now ≡ N.queues }
+        requires code { code.now.nodes ≡ N.nodes }
+        requires gathered { IsGathered N.nodes N.words N.queues self.old }
+        requires allowed { AreAllowed N.may self.old.noted }
+        ensures gathered { OnOk result (IsGathered N.nodes N.words N.queues self.new) }
+        ensures bares { OnOk result (self.new.bares.items
+            ≡ self.old.bares.items ++ map (without_port N.nodes) (into_iter_items fibers.entry)) }
+        ensures allowed { OnOk result (AreAllowed N.may self.new.noted) }
+    {
+        for fiber in fibers {
+            self.take_in(words, queues, code, fiber)?;
+        }
+        Ok(())
+    }
+}
+
+/// The main fiber, which must be the first one, and those after it; where it is not, that one is lost.
+fn main_and_others<P: Port + Drop>(
+    fibers: Vec<Fiber<P>>,
+) -> Result<(Fiber<P>, IntoIter<Fiber<P>>), RunFault>
+    ensures main { IfOk result (λ parts. (P.theory.facts parts.0.port).number ≡ 0) }
+    ensures others { IfOk result (λ parts. fibers.items ≡ parts.0 ∷ into_iter_items parts.1) }
+    ensures fault { IfErr result (λ fault. (fault ≡ Lost 0)
+        × (option_map (λ (f : FiberView P). (P.theory.facts f.port).number) (slice_get fibers.items 0)
+        ≢ Some 0)) }
+{
+    let mut others = fibers.into_iter();
+    let Some(main) = others.next() else {
+        return Err(RunFault::Lost(0));
+    };
+    if main.id() != 0 {
+        return Err(RunFault::Lost(0));
+    }
+    Ok((main, others))
 }
 
 /// Parts the fibers from their ports, and gathers what they left. They rise by number, and the first one
@@ -101,16 +148,8 @@ pub(crate) fn gather_all<'a, R: Wait, N: RunBrand>(
     ensures fault { IfErr result
         (λ fault. IsLostFault (map (without_port code.now.nodes) fibers.entry.items) fault) }
 {
-    let mut fibers = fibers.into_iter();
-    let Some(main) = fibers.next() else {
-        return Err(RunFault::Lost(0));
-    };
-    if main.id() != 0 {
-        return Err(RunFault::Lost(0));
-    }
+    let (main, others) = main_and_others(fibers)?;
     let mut gathered = Gathered::of_main(alloc, code, main)?;
-    for fiber in fibers {
-        gathered.take_in(words, queues, code, fiber)?;
-    }
+    gathered.take_in_all(words, queues, code, others)?;
     Ok(gathered)
 }

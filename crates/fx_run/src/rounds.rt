@@ -29,7 +29,7 @@ pub struct RanFibers<'a, R: Wait, N: RunBrand> {
 /// What is left of a round that was swept: the fibers, and what each worker shared with them.
 #[derive(Drop)]
 struct SweptRound<'a, R: Wait, N: RunBrand> {
-    swept: Swept<'a, R, N>,
+    swept: Swept<ThreadPort<'a, R, N>>,
     shared: Vec<Notes<N>>,
 }
 
@@ -79,7 +79,7 @@ pub fn run_rounds<
 fn first<'a, R: Wait, N: RunBrand>(
     alloc: Global,
     main: Fiber<ThreadPort<'a, R, N>>,
-) -> Result<Swept<'a, R, N>, Memory>
+) -> Result<Swept<ThreadPort<'a, R, N>>, Memory>
     ensures able { IfOk result (λ swept. swept.able.items ≡ main.entry ∷ []) }
     ensures unable { IfOk result (λ swept. swept.unable.items ≡ []) }
 {
@@ -101,7 +101,7 @@ fn swept_round<
     rt: &R,
     alloc: Global,
     script: &Script,
-    fibers: Swept<'a, R, N>,
+    fibers: Swept<ThreadPort<'a, R, N>>,
     shared: Vec<Notes<N>>,
     gate: &G,
 ) -> Result<SweptRound<'a, R, N>, Memory>

@@ -1,13 +1,13 @@
 //! Looks between two rounds for waiting fibers that can step.
-ghost use Rattle.std.specs.Prelude.{◌≡◌, IfOk};
+ghost use Rattle.std.specs.Prelude.{◌≡◌, ◌++◌, ◌∷◌, [], IfOk, OnOk};
 ghost use Rattle.std.specs.List.{filter};
 ghost use Rattle.fx_text.specs.View.{meaning};
 ghost use Rattle.fx_report.specs.Script.{script_of};
-ghost use Rattle.fx_run.specs.Between.{lists_of, closed_of, can_go, is_unable};
+ghost use Rattle.fx_run.specs.Between.{lists_of, closed_of, can_go, can_go_by, is_unable, is_unable_by};
 
 use crate::told::Told;
 use crate::whole_report::capacities;
-use fx_fiber::{Closed, Fiber};
+use fx_fiber::{Closed, Fiber, Port};
 use fx_port::{RunBrand, ThreadPort};
 use fx_term::{Code, Memory};
 use fx_text::Script;
@@ -16,9 +16,27 @@ use std::sync::Wait;
 
 /// Fibers between two rounds: those that can step, and those that cannot.
 #[derive(Drop)]
-pub(crate) struct Swept<'a, R: Wait, N: RunBrand> {
-    pub able: Vec<Fiber<ThreadPort<'a, R, N>>>,
-    pub unable: Vec<Fiber<ThreadPort<'a, R, N>>>,
+pub(crate) struct Swept<P: Port> {
+    pub able: Vec<Fiber<P>>,
+    pub unable: Vec<Fiber<P>>,
+}
+
+impl<P: Port + Drop> Swept<P> {
+    /// Puts one more fiber to those that can step, or to those that cannot.
+    fn put(&mut self, code: &Code, closed: &Closed, fiber: Fiber<P>) -> Result<(), Memory>
+        requires { code.now.nodes ≡ P.theory.code }
+        ensures able { OnOk result (self.new.able.items
+            ≡ self.old.able.items ++ filter (can_go_by P.theory closed.now) (fiber ∷ [])) }
+        ensures unable { OnOk result (self.new.unable.items
+            ≡ self.old.unable.items ++ filter (is_unable_by P.theory closed.now) (fiber ∷ [])) }
+    {
+        if fiber.can_step(code, closed) {
+            self.able.push(fiber)?;
+        } else {
+            self.unable.push(fiber)?;
+        }
+        Ok(())
+    }
 }
 
 /// What these fibers of a script's run have come to, by their traces, and by what was requested from
@@ -42,27 +60,41 @@ pub(crate) fn closed_between<'a, R: Wait, N: RunBrand>(
     })
 }
 
+/// Parts those that can step from those that cannot, over a port of any kind.
+fn sweep_any<P: Port + Drop>(
+    alloc: Global,
+    code: &Code,
+    closed: &Closed,
+    fibers: Vec<Fiber<P>>,
+) -> Result<Swept<P>, Memory>
+    requires { code.now.nodes ≡ P.theory.code }
+    ensures able { IfOk result
+        (λ swept. swept.able.items ≡ filter (can_go_by P.theory closed.now) fibers.items) }
+    ensures unable { IfOk result
+        (λ swept. swept.unable.items ≡ filter (is_unable_by P.theory closed.now) fibers.items) }
+{
+    let mut swept = Swept {
+        able: Vec::new(alloc),
+        unable: Vec::new(alloc),
+    };
+    for fiber in fibers {
+        swept.put(code, closed, fiber)?;
+    }
+    Ok(swept)
+}
+
 /// Parts those that can step, by what all have come to, from those that cannot.
 pub(crate) fn sweep<'a, R: Wait, N: RunBrand>(
     alloc: Global,
     code: &Code,
     closed: &Closed,
     fibers: Vec<Fiber<ThreadPort<'a, R, N>>>,
-) -> Result<Swept<'a, R, N>, Memory>
+) -> Result<Swept<ThreadPort<'a, R, N>>, Memory>
     requires { code.now.nodes ≡ N.nodes }
     ensures able { IfOk result (λ swept. swept.able.items
         ≡ filter (can_go N.nodes (lists_of closed.now)) fibers.entry.items) }
     ensures unable { IfOk result (λ swept. swept.unable.items
         ≡ filter (is_unable N.nodes (lists_of closed.now)) fibers.entry.items) }
 {
-    let mut able = Vec::new(alloc);
-    let mut unable = Vec::new(alloc);
-    for fiber in fibers {
-        if fiber.can_step(code, closed) {
-            able.push(fiber)?;
-        } else {
-            unable.push(fiber)?;
-        }
-    }
-    Ok(Swept { able, unable })
+    sweep_any(alloc, code, closed, fibers)
 }

@@ -1,17 +1,29 @@
-use Rattle.std.proofs.Common.{rules, ◌≡◌, [], ◌++◌, ◌∙◌, sym, ap, map, append-nil}
+use Rattle.std.proofs.Common.{rules, ◌≡◌, Err, map, sym, subst}
 use Rattle.fx_run.specs.Apart.{without_port}
-use Rattle.fx_run.proofs.GatheredLaws.{main_is_lost, rises_so, none_left}
+use Rattle.fx_run.specs.RunFault.{IsLostFault}
+use Rattle.fx_run.specs.declared.run_fault.RunFault.{RunFault}
+use Rattle.fx_run.proofs.GatheredLaws.{main_is_lost, all_without_ports, rises_so}
 use Rattle.fx_run.proofs.gathered.gather_all.Goals as goal
 
-pub returns-then-id-ne0-clause-fault : goal.returns-then-id-ne0-clause-fault
-returns-then-id-ne0-clause-fault g c =
-    main_is_lost c.args.code.now.nodes c.args.fibers.items c.in-Some.main c.next.new.self.rest.items (search rules) c.requires.ascending
-    (λ e. c.if-id-ne0.true (c.id.ensures.is ∙ e))
+pub returns-in_err-main-clause-fault : goal.returns-in_err-main-clause-fault
+returns-in_err-main-clause-fault g c =
+    let nodes = c.args.code.now.nodes in
+    let told = c.in_err-main.ensures.fault in
+    let lost : IsLostFault (map (without_port nodes) c.args.fibers.items) c.in_err-main.field-0.0 =
+    subst (λ (fault : RunFault). IsLostFault (map (without_port nodes) c.args.fibers.items) fault) (sym told.0)
+    (main_is_lost nodes c.args.fibers.items c.requires.ascending told.1) in
+    let same : c.from_residual.result ≡ Err c.in_err-main.field-0.0 = search rules in
+    rw same lost
+
+pub returns-clause-bares : goal.returns-clause-bares
+returns-clause-bares g c =
+    let whole = all_without_ports g.N.RunBrand.nodes c.args.fibers.items c.in_ok-main.main c.in_ok-main.others.rest.items c.in_ok-gathered.gathered.bares.items
+    c.take_in_all.new.self.bares.items c.in_ok-main.ensures.others c.in_ok-gathered.ensures.bares c.in_ok-take_in_all.ensures.bares in
+    rw c.requires.code whole
 
 pub returns-clause-ascending : goal.returns-clause-ascending
 returns-clause-ascending g c =
-    let none : c.loop-fiber.fiber-iterator.rest.items ≡ [] =
-    none_left c.loop-fiber.fiber-iterator.rest.items (sym c.loop-fiber.fiber-iterator.rest.ok.0 ∙ c.in-None.ensures.steps.0) in
-    let bares = c.loop-fiber.gathered.bares.items in
-    rises_so g.N.RunBrand.nodes c.args.fibers.items bares
-    (sym (append-nil bares) ∙ (ap (λ l. bares ++ map (without_port g.N.RunBrand.nodes) l) (sym none) ∙ c.loop-fiber.invariant.bares)) c.requires.ascending
+    rises_so g.N.RunBrand.nodes c.args.fibers.items c.take_in_all.new.self.bares.items
+    (all_without_ports g.N.RunBrand.nodes c.args.fibers.items c.in_ok-main.main c.in_ok-main.others.rest.items c.in_ok-gathered.gathered.bares.items
+    c.take_in_all.new.self.bares.items c.in_ok-main.ensures.others c.in_ok-gathered.ensures.bares c.in_ok-take_in_all.ensures.bares)
+    c.requires.ascending

@@ -1,0 +1,15 @@
+use Rattle.fx_run.specs.Between.{can_go_by, is_unable_by}
+use Rattle.fx_run.proofs.Sweeps.{next_passes}
+use Rattle.fx_run.proofs.sweep.sweep_any.Goals as goal
+
+pub loop-fiber-preserved : goal.loop-fiber-preserved
+loop-fiber-preserved g c =
+    let before = c.loop-fiber in
+    let after = c.put.new.self in
+    let put = c.in_ok-put.ensures in
+    record {
+      able = next_passes (can_go_by g.P.Port.theory c.args.closed.now) before.swept.able.items after.able.items c.in-Some.fiber
+          c.next.new.self.rest.items before.fiber-iterator.rest.items c.args.fibers.items c.in-Some.ensures.steps.0 put.able before.invariant.able;
+      unable = next_passes (is_unable_by g.P.Port.theory c.args.closed.now) before.swept.unable.items after.unable.items c.in-Some.fiber
+          c.next.new.self.rest.items before.fiber-iterator.rest.items c.args.fibers.items c.in-Some.ensures.steps.0 put.unable before.invariant.unable;
+    }
