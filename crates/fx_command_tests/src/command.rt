@@ -64,6 +64,13 @@ struct Ran {
     err: Vec<u8>,
 }
 
+impl Ran {
+    /// Did it end with this status, and print this on standard output and on standard error?
+    fn has(&self, status: u8, out: &[u8], err: &[u8]) -> bool {
+        self.status == status && self.out.as_slice() == out && self.err.as_slice() == err
+    }
+}
+
 /// A text that is read to its end.
 fn whole(left: &[u8]) -> Text<'_> {
     Text {

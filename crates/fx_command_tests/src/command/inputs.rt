@@ -36,9 +36,7 @@ static TEXTS: [(&str, Text<'static>); 3] = [
 /// Sees that the call prints nothing, and says that.
 fn assert_unread(rt: &impl Machine, words: &str, said: &str) -> Result<(), Fail> {
     let ran = run_of(rt, words, &TEXTS)?;
-    assert_eq!(rt; ran.status, UNREADABLE, "{words}");
-    assert_eq!(rt; ran.err.as_slice(), said.as_bytes(), "{words}");
-    assert!(rt; ran.out.is_empty(), "{words}");
+    assert!(rt; ran.has(UNREADABLE, b"", said.as_bytes()), "{words}");
     Ok(())
 }
 

@@ -38,18 +38,37 @@ impl Write for Full {
     }
 }
 
-/// The words, the script F, what is printed where there is room, and the status then.
-type Row = (&'static str, &'static str, &'static str, u8);
+/// A call on a script F, what it prints and says where there is room, and its status then.
+struct Row {
+    words: &'static str,
+    script: &'static str,
+    printed: &'static str,
+    said: &'static str,
+    status: u8,
+}
 
 static PRINTED: [Row; 3] = [
-    ("replay F", "(main (foo))", "refused 5 at 7\n", REFUSED),
-    ("check F", "(main (cede))", "fibers 1 queues 0\n", ENDED),
-    (
-        "replay F",
-        "(main (pure 5))",
-        "fiber 0 succeeded 5\n",
-        ENDED,
-    ),
+    Row {
+        words: "replay F",
+        script: "(main (foo))",
+        printed: "refused 5 at 7\n",
+        said: "F:1:8: `foo` is no word of a form\n(main (foo))\n       ^\n",
+        status: REFUSED,
+    },
+    Row {
+        words: "check F",
+        script: "(main (cede))",
+        printed: "fibers 1 queues 0\n",
+        said: "",
+        status: ENDED,
+    },
+    Row {
+        words: "replay F",
+        script: "(main (pure 5))",
+        printed: "fiber 0 succeeded 5\n",
+        said: "",
+        status: ENDED,
+    },
 ];
 
 /// The run of the program with these words, over this script F, into an output with so much room.
@@ -78,35 +97,30 @@ fn run_into(
     })
 }
 
-/// Sees that an output with so much room has a prefix of the text, and that this is told.
-fn assert_prefix(
-    rt: &impl Machine,
-    row: &Row,
-    room: usize,
-    when_full: WhenFull,
-) -> Result<(), Fail> {
-    let (line, script, printed, ended) = *row;
-    let ran = run_into(rt, line, script, room, when_full)?;
-    let has_room = room >= printed.len();
-    let is_told = ran.err.as_slice() == b"fault write\n".as_slice();
-    let wanted = &printed.as_bytes()[..room.min(printed.len())];
-    // where words for people are told, they are those of a refusal
-    assert!(rt; is_told != has_room, "{script}, room for {room}");
-    assert_eq!(rt;
-        (ran.status, ran.out.as_slice()),
-        (if has_room { ended } else { FAULT }, wanted),
-        "{script}, room for {room}"
-    );
+/// Did the run of a row print as much as there is room for, and tell where that is not all?
+fn is_cut(ran: &Ran, row: &Row, room: usize) -> bool {
+    let printed = row.printed.as_bytes();
+    if room < printed.len() {
+        ran.has(FAULT, &printed[..room], b"fault write\n")
+    } else {
+        ran.has(row.status, printed, row.said.as_bytes())
+    }
+}
+
+/// Sees that of an output with so much room.
+fn assert_cut(rt: &impl Machine, row: &Row, room: usize, when_full: WhenFull) -> Result<(), Fail> {
+    let ran = run_into(rt, row.words, row.script, room, when_full)?;
+    assert!(rt; is_cut(&ran, row, room), "{}, room for {room}", row.script);
     Ok(())
 }
 
 #[test]
 fn output_that_is_full_has_a_prefix_of_the_text(rt: HostRuntime) -> Result<(), Fail> {
     for row in &PRINTED {
-        for room in 0..=row.2.len() {
-            assert_prefix(&rt, row, room, WhenFull::Fails)?;
-            assert_prefix(&rt, row, room, WhenFull::IsInterrupted)?;
-            assert_prefix(&rt, row, room, WhenFull::TakesNothing)?;
+        for room in 0..=row.printed.len() {
+            assert_cut(&rt, row, room, WhenFull::Fails)?;
+            assert_cut(&rt, row, room, WhenFull::IsInterrupted)?;
+            assert_cut(&rt, row, room, WhenFull::TakesNothing)?;
         }
     }
     Ok(())
