@@ -20,12 +20,12 @@ abbrev pub IsChosen : Option ℕ → WorldView → ℕ → Type 0
 IsChosen only w f = IfSome only (λ g. Some f ≡ Some g) × IfNone only (IsLeastOf (is_ready_in w) (Some f))
 
 -- where one alone is to go, nothing was done yet
-abbrev pub IsAtFirst : {J : Type 0} → Option ℕ → PlainMachine J → PlainMachine J → Next → Type 0
-IsAtFirst only old p next = IfSome only (λ g. (p ≡ old) × (next ≡ Step))
+abbrev pub HasNotGone : {J : Type 0} → Option ℕ → PlainMachine J → PlainMachine J → Next → Type 0
+HasNotGone only old p next = IfSome only (λ g. (p ≡ old) × (next ≡ Step))
 
 -- who is chosen is ready
 pub chosen_ready : {J : Type 0} (only : Option ℕ) (old p : PlainMachine J) (next : Next) (f : ℕ) → IfSome only (λ g. is_ready_in old.world g ≡ true)
-    → IsAtFirst only old p next → IsChosen only p.world f → is_ready_in p.world f ≡ true
+    → HasNotGone only old p next → IsChosen only p.world f → is_ready_in p.world f ≡ true
 chosen_ready {J} None old p next f ready first chosen = chosen.1.0
 chosen_ready {J} (Some g) old p next f ready first chosen =
     ap (is_ready_in p.world) (same_Some f g chosen.0) ∙ ap (λ (r : PlainMachine J). is_ready_in r.world g) first.0 ∙ ready
@@ -33,11 +33,11 @@ chosen_ready {J} (Some g) old p next f ready first chosen =
 module _ {J : Type 0} (nodes : List Node) (only : Option ℕ) (old p q p' : PlainMachine J) (f : ℕ)
     (tries : (s : ScriptView) (m : WholeMachine) → StandsForRun nodes s q m → Tries nodes s m f q p') where
   -- the one that alone was to go has made its try
-  pub goes_alone : (next : Next) → IsAtFirst only old p next → IfSome only (λ g. Some f ≡ Some g) → (next ≡ Step → q ≡ p)
+  pub goes_alone : (next : Next) → HasNotGone only old p next → IfSome only (λ g. Some f ≡ Some g) → (next ≡ Step → q ≡ p)
       → IfSome only (λ g. (s : ScriptView) (m : WholeMachine) → StandsForRun nodes s old m → Tries nodes s m g old p')
   goes_alone next first chosen none = by_one only first chosen
     where
-      by_one : (only : Option ℕ) → IsAtFirst only old p next → IfSome only (λ g. Some f ≡ Some g)
+      by_one : (only : Option ℕ) → HasNotGone only old p next → IfSome only (λ g. Some f ≡ Some g)
           → IfSome only (λ g. (s : ScriptView) (m : WholeMachine) → StandsForRun nodes s old m → Tries nodes s m g old p')
       by_one None first chosen = chosen
       by_one (Some g) first chosen =
