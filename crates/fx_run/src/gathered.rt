@@ -86,7 +86,7 @@ impl Gathered {
         words: &Words,
         queues: &[FiberQueue],
         code: &Code,
-        fibers: IntoIter<Fiber<ThreadPort<'a, R, N>>>,
+        fibers: &mut IntoIter<Fiber<ThreadPort<'a, R, N>>>,
     ) -> Result<(), Memory>
         requires words { words.now ≡ N.words }
         requires queues { queues.now ≡ N.queues }
@@ -95,10 +95,11 @@ impl Gathered {
         requires allowed { AreAllowed N.may self.old.noted }
         ensures gathered { OnOk result (IsGathered N.nodes N.words N.queues self.new) }
         ensures bares { OnOk result (self.new.bares.items
-            ≡ self.old.bares.items ++ map (without_port N.nodes) (into_iter_items fibers.entry)) }
+            ≡ self.old.bares.items ++ map (without_port N.nodes) (into_iter_items fibers.old)) }
         ensures allowed { OnOk result (AreAllowed N.may self.new.noted) }
     {
-        for fiber in fibers {
+        // A `for` over these fibers is three times as dear to prove.
+        while let Some(fiber) = fibers.next() {
             self.take_in(words, queues, code, fiber)?;
         }
         Ok(())
@@ -148,8 +149,8 @@ pub(crate) fn gather_all<'a, R: Wait, N: RunBrand>(
     ensures fault { IfErr result
         (λ fault. IsLostFault (map (without_port code.now.nodes) fibers.entry.items) fault) }
 {
-    let (main, others) = main_and_others(fibers)?;
+    let (main, mut others) = main_and_others(fibers)?;
     let mut gathered = Gathered::of_main(alloc, code, main)?;
-    gathered.take_in_all(words, queues, code, others)?;
+    gathered.take_in_all(words, queues, code, &mut others)?;
     Ok(gathered)
 }

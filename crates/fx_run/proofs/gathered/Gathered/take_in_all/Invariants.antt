@@ -7,6 +7,9 @@ abbrev pub invariant-loop-fiber : goal.invariant-loop-fiber
 invariant-loop-fiber g l = record {
   gathered : IsGathered g.N.RunBrand.nodes g.N.RunBrand.words g.N.RunBrand.queues l.self;
   allowed : AreAllowed g.N.RunBrand.may l.self.noted;
-  bares : l.self.bares.items ++ map (without_port g.N.RunBrand.nodes) l.fiber-iterator.rest.items
+  bares : l.self.bares.items ++ map (without_port g.N.RunBrand.nodes) l.fibers.rest.items
       ≡ l.fn.self.bares.items ++ map (without_port g.N.RunBrand.nodes) l.fn.fibers.rest.items;
 }
+
+abbrev pub decreases-loop-fiber : goal.decreases-loop-fiber
+decreases-loop-fiber g l = l.fibers.rest.len
