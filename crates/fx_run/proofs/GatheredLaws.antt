@@ -208,10 +208,6 @@ pub rises_so : (nodes : List Node) (all : List (FiberView PortView)) (bares : Li
     → IsStrictlyIncreasing (map (λ (f : FiberView PortView). f.port.words.own.id) all) → AreAscending bares
 rises_so nodes all bares is rises = subst AreAscending (sym is) (rise_without_ports nodes all rises)
 
-pub none_left : {A : Type 0} (xs : List A) → length xs ≡ 0 → xs ≡ []
-none_left [] e = refl
-none_left (x ∷ xs) e = absurd (omega (arith, e))
-
 -- the main fiber without its port, and then those after it
 pub all_without_ports : (nodes : List Node) (all : List (FiberView PortView)) (main : FiberView PortView) (others : List (FiberView PortView))
     (first bares : List BareView) → all ≡ main ∷ others → first ≡ without_port nodes main ∷ [] → bares ≡ first ++ map (without_port nodes) others
