@@ -1,5 +1,5 @@
 //! A fiber over a port.
-ghost use Rattle.std.specs.Prelude.{◌≡◌, ◌<◌, ◌≤◌, ◌^◌, [], true, false, Some, None, IfOk, OnOk, OnErr};
+ghost use Rattle.std.specs.Prelude.{◌≡◌, ◌<◌, ◌≤◌, ◌^◌, [], true, false, Some, None, IfOk, OnErr};
 
 use crate::bare::Bare;
 use crate::begin::main_begin;
@@ -193,16 +193,13 @@ impl<P: Port> Fiber<P> {
     }
 
     /// Requests the cancellation of a fiber from outside, by this fiber's port, and changes nothing else.
-    /// Where the port has no memory for it, nothing has changed.
-    pub fn outside(&mut self, shared: &mut P::Shared, id: u32) -> Result<(), Memory>
+    pub fn outside(&mut self, shared: &mut P::Shared, id: u32)
         requires may { P.theory.may id ≡ true }
-        ensures told { OnOk result
-            (P.theory.calls.outsides self.old.port shared.old id self.new.port shared.new) }
+        ensures told { P.theory.calls.outsides self.old.port shared.old id self.new.port shared.new }
         ensures same { self.new ≡ record self.old { port = self.new.port } }
         ensures facts { P.theory.facts self.new.port ≡ P.theory.facts self.old.port }
-        ensures unchanged { OnErr result ((self.new ≡ self.old) × (shared.new ≡ shared.old)) }
     {
-        self.port.outside(shared, id)
+        self.port.outside(shared, id);
     }
 
     /// The fiber without its port, and the port.

@@ -1,6 +1,6 @@
 //! What a fiber reaches of the outside.
 ghost use Rattle.std.specs.Prelude.{◌≡◌, ◌<◌, ◌^◌, true, false, []};
-ghost use Rattle.std.specs.Prelude.{IfSome, IfOk, IfNone, OnOk, OnErr};
+ghost use Rattle.std.specs.Prelude.{IfSome, IfOk, IfNone, OnErr};
 ghost use Rattle.std.specs.Bool.{OnTrue, OnFalse};
 ghost use Rattle.fx_fiber.specs.Deed.{Started, Requested, Saw, Got, FoundEmpty, FoundEnded, Ended};
 ghost use Rattle.fx_fiber.specs.Deed.{deed_of_offer};
@@ -51,7 +51,7 @@ use fx_term::{Begin, Memory, Offered, Outcome};
 /// | `take` | `Got`, or `FoundEmpty` | nothing has changed where there is no element |
 /// | `start` | `Started` | a new port for the child; `range` begins after the child's range; nothing has changed where memory ran out |
 /// | `finish` | `Ended` | `has_finished` |
-/// | `outside` | none | `agrees` holds of the deeds as before; nothing has changed where memory ran out |
+/// | `outside` | none | `agrees` holds of the deeds as before |
 /// | `wait_on` | none | `agrees` holds of the deeds as before |
 /// | `woken` | none, since it is no fiber's | its answer is below `total` |
 ///
@@ -173,13 +173,12 @@ pub trait Port: Sized {
         ensures deed { HasDone theory (Ended outcome) self.old self.new };
 
     /// Requests the cancellation of a fiber from outside, whatever its number is. It is no deed of this
-    /// port's fiber.
-    fn outside(&mut self, shared: &mut Self::Shared, id: u32) -> Result<(), Memory>
+    /// port's fiber, and takes no memory: what it notes has its room since the port was made.
+    fn outside(&mut self, shared: &mut Self::Shared, id: u32)
         requires may { theory.may id ≡ true }
-        ensures told { OnOk result (theory.calls.outsides self.old shared.old id self.new shared.new) }
+        ensures told { theory.calls.outsides self.old shared.old id self.new shared.new }
         ensures facts { theory.facts self.new ≡ theory.facts self.old }
-        ensures deed { HasDoneNothing theory self.old self.new }
-        ensures unchanged { OnErr result ((self.new ≡ self.old) × (shared.new ≡ shared.old)) };
+        ensures deed { HasDoneNothing theory self.old self.new };
 
     /// Registers the fiber with what it waits for, so that it is woken once that may have come. It is no
     /// deed.

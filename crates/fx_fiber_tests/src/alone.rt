@@ -92,9 +92,7 @@ impl<J: CodeBrand> Port for Alone<J> {
         self.has_ended = true;
     }
 
-    fn outside(&mut self, _alloc: &mut Global, _id: u32) -> Result<(), Memory> {
-        Ok(())
-    }
+    fn outside(&mut self, _alloc: &mut Global, _id: u32) {}
 
     fn wait_on(&mut self, _alloc: &mut Global, _source: Source) {}
 

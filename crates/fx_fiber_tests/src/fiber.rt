@@ -208,11 +208,10 @@ impl<J: CodeBrand> Port for TestPort<J> {
         looks.told.set(Some(outcome));
     }
 
-    fn outside(&mut self, looks: &mut Looks, id: u32) -> Result<(), Memory> {
+    fn outside(&mut self, looks: &mut Looks, id: u32) {
         if id == self.id {
             looks.request = Some(0);
         }
-        Ok(())
     }
 
     fn wait_on(&mut self, looks: &mut Looks, source: Source) {

@@ -110,9 +110,8 @@ impl<J: CodeBrand> Port for PlainPort<J> {
         world.finish(self.id, outcome);
     }
 
-    fn outside(&mut self, world: &mut PlainWorld, id: u32) -> Result<(), Memory> {
+    fn outside(&mut self, world: &mut PlainWorld, id: u32) {
         world.request_from_outside(id);
-        Ok(())
     }
 
     fn wait_on(&mut self, _world: &mut PlainWorld, _source: Source) {

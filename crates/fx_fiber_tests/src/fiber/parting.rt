@@ -36,7 +36,7 @@ fn part<J: CodeBrand>(alloc: Global, code: &Code, request: Request) -> Result<Pa
     let mut looks = Looks::new(None);
     let mut fiber = main_fiber::<J>(alloc, code)?;
     stepped(alloc, code, &mut fiber, &mut looks, before)?;
-    fiber.outside(&mut looks, id)?;
+    fiber.outside(&mut looks, id);
     stepped(alloc, code, &mut fiber, &mut looks, after)?;
     let (bare, port) = fiber.part(code);
     Ok(Parted {
