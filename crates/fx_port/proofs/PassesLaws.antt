@@ -65,6 +65,7 @@ found_after_act v log a n b h f = record {
   since = Begins-trans (log ++ a ∷ []) v.own.seen f.seen (Begins-more log v.own.seen (a ∷ []) h) f.since;
   known = f.known;
   cuts = f.cuts;
+  within = f.within;
   lone = f.lone;
 }
 
@@ -84,6 +85,7 @@ found_after_part v end n b f = record {
   since = f.since;
   known = f.known;
   cuts = f.cuts;
+  within = f.within;
   lone = λ l. absurd (not_nil v.own.parts v.own.next l.1);
 }
 
@@ -106,6 +108,7 @@ found_now v n h =
       since = Begins-all v.own.seen;
       known = t.aware v.own (inl refl);
       cuts = t.cuts v.own (inl refl);
+      within = t.within;
       lone = λ l. lone v h.2.0 h.0 t l.0 l.1 l.2;
     }
 

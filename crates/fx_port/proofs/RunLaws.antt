@@ -36,15 +36,17 @@ module _ (number next end : ℕ) (queues : List QueueId) (passes : List HeldPass
   pub nexts_are : (q : ℕ) (s : HeldPass) → slice_get passes q ≡ Some s → s.view.own.next ≡ next
   nexts_are q s at = let t = queue_at queues passes q s are.as_many at in (are.each q s t.0 at t.1).2
 
-  pub set_are : (q : ℕ) (s s' : HeldPass) → slice_get passes q ≡ Some s → IsSameFiber s s' → AreOf number next end queues (set passes q s')
-  set_are q s s' at same = record {
+  pub set_are : (q : ℕ) (s s' : HeldPass) → slice_get passes q ≡ Some s → IsSameFiber s s' → s'.view.fibers ≡ s.view.fibers
+      → AreOf number next end queues (set passes q s')
+  set_are q s s' at same as_many = record {
     as_many = length-set passes q s' ∙ are.as_many;
     each = λ k u i hu hq. dite (ℕ_discrete k q)
         (λ y.
         let e : s' ≡ u = same_Some s' u (sym (get_set_same passes q s' s at) ∙ (ap (λ (j : ℕ). slice_get (set passes q s') j) (sym y) ∙ hu)) in
         let old = are.each q s i at (ap (slice_get queues) (sym y) ∙ hq) in
-        subst (λ (w : HeldPass). IsOf w i × (w.view.own.id ≡ number) × (w.view.own.next ≡ next) × (w.view.own.end ≡ end) × (w.view.taken ≡ [])) e
-        ((same.table ∙ old.0.0, same.cap ∙ old.0.1), same.id ∙ old.1, same.next ∙ old.2, same.end ∙ old.3, same.taken ∙ old.4))
+        subst (λ (w : HeldPass). IsOf w i × (w.view.own.id ≡ number) × (w.view.own.next ≡ next) × (w.view.own.end ≡ end) × (w.view.taken ≡ [])
+        × (w.view.fibers ≡ i.fibers)) e
+        ((same.table ∙ old.0.0, same.cap ∙ old.0.1), same.id ∙ old.1, same.next ∙ old.2, same.end ∙ old.3, same.taken ∙ old.4, as_many ∙ old.5))
         (λ n. are.each k u i (sym (get_set_else passes q k s' n) ∙ hu) hq);
   }
 
@@ -52,16 +54,18 @@ module _ (number next end : ℕ) (queues : List QueueId) (passes : List HeldPass
   kept_are split = record {
     as_many = length-map passes (kept_pass split) ∙ are.as_many;
     each = λ k u i hu hq. let t = part_cases (kept_pass split) passes k u hu in let old = are.each k t.0 i t.1 hq in
-        subst (λ (w : HeldPass). IsOf w i × (w.view.own.id ≡ number) × (w.view.own.next ≡ split) × (w.view.own.end ≡ end) × (w.view.taken ≡ [])) t.2
-        (old.0, old.1, refl, old.3, old.4);
+        subst (λ (w : HeldPass). IsOf w i × (w.view.own.id ≡ number) × (w.view.own.next ≡ split) × (w.view.own.end ≡ end) × (w.view.taken ≡ [])
+        × (w.view.fibers ≡ i.fibers)) t.2
+        (old.0, old.1, refl, old.3, old.4, old.5);
   }
 
   given_are : (split after : ℕ) → after ≡ next + 1 → AreOf next after split queues (map (given_pass split) passes)
   given_are split after follows = record {
     as_many = length-map passes (given_pass split) ∙ are.as_many;
     each = λ k u i hu hq. let t = part_cases (given_pass split) passes k u hu in let old = are.each k t.0 i t.1 hq in
-        subst (λ (w : HeldPass). IsOf w i × (w.view.own.id ≡ next) × (w.view.own.next ≡ after) × (w.view.own.end ≡ split) × (w.view.taken ≡ [])) t.2
-        (old.0, old.2, ap (λ (k : ℕ). k + 1) old.2 ∙ sym follows, refl, refl);
+        subst (λ (w : HeldPass). IsOf w i × (w.view.own.id ≡ next) × (w.view.own.next ≡ after) × (w.view.own.end ≡ split) × (w.view.taken ≡ [])
+        × (w.view.fibers ≡ i.fibers)) t.2
+        (old.0, old.2, ap (λ (k : ℕ). k + 1) old.2 ∙ sym follows, refl, refl, old.5);
   }
 
   can_split : (id split : ℕ) → id ≡ next → id < split → split ≤ end → CanSplit id split passes
@@ -123,17 +127,17 @@ module _ (words : WordsId) (queues : List QueueId) (may : ℕ → Bool) (p : Por
     allowed = run.allowed;
   }
 
-  acted : (q : ℕ) (s s' : HeldPass) (passes : List HeldPass) → slice_get p.passes q ≡ Some s → IsSameFiber s s' → passes ≡ set p.passes q s'
-      → IsOfRun words queues may (with_passes p passes)
-  acted q s s' passes at same is = with_row passes
+  acted : (q : ℕ) (s s' : HeldPass) (passes : List HeldPass) → slice_get p.passes q ≡ Some s → IsSameFiber s s'
+      → s'.view.fibers ≡ s.view.fibers → passes ≡ set p.passes q s' → IsOfRun words queues may (with_passes p passes)
+  acted q s s' passes at same as_many is = with_row passes
       (subst (λ (l : List HeldPass). AreOf p.words.own.id p.words.own.next p.words.own.end queues l) (sym is)
-      (set_are p.words.own.id p.words.own.next p.words.own.end queues p.passes run.passes q s s' at same))
+      (set_are p.words.own.id p.words.own.next p.words.own.end queues p.passes run.passes q s s' at same as_many))
 
   pub put_one : (q n : ℕ) (passes : List HeldPass) → PutsInto p.passes q n passes → IsOfRun words queues may (with_passes p passes)
-  put_one q n passes put = acted q put.pass put.pass' passes put.at put.same put.is
+  put_one q n passes put = acted q put.pass put.pass' passes put.at put.same (ap (λ (v : PassView). v.fibers) put.did.is) put.is
 
   pub got_one : (q n : ℕ) (passes : List HeldPass) → GetsFrom p.passes q n passes → IsOfRun words queues may (with_passes p passes)
-  got_one q n passes got = acted q got.pass got.pass' passes got.at got.same got.is
+  got_one q n passes got = acted q got.pass got.pass' passes got.at got.same (ap (λ (v : PassView). v.fibers) got.did.is) got.is
 
   pub started : (b : Begin) → IsOfRun words queues may (kept_port b p)
   started b = record {
@@ -182,6 +186,7 @@ first_run words queues may passes some first = record {
       ap (λ (v : PassView). v.own.next) t.1,
       ap (λ (v : PassView). v.own.end) t.1,
       ap (λ (v : PassView). v.taken) t.1,
+      ap (λ (v : PassView). v.fibers) t.1 ∙ sym (first.alike q i b),
     );
   };
   here = some;

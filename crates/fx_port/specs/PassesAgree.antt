@@ -1,5 +1,5 @@
 -- When a fiber's passes of all queues agree with its deeds.
-use Rattle.std.specs.Prelude.{◌≡◌, ℕ, List, [], ◌∷◌, ◌++◌, length, Option, Some, None, slice_get}
+use Rattle.std.specs.Prelude.{◌≡◌, ℕ, ◌≤◌, List, [], ◌∷◌, ◌++◌, length, Option, Some, None, slice_get}
 use Rattle.std.specs.List.{filter_map}
 use Rattle.fx_term.specs.declared.item.Item.{Item}
 use Rattle.fx_term.specs.declared.queue_event.QueueEvent.{QueueEvent}
@@ -28,7 +28,8 @@ abbrev pub IsLone : PassView → Type 0
 IsLone v = (v.own.id ≡ 0) × (v.own.parts ≡ []) × (v.taken ≡ [])
 
 -- at one moment after these events of the fiber, and before its next one, its queue held n elements: a legal history that has these events of the fiber
--- leaves so many. It begins with what the fiber had seen by then, which is the beginning of what it has seen now. Of a lone pass it is the fiber's own list
+-- leaves so many, and has none of a number that is no fiber's. It begins with what the fiber had seen by then, which is the beginning of what it has seen
+-- now. Of a lone pass it is the fiber's own list
 pub record WasFound (v : PassView) (n : ℕ) (before : List QueueEvent) : Type 0 where
   pub log : List QueueEvent
   pub items : List Item
@@ -39,6 +40,7 @@ pub record WasFound (v : PassView) (n : ℕ) (before : List QueueEvent) : Type 0
   pub since : Begins v.own.seen seen
   pub known : cut v.own.id seen ≡ before
   pub cuts : cut v.own.id log ≡ before
+  pub within : (f : ℕ) → v.fibers ≤ f → cut f log ≡ []
   pub lone : IsLone v → log ≡ before
 
 -- which refusal it was

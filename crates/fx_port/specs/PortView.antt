@@ -54,11 +54,12 @@ given_port fibers b p = record {
 abbrev pub first_port : ℕ → List HeldPass → PortView
 first_port fibers passes = record { words = seat.first_view fibers; passes = passes; noted = replicate fibers false }
 
--- each pass is of the queue at its place, of this fiber and with its range, and has taken in none
+-- each pass is of the queue at its place, for as many fibers, of this fiber and with its range, and has taken in none
 pub record AreOf (number next end : ℕ) (queues : List QueueId) (passes : List HeldPass) : Type 0 where
   pub as_many : length passes ≡ length queues
   pub each : (q : ℕ) (s : HeldPass) (i : QueueId) → slice_get passes q ≡ Some s → slice_get queues q ≡ Some i
       → IsOf s i × (s.view.own.id ≡ number) × (s.view.own.next ≡ next) × (s.view.own.end ≡ end) × (s.view.taken ≡ [])
+      × (s.view.fibers ≡ i.fibers)
 
 -- the port is one of a run over these words and queues, in which these numbers may be requested from outside
 pub record IsOfRun (words : WordsId) (queues : List QueueId) (may : ℕ → Bool) (p : PortView) : Type 0 where

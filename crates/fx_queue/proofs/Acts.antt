@@ -87,7 +87,7 @@ module _ (items more : List Item) (views : List PassView) (r : Running items vie
     legal = legal;
     kept = acted_kept r.log r.book r.keeper r.kept v.own at a own;
     set_up = still_set_up views p v (with_act v r.log a) here refl r.set_up;
-    dealt = own_dealt r.cap r.book v.own (with_act v r.log a).own refl r.seat p v views refl live here r.dealt;
+    dealt = own_dealt r.cap r.book v.own (with_act v r.log a).own refl refl r.seat p v views refl live here r.dealt;
   }
 
 pub pushes : (p : ℕ) (v : PassView) (x : Item) → v.stage ≡ Live → x.fiber ≡ v.own.id → x.nth ≡ puts v.own.acts → Pushes Ringed v.cap p v x (DidPut v x.value)

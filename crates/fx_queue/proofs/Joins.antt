@@ -33,6 +33,7 @@ module _ (cap : ℕ) (book : Book) (seat : ℕ → ℕ) (p q : ℕ) (v w : PassV
   both_dealt : Dealt cap book seat p v → Dealt cap book seat q w → Dealt cap book moved p (joined v w)
   both_dealt dv dw = record {
     ready = dv.ready;
+    below = dv.below;
     here = λ d k. ⊎_elim
         (λ y. let t = dv.here d y in (t.0, moved_else d.id (λ z. ne (sym z ∙ t.1)) ∙ t.1))
         (λ y. let t = dw.here d y in (t.0, moved_here d.id t.1)) (cases d k);
@@ -44,6 +45,7 @@ module _ (cap : ℕ) (book : Book) (seat : ℕ → ℕ) (p q : ℕ) (v w : PassV
   rest_dealt : (r : ℕ) (u : PassView) → r ≢ q → Dealt cap book seat r u → Dealt cap book moved r u
   rest_dealt r u other d = record {
     ready = d.ready;
+    below = d.below;
     here = λ e k. let t = d.here e k in (
       t.0,
       moved_else e.id (λ z. other (sym t.1 ∙ z))

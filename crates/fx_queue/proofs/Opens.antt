@@ -65,9 +65,10 @@ module _ (cap n : ℕ) where
     rooted = λ i d h. inl (only i d h).0;
   }
 
-  opens_dealt : (p q : ℕ) (v : PassView) → q ≡ p → first_view cap n ≡ v → Dealt cap opens_book (λ _. p) q v
-  opens_dealt p q v y e = subst (λ (w : PassView). Dealt cap opens_book (λ _. p) q w) e record {
+  opens_dealt : 0 < n → (p q : ℕ) (v : PassView) → q ≡ p → first_view cap n ≡ v → Dealt cap opens_book (λ _. p) q v
+  opens_dealt some_fiber p q v y e = subst (λ (w : PassView). Dealt cap opens_book (λ _. p) q w) e record {
     ready = refl;
+    below = λ i d h. subst (λ (u : Entry). (u.id < n) × (u.end ≤ n)) (only i d h).1 (some_fiber, omega arith);
     here = λ d k. ⊎_elim (λ z. (
       ap opens_book (ap (λ (u : Entry). u.id) z) ∙ (at_that 0 (Some first) nobody 0 refl
           ∙ ap Some (sym z)),
@@ -83,8 +84,8 @@ none_blank : (n : ℕ) → nobody_view.stage ≢ Blank
 none_blank n b = let t : Spent ≡ Blank = b in let z : ⊥ = cc in z
 
 -- the blank pass, which is alone, becomes the first
-pub sets_up : (p cap n : ℕ) → Forks Ringed p blank_view (first_view cap n) nobody_view
-sets_up p cap n items views h here = ⊎_elim
+pub sets_up : (p cap n : ℕ) → 0 < n → Forks Ringed p blank_view (first_view cap n) nobody_view
+sets_up p cap n some_fiber items views h here = ⊎_elim
     (λ t.
     let at0 : p ≡ 0 = (only_blank p blank_view (subst (λ (l : List PassView). get_elem? l p ≡ some blank_view) t.1 here)).0 in
     let cases : (q : ℕ) (u : PassView) → get_elem? (set views p (first_view cap n) ++ nobody_view ∷ []) q ≡ some u
@@ -104,6 +105,6 @@ sets_up p cap n items views h here = ⊎_elim
       set_up =
           λ q u k. ⊎_elim (λ s. subst (λ (w : PassView). w.stage ≢ Blank) s.1 (first_blank cap n)) (λ s. subst (λ (w : PassView). w.stage ≢ Blank) s
           (none_blank n)) (cases q u k);
-      dealt = λ q u k live. ⊎_elim (λ s. opens_dealt cap n p q u s.0 s.1) (λ s. spent_live u.stage (sym (ap (λ (w : PassView). w.stage) s)) live) (cases q u k);
+      dealt = λ q u k live. ⊎_elim (λ s. opens_dealt cap n some_fiber p q u s.0 s.1) (λ s. spent_live u.stage (sym (ap (λ (w : PassView). w.stage) s)) live) (cases q u k);
     })
     (λ r. absurd (r.set_up p blank_view here refl)) h

@@ -18,7 +18,7 @@ use Rattle.fx_term.specs.Queue.{cut}
 use Rattle.fx_queue.specs.Entry.{new_entry}
 use Rattle.fx_queue.specs.History.{Begins}
 use Rattle.fx_queue.specs.PassView.{kept_part, given_part}
-use Rattle.fx_queue.specs.Rule.{Book, acts_in, Kept, Dealt, Ringed}
+use Rattle.fx_queue.specs.Rule.{Book, acts_in, Kept, IsBelow, Dealt, Ringed}
 use Rattle.fx_term.proofs.ListLaws.{at_end, Among-append_left, Among-append_right}
 use Rattle.fx_term.proofs.MapLaws.{at_that, at_other, at_cases, pick, pick_yes, pick_no}
 use Rattle.fx_queue.proofs.Histories.{cut-begins_none}
@@ -68,7 +68,7 @@ module _ (log : List QueueEvent) (book : Book) (keeper : ℕ → Option ℕ) (ke
 
   -- the new pass
   abbrev given : PassView → PassView
-  given v = record { stage = Live; cap = v.cap; own = right; taken = [] }
+  given v = record { stage = Live; cap = v.cap; fibers = v.fibers; own = right; taken = [] }
 
   abbrev book1 : Book
   book1 = with_at e.id (Some left) book
@@ -163,6 +163,18 @@ module _ (log : List QueueEvent) (book : Book) (keeper : ℕ → Option ℕ) (ke
         (cases2 i d h);
   }
 
+  below1 : (n : ℕ) → IsBelow n book → IsBelow n book1
+  below1 n all i d h = ⊎_elim
+      (λ t. subst (λ (u : Entry). (u.id < n) × (u.end ≤ n)) (same_Some left d t.1) (all e.id e at))
+      (λ t. all i d t.1) (at_cases e.id (Some left) book i (Some d) h)
+
+  below2 : (n : ℕ) → IsBelow n book1 → IsBelow n book2
+  below2 n all i d h = ⊎_elim
+      (λ t.
+      let le = (all e.id left (at_that e.id (Some left) book e.id refl)).1 in
+      subst (λ (u : Entry). (u.id < n) × (u.end ≤ n)) (same_Some right d t.1) (omega (arith, le, inside, some_number), omega (arith, le, inside)))
+      (λ t. all i d t.1) (at_cases e.next (Some right) book1 i (Some d) h)
+
   -- the new view goes behind the others
   dealt2 : (cap : ℕ) (seat : ℕ → ℕ) (p : ℕ) (v : PassView) (views : List PassView) → v.own ≡ e → v.cap ≡ cap → v.stage ≡ Live → get_elem? views p ≡ some v
       → ((q : ℕ) (u : PassView) → get_elem? views q ≡ some u → u.stage ≡ Live → Dealt cap book seat q u)
@@ -171,6 +183,7 @@ module _ (log : List QueueEvent) (book : Book) (keeper : ℕ → Option ℕ) (ke
   dealt2 cap seat p v views own ready live here all q u h open_ = ⊎_elim
       (λ t. subst (λ (w : PassView). Dealt cap book2 seat2 q w) t.1 record {
         ready = ready;
+        below = below2 v.fibers (below1 v.fibers (all p v here live).below);
         here = λ d k. ⊎_elim (λ y. (
           ap book2 (ap (λ (w : Entry). w.id) y) ∙ (here2 ∙ ap Some (sym y)),
           ap seat2 (ap (λ (w : Entry). w.id) y)
@@ -178,8 +191,9 @@ module _ (log : List QueueEvent) (book : Book) (keeper : ℕ → Option ℕ) (ke
         )) (λ y. absurd y) k;
         others = λ d k. absurd k;
       })
-      (λ t. let was = own_dealt cap book e left refl seat p v views own live here all q u t open_ in record {
+      (λ t. let was = own_dealt cap book e left refl refl seat p v views own live here all q u t open_ in record {
         ready = was.ready;
+        below = below2 u.fibers was.below;
         here = λ d k. let w = was.here d k in let new : d.id ≢ e.next = λ y. none-some d (sym unborn1 ∙ (ap book1 (sym y) ∙ w.0)) in
             (at_other e.next (Some right) book1 d.id new ∙ w.0, at_other e.next last seat d.id new ∙ w.1);
         others = was.others;

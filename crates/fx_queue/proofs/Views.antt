@@ -1,5 +1,5 @@
 -- Views of a running ring, and what they tell.
-use Rattle.std.proofs.Common.{◌≡◌, ◌≢◌, ℕ, ◌<◌, List, [], ◌∷◌, inl, inr, ⊎_elim, Option, Some, None, refl, sym, ◌∙◌, ap, subst, arith, zero, suc}
+use Rattle.std.proofs.Common.{◌≡◌, ◌≢◌, ℕ, ◌<◌, ◌≤◌, List, [], ◌∷◌, inl, inr, ⊎_elim, Option, Some, None, refl, sym, ◌∙◌, ap, subst, arith, zero, suc}
 use Rattle.std.proofs.lemmas.Option.{same_Some}
 use mathlib.Core.Option.{some, some-injective, some-ne-none}
 use lib.ListN.{get_elem?, set}
@@ -12,11 +12,11 @@ use Rattle.fx_queue.specs.declared.stage.Stage.TheVariants.{Blank, Live, Spent}
 use Rattle.fx_queue.specs.declared.pass_view.PassView.{PassView}
 use Rattle.fx_term.specs.Lists.{Among}
 use Rattle.fx_term.specs.Maps.{with_at}
-use Rattle.fx_term.specs.Queue.{Leaves}
+use Rattle.fx_term.specs.Queue.{cut, Leaves}
 use Rattle.fx_queue.specs.PassView.{blank_view, In, IsWhole, IsOnlyOf}
-use Rattle.fx_queue.specs.Rule.{Book, acts_in, Root, Kept, Dealt, Running, Ringed}
+use Rattle.fx_queue.specs.Rule.{Book, acts_in, Root, Kept, IsBelow, Dealt, Running, Ringed}
 use Rattle.fx_queue.specs.Told.{Tells}
-use Rattle.fx_term.proofs.MapLaws.{at_that, at_other}
+use Rattle.fx_term.proofs.MapLaws.{at_that, at_other, at_cases}
 use Rattle.fx_queue.proofs.Histories.{all_own}
 
 pub blank_live : {P : Type 0} (s : Stage) → s ≡ Blank → s ≡ Live → P
@@ -45,7 +45,17 @@ pub Root-grows : (book book' : Book) (i : ℕ)
 Root-grows book book' i g r = ⊎_elim inl (λ t. let w = g t.0 t.1 t.3 in inr (t.0, w.0, t.2, w.1, w.2 i t.4)) r
 
 -- each view after a step on the own entry has its entries
-module _ (cap : ℕ) (book : Book) (e e' : Entry) (same_id : e'.id ≡ e.id) where
+module _ (cap : ℕ) (book : Book) (e e' : Entry) (same_id : e'.id ≡ e.id) (same_end : e'.end ≡ e.end) where
+  still_below : (n : ℕ) → book e.id ≡ Some e → IsBelow n book → IsBelow n (with_at e.id (Some e') book)
+  still_below n at all i d h = ⊎_elim
+      (λ t.
+      let was = all e.id e at in
+      let id = same_id in
+      let end = same_end in
+      subst (λ (u : Entry). (u.id < n) × (u.end ≤ n)) (same_Some e' d t.1)
+      ((let lt = was.0 in omega (arith, lt, id)), (let le = was.1 in omega (arith, le, end))))
+      (λ t. all i d t.1) (at_cases e.id (Some e') book i (Some d) h)
+
   pub own_dealt : (seat : ℕ → ℕ) (p : ℕ) (v : PassView) (views : List PassView) → v.own ≡ e → v.stage ≡ Live → get_elem? views p ≡ some v
       → ((q : ℕ) (u : PassView) → get_elem? views q ≡ some u → u.stage ≡ Live → Dealt cap book seat q u)
       → (q : ℕ) (u : PassView) → get_elem? (set views p (record v { own = e' })) q ≡ some u → u.stage ≡ Live → Dealt cap (with_at e.id (Some e') book) seat q u
@@ -59,9 +69,13 @@ module _ (cap : ℕ) (book : Book) (e e' : Entry) (same_id : e'.id ≡ e.id) whe
       seat_own : seat e.id ≡ p
       seat_own = (subst (λ (d : Entry). (book d.id ≡ Some d) × (seat d.id ≡ p)) own (was.here v.own (inl refl))).1
 
+      at : book e.id ≡ Some e
+      at = subst (λ (d : Entry). book d.id ≡ Some d) own (was.here v.own (inl refl)).0
+
       mine : q ≡ p → Dealt cap (with_at e.id (Some e') book) seat q (record v { own = e' })
       mine y = record {
         ready = was.ready;
+        below = still_below v.fibers at was.below;
         here = λ d k. ⊎_elim
             (λ s. (
               ap (with_at e.id (Some e') book) (ap (λ (u : Entry). u.id) s ∙ same_id) ∙ (at_that e.id (Some e') book e.id refl ∙ ap Some (sym s)),
@@ -75,6 +89,7 @@ module _ (cap : ℕ) (book : Book) (e e' : Entry) (same_id : e'.id ≡ e.id) whe
       theirs : q ≢ p → Dealt cap book seat q u → Dealt cap (with_at e.id (Some e') book) seat q u
       theirs m w = record {
         ready = w.ready;
+        below = still_below u.fibers at w.below;
         here = λ d k. let t = w.here d k in
             (at_other e.id (Some e') book d.id (λ z. m (sym t.1 ∙ (ap seat z ∙ seat_own))) ∙ t.0, t.1);
         others = w.others;
@@ -113,6 +128,14 @@ module _ (log : List QueueEvent) (cap : ℕ) (book : Book) (keeper : ℕ → Opt
   pub only : IsOnlyOf v log
   only f n = kept.cuts f ∙ none_there f (book f) refl n
 
+-- no number but that of a fiber in the book has events
+none_above : (n f : ℕ) (log : List QueueEvent) (book : Book) (keeper : ℕ → Option ℕ) → Kept log book keeper → IsBelow n book → n ≤ f → cut f log ≡ []
+none_above n f log book keeper kept below le = kept.cuts f ∙ by_entry (book f) refl
+  where
+    by_entry : (m : Option Entry) → book f ≡ m → acts_in m ≡ []
+    by_entry None at = refl
+    by_entry (Some d) at = (let lt = (below f d at).0 in let named = kept.named f d at in absurd (omega (arith, lt, named, le)))
+
 pub tells : (items : List Item) (views : List PassView) (r : Running items views) (p : ℕ) (v : PassView) → get_elem? views p ≡ some v → v.stage ≡ Live
     → Tells v r.log items
 tells items views r p v at live =
@@ -124,6 +147,7 @@ tells items views r p v at live =
       aware = λ e k. r.kept.aware e.id e (d.here e k).0;
       apart = d.others;
       only = λ whole. only r.log r.cap r.book r.keeper r.kept r.seat p v d whole;
+      within = λ f le. none_above v.fibers f r.log r.book r.keeper r.kept d.below le;
     }
 
 -- the history of a first pass that split off and took in none is its own list

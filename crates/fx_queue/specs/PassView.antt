@@ -10,15 +10,15 @@ use Rattle.fx_queue.specs.Entry.{new_entry, acting}
 
 -- before the queue has its capacity
 abbrev pub blank_view : PassView
-blank_view = record { stage = Blank; cap = 0; own = new_entry 0 0 0 []; taken = [] }
+blank_view = record { stage = Blank; cap = 0; fibers = 0; own = new_entry 0 0 0 []; taken = [] }
 
 -- of the main fiber, which has all other numbers in its range
 abbrev pub first_view : ℕ → ℕ → PassView
-first_view cap fibers = record { stage = Live; cap = cap; own = new_entry 0 1 fibers []; taken = [] }
+first_view cap fibers = record { stage = Live; cap = cap; fibers = fibers; own = new_entry 0 1 fibers []; taken = [] }
 
 -- of a pass that another one took in
 abbrev pub nobody_view : PassView
-nobody_view = record { stage = Spent; cap = 0; own = new_entry 0 0 0 []; taken = [] }
+nobody_view = record { stage = Spent; cap = 0; fibers = 0; own = new_entry 0 0 0 []; taken = [] }
 
 -- what is left of a view by a split, and the view of the new pass: that of the first number, with the numbers after it up to end as its range, which
 -- has seen what its starter has
@@ -26,7 +26,13 @@ abbrev pub kept_part : ℕ → PassView → PassView
 kept_part end v = record v { own = record (v.own) { next = end; parts = v.own.parts ++ v.own.next ∷ [] } }
 
 abbrev pub given_part : ℕ → PassView → PassView
-given_part end v = record { stage = Live; cap = v.cap; own = new_entry v.own.next (v.own.next + 1) end v.own.seen; taken = [] }
+given_part end v = record {
+  stage = Live;
+  cap = v.cap;
+  fibers = v.fibers;
+  own = new_entry v.own.next (v.own.next + 1) end v.own.seen;
+  taken = [];
+}
 
 -- the view after an event of its own fiber, before which that was the history
 abbrev pub with_act : PassView → List QueueEvent → QueueEvent → PassView

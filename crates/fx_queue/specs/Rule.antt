@@ -36,9 +36,14 @@ pub record Kept (log : List QueueEvent) (book : Book) (keeper : ℕ → Option �
   pub free : (i f : ℕ) → keeper i ≡ Some f → book i ≡ None
   pub rooted : (i : ℕ) (e : Entry) → book i ≡ Some e → Root book i
 
+-- the fibers in the book, and the numbers in their ranges, are below n
+abbrev pub IsBelow : ℕ → Book → Type 0
+IsBelow n book = (i : ℕ) (e : Entry) → book i ≡ Some e → (e.id < n) × (e.end ≤ n)
+
 -- the pass at p has the entries of its fibers, and no other pass has them
 pub record Dealt (cap : ℕ) (book : Book) (seat : ℕ → ℕ) (p : ℕ) (v : PassView) : Type 0 where
   pub ready : v.cap ≡ cap
+  pub below : IsBelow v.fibers book
   pub here : (e : Entry) → In e v → (book e.id ≡ Some e) × (seat e.id ≡ p)
   pub others : (e : Entry) → Among e v.taken → e.id ≢ v.own.id
 

@@ -1,5 +1,5 @@
 -- What a step tells the pass that makes it.
-use Rattle.std.specs.Prelude.{◌≡◌, ◌≢◌, ℕ, ◌<◌, List, [], ◌∷◌, ◌++◌, length}
+use Rattle.std.specs.Prelude.{◌≡◌, ◌≢◌, ℕ, ◌<◌, ◌≤◌, List, [], ◌∷◌, ◌++◌, length}
 use Rattle.fx_term.specs.Lists.{Among}
 use Rattle.fx_term.specs.Queue.{cut, puts, Leaves}
 use Rattle.fx_term.specs.declared.item.Item.{Item}
@@ -18,9 +18,10 @@ pub record Tells (v : PassView) (log : List QueueEvent) (items : List Item) : Ty
   pub aware : (e : Entry) → In e v → cut e.id e.seen ≡ e.acts
   pub apart : (e : Entry) → Among e v.taken → e.id ≢ v.own.id
   pub only : IsWhole v → IsOnlyOf v log
+  pub within : (f : ℕ) → v.fibers ≤ f → cut f log ≡ []
 
--- a history stands behind these items: it is legal, begins with all that the pass has seen, and has of its fibers their events and no other;
--- of a pass that is the first and has taken in all, it has the events of these fibers alone
+-- a history stands behind these items: it is legal, begins with all that the pass has seen, has of its fibers their events and no other, and none of a
+-- number that is no fiber's; of a pass that is the first and has taken in all, it has the events of these fibers alone
 abbrev pub stands : PassView → List Item → Type 0
 stands v items = (log : List QueueEvent) × Tells v log items
 

@@ -69,6 +69,7 @@ impl FiberQueue {
     fn set_up<B: Bounded>(&self, mut blank: Pass<Item, PassView>) -> QueuePass
         requires pass { (blank.table_id ≡ self.now.table) × (blank.me.1 ≡ [])
             × (view blank ≡ blank_view) }
+        requires fibers { 0 < B.fibers }
         ensures { (result.table ≡ self.now.table) × (result.view ≡ first_view B.cap B.fibers) }
     {
         let _nobody = self.ring.another::<SetUp<B>>(&mut blank);

@@ -8,6 +8,8 @@ use std::collections::LinkedList;
 pub struct PassView {
     pub stage: Stage,
     pub cap: usize,
+    /// How many fibers the queue is for: each has a lower number.
+    pub fibers: u32,
     pub own: Entry,
     pub taken: LinkedList<Entry>,
 }

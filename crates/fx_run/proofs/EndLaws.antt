@@ -182,6 +182,11 @@ module _ (nodes : List Node) (words : word.WordsId) (queues : List QueueId) (g :
         answered = subst (λ bs. IsReported s bs (report_of bs r.left r.outside late) answer) (sym bares_same) r.answered;
       }
 
+      pub ended_fibers : (may : ℕ → Bool) (allowed : AreAllowed may g.noted) (settled : seat.IsSettled g.seat.view) (late : ℕ) (answer : ReportView)
+          (r : IsReportOf s g late answer) → (ends_so may allowed settled late answer r).fibers ≡ parted
+      unfolding ends_so
+      ended_fibers may allowed settled late answer r = refl
+
       -- and what its blocked fibers wait for, at queues that the script's term names
       module _ (may : ℕ → Bool) (allowed : AreAllowed may g.noted) (settled : seat.IsSettled g.seat.view) (late : ℕ) (answer : ReportView)
           (r : IsReportOf s g late answer) (scoped : IsScopedOver (λ f. true) s.term) (waits : List Wait) (are : waits ≡ all_waits g.bares.items) where

@@ -1,5 +1,5 @@
 -- From what is known when a run has ended, its report is lawful.
-use Rattle.std.proofs.Common.{◌≡◌, ℕ, ◌<◌, ◌≤◌, All, Bool, Option, Some, None, List, [], refl, sym, ◌∙◌, ap, subst, inl, inr}
+use Rattle.std.proofs.Common.{◌≡◌, ℕ, ◌<◌, ◌≤◌, All, Bool, Option, Some, None, List, [], refl, sym, ◌∙◌, ap, subst, inl, inr, ◌⊎◌, arith}
 use Rattle.std.specs.Prelude.{◌≢◌, length, slice_index_or}
 use Rattle.std.specs.List.{list_any}
 use Rattle.std.proofs.lemmas.Bool.{eq-eqb, cases_lt, or_left, or_right}
@@ -29,6 +29,7 @@ use Rattle.fx_model.proofs.HeadlineLaws.{lawful_report_holds}
 use Rattle.fx_fiber.specs.Bare.{reached}
 use Rattle.fx_word.specs.declared.entry.Entry.{Entry}
 use Rattle.fx_queue.specs.declared.entry.Entry as pass
+use Rattle.fx_queue.specs.History.{Begins}
 use Rattle.fx_queue.specs.PassView as queue
 use Rattle.fx_port.specs.PortView.{beginning_in}
 use Rattle.fx_run.specs.Parted.{Parted, bares_of, parted_at}
@@ -221,11 +222,21 @@ module _ (s : ScriptView) (nodes : List Node) (ps : List Parted) (left : List (L
       unfolding all_runs
       origins_told = record { main = main_begins_so term; child = λ f x e. all_labels (BeginsAs origin_in) f (λ p at. begins_as f p at) x e }
 
+      history_by : (q : ℕ) → (q < length s.capacities) ⊎ (length s.capacities ≤ q) → HasHistory told q (capacity_of s q)
+      history_by q (inl lt) = closed_history q (capacity_of s q) (queues q lt)
+      history_by q (inr le) = no_history q (subst (λ (n : ℕ). n ≤ q) (sym by_queue) le) (undeclared q le)
+
+      -- the history of a queue that was closed goes on from all that a fiber saw of it
+      begins_by : (q f : ℕ) (p : Parted) → q < length s.capacities → parted_at ps f ≡ Some p
+          → (o : (q < length s.capacities) ⊎ (length s.capacities ≤ q)) → Begins (history_by q o).history (p.passes q).seen
+      unfolding closed_history history_by
+      begins_by q f p some at (inl lt) =
+          let c = queues q lt in
+          c.rest.begins (p.passes q) (gathered_of ps ascending (λ (z : Parted). z.passes q) (queue.entries c.view) c.gathered f p at)
+      begins_by q f p some at (inr le) = absurd (omega (arith, some, le))
+
       history_told : (q : ℕ) → HasHistory told q (capacity_of s q)
-      history_told q = elim (cases_lt q (length s.capacities)) [
-        | inl lt ↦ closed_history q (capacity_of s q) (queues q lt)
-        | inr le ↦ no_history q (subst (λ (n : ℕ). n ≤ q) (sym by_queue) le) (undeclared q le)
-      ]
+      history_told q = history_by q (cases_lt q (length s.capacities))
 
       pub report_is_lawful : IsLawfulReport s may told
       report_is_lawful = record {
@@ -243,6 +254,11 @@ module _ (s : ScriptView) (nodes : List Node) (ps : List Parted) (left : List (L
       pub progress_told : (f : ℕ) (p : Parted) → parted_at ps f ≡ Some p → report_is_lawful.runs.progress f ≡ reached p.bare
       unfolding all_runs report_is_lawful
       progress_told f p at = ap (progress_at s) at
+
+      pub history_goes_on : (q f : ℕ) (p : Parted) → q < length s.capacities → parted_at ps f ≡ Some p
+          → Begins (report_is_lawful.histories q).history (p.passes q).seen
+      unfolding report_is_lawful history_told
+      history_goes_on q f p some at = begins_by q f p some at (cases_lt q (length s.capacities))
 
 -- the report of a run that has ended so
 module _ (s : ScriptView) (may : ℕ → Bool) (answer : ReportView) (h : EndsWithReport s may answer) where

@@ -27,5 +27,6 @@ pub mod Unsettled
 pub mod FlowLaws
 pub mod BetweenLaws
 pub mod Sweeps
+pub mod FalseRefusal
 pub mod ExampleRuns
 pub mod Example

@@ -1,37 +1,51 @@
 -- Where the trace of a fiber tells of a refusal, its queue was full, or empty.
-use Rattle.std.proofs.Common.{◌≡◌, ℕ, zero, suc, ◌≤◌, Option, Some, None, List, [], ◌∷◌, ◌++◌, length, map, slice_get, refl, sym, ◌∙◌, ap, subst, arith}
-use Rattle.std.specs.Prelude.{slice_index}
+use Rattle.std.proofs.Common.{◌≡◌, ℕ, zero, suc, ◌<◌, ◌≤◌, Bool, Option, Some, None, List, [], ◌∷◌, ◌++◌, length, map, slice_get, refl, sym, ◌∙◌, ap, subst}
+use Rattle.std.proofs.Common.{inl, inr, ◌⊎◌, arith}
+use Rattle.std.specs.Prelude.{slice_index, if◌then◌else◌}
+use Rattle.std.proofs.lemmas.Bool.{eq-eqb}
 use Rattle.std.proofs.lemmas.List.{append_assoc, get_or_past, length-map}
 use Rattle.std.proofs.lemmas.List.Elements.{filter_map-append}
+use Rattle.fx_term.specs.Lists.{Among}
 use Rattle.fx_term.specs.declared.node.Node.{Node}
 use Rattle.fx_term.specs.declared.outcome.Outcome.{Outcome}
 use Rattle.fx_term.specs.declared.event.Event.{Event}
 use Rattle.fx_term.specs.declared.event.Event.TheVariants as event
+use Rattle.fx_term.specs.declared.item.Item.{Item}
 use Rattle.fx_term.specs.declared.queue_event.QueueEvent.{QueueEvent}
-use Rattle.fx_term.specs.Queue.{queue_event, queue_events, cut}
-use Rattle.fx_term.specs.Script.{ScriptView}
+use Rattle.fx_term.specs.Meaning.{root_term}
+use Rattle.fx_term.specs.Queue.{queue_event, queue_events, cut, Leaves}
+use Rattle.fx_term.specs.Script.{ScriptView, total}
 use Rattle.fx_term.proofs.LeavesLaws.{leaves_nothing}
-use Rattle.fx_model.specs.Report.{FiberReportView, ReportView, fiber_in, capacity_of}
+use Rattle.fx_model.specs.Report.{FiberReportView, ReportView, fiber_in, capacity_of, parent_in, parent_of_report}
+use Rattle.fx_model.specs.LawfulReport.{is_start_of, starts_of, is_parent, HasStarters, IsLawfulReport}
 use Rattle.fx_model.specs.Row.{Counts, Label, Silent, Shows, Learns, Starts}
 use Rattle.fx_model.specs.Step.{Progress}
 use Rattle.fx_model.specs.Run.{Leads, events}
 use Rattle.fx_model.proofs.StepLabels.{IsProper, step_tells}
 use Rattle.fx_fiber.specs.Deed.{Deed, FoundFull, FoundEmpty, AreDeedsOf, AreDeeds, deeds_of_event, queue_deed, queue_deeds}
-use Rattle.fx_fiber.specs.Bare.{BareView}
 use Rattle.fx_word.specs.Words as word
+use Rattle.fx_word.specs.SeatView as seat
+use Rattle.fx_queue.specs.declared.entry.Entry.{Entry}
 use Rattle.fx_queue.specs.declared.pass_view.PassView.{PassView}
+use Rattle.fx_queue.specs.History.{Begins}
 use Rattle.fx_queue.specs.Queues.{QueueId, HeldPass}
+use Rattle.fx_queue.proofs.Histories.{Begins-trans}
 use Rattle.fx_port.specs.PassesAgree.{Refusal, Full, Empty, held_at, WasFound, HasRefused, IsBacked, acts_by}
 use Rattle.fx_port.proofs.RunLaws.{queue_at, numbers_are}
 use Rattle.fx_run.specs.declared.gathered.Gathered.{Gathered}
-use Rattle.fx_run.specs.Apart.{Apart}
-use Rattle.fx_run.specs.Gathered.{IsGathered}
-use Rattle.fx_run.specs.Parted.{Parted}
-use Rattle.fx_run.specs.Reported.{report_of}
+use Rattle.fx_run.specs.Apart.{Apart, entry_by, entry_at}
+use Rattle.fx_run.specs.Gathered.{IsGathered, AreAllowed}
+use Rattle.fx_run.specs.Parted.{Parted, bares_of, parted_at}
+use Rattle.fx_run.specs.Reported.{AreAscending, NoneIsLost, report_of_bare}
+use Rattle.fx_run.specs.EndOfRun.{EndsWithReport}
 use Rattle.fx_run.specs.Closing.{IsReportOf}
-use Rattle.fx_run.specs.Refusals.{refused, held, HeldAfter, AreRefusalsTrue}
-use Rattle.fx_run.proofs.GivenFibers.{id_at, of_report}
-use Rattle.fx_run.proofs.EndLaws.{parted, bares_same, whose, capacity_at}
+use Rattle.fx_run.specs.Refusals.{refused, held, IsOnlyFiber, AreRefusalsTrue, IsLawfulWithRefusals}
+use Rattle.fx_run.proofs.Members.{any_among}
+use Rattle.fx_run.proofs.GivenFibers.{id_at, report, report_in, of_report}
+use Rattle.fx_run.proofs.WholeEntries.{part_in_trace}
+use Rattle.fx_run.proofs.Starters.{starts_some}
+use Rattle.fx_run.proofs.Lawful.{report_is_lawful, history_goes_on}
+use Rattle.fx_run.proofs.EndLaws.{parted, whose, capacity_at, ends_so, ended_fibers}
 use Rattle.fx_run.proofs.QueueDeeds.{queue_label}
 
 abbrev pub found_so : Refusal → ℕ → Deed
@@ -119,6 +133,11 @@ none_before : {A : Type 0} (xs ys : List A) → xs ++ ys ≡ [] → xs ≡ []
 none_before [] ys e = refl
 none_before (x ∷ xs) ys e = let z : ⊥ = cc in absurd z
 
+inside : {A : Type 0} (xs : List A) (k : ℕ) (x : A) → slice_get xs k ≡ Some x → k < length xs
+inside [] k x e = let z : ⊥ = cc in absurd z
+inside (y ∷ xs) zero x e = omega arith
+inside (y ∷ xs) (suc k) x e = let lt = inside xs k x e in omega (arith, lt)
+
 past_of : {A : Type 0} (xs : List A) (k : ℕ) → slice_get xs k ≡ None → length xs ≤ k
 past_of [] k e = omega arith
 past_of (x ∷ xs) zero e = let z : ⊥ = cc in absurd z
@@ -137,47 +156,73 @@ backed_by : (k : Refusal) (f q : ℕ) (passes : List HeldPass) (earlier : List D
 backed_by Full f q passes earlier h = h
 backed_by Empty f q passes earlier h = h
 
--- what stands behind a refusal of a pass
-held_by : (k : Refusal) (q f : ℕ) (v : PassView) (done : List QueueEvent) (before : List Event) → v.own.id ≡ f → done ≡ queue_events q f before
-    → WasFound v (held_at k v) done → HeldAfter q v.cap (held k v.cap) f before
-held_by k q f v done before own same w = record {
+-- what a pass had found at one moment at queue q, after these events of its fiber
+pub record FoundBy (s : ScriptView) (k : Refusal) (q f : ℕ) (e : Entry) (before : List Event) : Type 0 where
+  pub log : List QueueEvent
+  pub items : List Item
+  pub seen : List QueueEvent
+  pub legal : Leaves (capacity_of s q) log items
+  pub found : length items ≡ held k (capacity_of s q)
+  pub begins : Begins log seen
+  pub since : (q < length s.capacities) × Begins e.seen seen ⊎ (seen ≡ [])
+  pub known : cut f seen ≡ queue_events q f before
+  pub cuts : cut f log ≡ queue_events q f before
+  pub within : (g : ℕ) → total s ≤ g → cut g log ≡ []
+  pub lone : f ≡ 0 → e.parts ≡ [] → log ≡ queue_events q f before
+
+found_by_pass : (s : ScriptView) (k : Refusal) (q f : ℕ) (v : PassView) (done : List QueueEvent) (before : List Event) → v.own.id ≡ f → v.taken ≡ []
+    → v.cap ≡ capacity_of s q → v.fibers ≡ total s → q < length s.capacities
+    → done ≡ queue_events q f before → WasFound v (held_at k v) done → FoundBy s k q f v.own before
+found_by_pass s k q f v done before own none cap many below same w = record {
   log = w.log;
   items = w.items;
   seen = w.seen;
-  legal = w.legal;
-  found = w.found ∙ held_is k v;
+  legal = subst (λ (c : ℕ). Leaves c w.log w.items) cap w.legal;
+  found = w.found ∙ held_is k v ∙ ap (held k) cap;
   begins = w.begins;
+  since = inl (below, w.since);
   known = ap (λ (i : ℕ). cut i w.seen) (sym own) ∙ (w.known ∙ same);
   cuts = ap (λ (i : ℕ). cut i w.log) (sym own) ∙ (w.cuts ∙ same);
+  within = λ g le. w.within g (subst (λ (n : ℕ). n ≤ g) (sym many) le);
+  lone = λ main parts. w.lone (own ∙ main, parts, none) ∙ same;
 }
 
 -- a queue that there is not
-held_never : (k : Refusal) (q f : ℕ) (before : List Event) → queue_events q f before ≡ [] → HeldAfter q 0 (held k 0) f before
-held_never k q f before none = record {
+found_nowhere : (s : ScriptView) (k : Refusal) (q f : ℕ) (e : Entry) (before : List Event) → capacity_of s q ≡ 0 → queue_events q f before ≡ []
+    → FoundBy s k q f e before
+found_nowhere s k q f e before small none = record {
   log = [];
   items = [];
   seen = [];
-  legal = leaves_nothing 0;
-  found = held_nothing k;
+  legal = leaves_nothing (capacity_of s q);
+  found = held_nothing k ∙ ap (held k) (sym small);
   begins = ([], refl);
+  since = inr refl;
   known = sym none;
   cuts = sym none;
+  within = λ g le. refl;
+  lone = λ main parts. sym none;
 }
 
+-- what the passes of fibers had found that were parted from their ports
+abbrev pub AllFound : ScriptView → List Parted → Type 0
+AllFound s ps = (f : ℕ) (p : Parted) → parted_at ps f ≡ Some p → (k : Refusal) (q : ℕ) (before after : List Event)
+    → p.bare.trace ≡ before ++ refused k q ∷ after → FoundBy s k q f (p.passes q) before
+
 module _ (nodes : List Node) (words : word.WordsId) (queues : List QueueId) (s : ScriptView)
-    (capacities : map (λ (i : QueueId). i.cap) queues ≡ s.capacities) where
+    (fibers : words.fibers ≡ total s) (capacities : map (λ (i : QueueId). i.cap) queues ≡ s.capacities) where
   its_capacity : (q : ℕ) (i : QueueId) → slice_get queues q ≡ Some i → i.cap ≡ capacity_of s q
   its_capacity q i at = sym (capacity_at queues q i at) ∙ ap (λ l. slice_index l q) capacities
 
-  no_capacity : (q : ℕ) → length queues ≤ q → capacity_of s q ≡ 0
-  no_capacity q le =
-      let long = length-map queues (λ (i : QueueId). i.cap) in
-      let as_many = ap length capacities in
-      get_or_past s.capacities q 0 (omega (arith, le, long, as_many))
+  as_many : length queues ≡ length s.capacities
+  as_many = sym (length-map queues (λ (i : QueueId). i.cap)) ∙ ap length capacities
 
-  held_after : (a : Apart nodes words queues) (k : Refusal) (q : ℕ) (before after : List Event) → a.bare.trace ≡ before ++ refused k q ∷ after
-      → HeldAfter q (capacity_of s q) (held k (capacity_of s q)) a.port.words.own.id before
-  held_after a k q before after is = by_pass (slice_get a.port.passes q) refl (backed_by k f q a.port.passes at.earlier backed)
+  no_capacity : (q : ℕ) → length queues ≤ q → capacity_of s q ≡ 0
+  no_capacity q le = let many = as_many in get_or_past s.capacities q 0 (omega (arith, le, many))
+
+  found_of : (a : Apart nodes words queues) (k : Refusal) (q : ℕ) (before after : List Event) → a.bare.trace ≡ before ++ refused k q ∷ after
+      → FoundBy s k q a.port.words.own.id (entry_at q a.port) before
+  found_of a k q before after is = by_pass (slice_get a.port.passes q) refl (backed_by k f q a.port.passes at.earlier backed)
     where
       f : ℕ
       f = a.port.words.own.id
@@ -188,30 +233,115 @@ module _ (nodes : List Node) (words : word.WordsId) (queues : List QueueId) (s :
       backed : IsBacked f a.port.passes at.earlier (found_so k q)
       backed = a.lawful.agreed.passes.refusals at.earlier at.later (found_so k q) at.is
 
-      by_pass : (o : Option HeldPass) → slice_get a.port.passes q ≡ o → HasRefused o k (queue_deeds q f at.earlier)
-          → HeldAfter q (capacity_of s q) (held k (capacity_of s q)) f before
+      by_pass : (o : Option HeldPass) → slice_get a.port.passes q ≡ o → HasRefused o k (queue_deeds q f at.earlier) → FoundBy s k q f (entry_by f o) before
       by_pass None there h =
           let many = a.of_run.passes.as_many in
           let le = past_of a.port.passes q there in
           let all = a.lawful.agreed.passes.acts q ∙ ap acts_by there in
           let none = none_before (queue_deeds q f at.earlier) (queue_deeds q f (found_so k q ∷ at.later))
           (sym (filter_map-append (queue_deed q f) at.earlier (found_so k q ∷ at.later)) ∙ (ap (queue_deeds q f) (sym at.is) ∙ all)) in
-          subst (λ (c : ℕ). HeldAfter q c (held k c) f before) (sym (no_capacity q (omega (arith, many, le))))
-          (held_never k q f before (sym (at.same q) ∙ none))
+          found_nowhere s k q f (entry_by f None) before (no_capacity q (omega (arith, many, le))) (sym (at.same q) ∙ none)
       by_pass (Some pass) there h =
           let i = queue_at queues a.port.passes q pass a.of_run.passes.as_many there in
           let own = numbers_are f a.port.words.own.next a.port.words.own.end queues a.port.passes a.of_run.passes q pass there in
-          let cap = (a.of_run.passes.each q pass i.0 there i.1).0.1 ∙ its_capacity q i.0 i.1 in
-          subst (λ (c : ℕ). HeldAfter q c (held k c) f before) cap (held_by k q f pass.view (queue_deeds q f at.earlier) before own (at.same q) h)
+          let each = a.of_run.passes.each q pass i.0 there i.1 in
+          let lt = inside queues q i.0 i.1 in
+          let many = as_many in
+          found_by_pass s k q f pass.view (queue_deeds q f at.earlier) before own each.4 (each.0.1 ∙ its_capacity q i.0 i.1)
+          (each.5 ∙ a.of_run.alike q i.0 i.1 ∙ fibers) (omega (arith, lt, many)) (at.same q) h
 
-  pub refusals_true : (g : Gathered) → IsGathered nodes words queues g → (late : ℕ) (answer : ReportView) → IsReportOf s g late answer
-      → AreRefusalsTrue s answer
-  refusals_true g h late answer r f x at k q before after is =
-      let o = of_report (parted nodes words queues g h) r.left r.outside late f x
-      (ap (λ bs. fiber_in (report_of bs r.left r.outside late) f) (bares_same nodes words queues g h)
-      ∙ (ap (λ (y : ReportView). fiber_in y f) (sym r.answered.is) ∙ at)) in
-      let t = whose nodes words queues g h f o.fiber o.at in
-      let same = ap (λ (p : Parted). p.bare) t.2 in
-      let number = sym t.0.number ∙ (ap (λ (b : BareView). b.id) (sym same) ∙ id_at (parted nodes words queues g h) f o.fiber o.at) in
-      let trace = ap (λ (b : BareView). b.trace) (sym same) ∙ (ap (λ (y : FiberReportView). y.trace) (sym o.is) ∙ is) in
-      subst (λ (i : ℕ). HeldAfter q (capacity_of s q) (held k (capacity_of s q)) i before) number (held_after t.0 k q before after trace)
+  pub all_found : (g : Gathered) (h : IsGathered nodes words queues g) → AllFound s (parted nodes words queues g h)
+  all_found g h f p at k q before after is =
+      let t = whose nodes words queues g h f p at in
+      let a = t.0 in
+      let number : a.port.words.own.id ≡ f =
+      sym a.number ∙ (ap (λ (x : Parted). x.bare.id) (sym t.2) ∙ id_at (parted nodes words queues g h) f p at) in
+      let here = found_of a k q before after (ap (λ (x : Parted). x.bare.trace) (sym t.2) ∙ is) in
+      subst (λ (e : Entry). FoundBy s k q f e before) (ap (λ (x : Parted). x.passes q) (sym t.2))
+      (subst (λ (i : ℕ). FoundBy s k q i (entry_at q a.port) before) number here)
+
+-- nobody starts a fiber in a report of one
+module _ (r : ReportView) (starters : HasStarters r) (f : ℕ) (only : IsOnlyFiber r f) where
+  is_main : f ≡ 0
+  is_main = sym (only 0 starters.main.0 starters.main.1)
+
+  no_parent : (g : ℕ) → parent_in r g ≡ None
+  no_parent g = by_fiber (fiber_in r g) refl
+    where
+      by_fiber : (o : Option FiberReportView) → fiber_in r g ≡ o → parent_in r g ≡ None
+      by_fiber None is = ap parent_of_report is
+      by_fiber (Some x) is =
+          ap (parent_in r) (only g x is ∙ is_main) ∙ (ap parent_of_report starters.main.1 ∙ starters.main.2)
+
+  starts_nobody : (x : FiberReportView) → fiber_in r f ≡ Some x → (g : ℕ) → Among (event.Start g) x.trace → ⊥
+  starts_nobody x at g i =
+      let none : starts_of g x.trace ≡ 0 = starters.once f x at g ∙ ap (λ (o : Option ℕ). if is_parent o f then 1 else 0) (no_parent g) in
+      let some = starts_some g x.trace (any_among (is_start_of g) x.trace (event.Start g) i (eq-eqb g g refl)) in
+      omega (arith, none, some)
+
+has_none : {A : Type 0} (xs : List A) → ((x : A) → Among x xs → ⊥) → xs ≡ []
+has_none [] h = refl
+has_none (x ∷ xs) h = absurd (h x (inl refl))
+
+-- by the histories of the report with which a run has ended
+module _ (s : ScriptView) (may : ℕ → Bool) (answer : ReportView) (h : EndsWithReport s may answer) (all : AllFound s h.fibers) where
+  abbrev ps : List Parted
+  ps = h.fibers
+
+  abbrev told : ReportView
+  told = report ps h.left h.outside h.late
+
+  abbrev lawful : IsLawfulReport s may told
+  lawful =
+      report_is_lawful s h.nodes ps h.left h.outside h.late h.ran h.ascending h.answered.none_lost h.words h.answered.none_unsettled
+      h.term h.noted may h.named h.left_by_queue h.queues h.undeclared
+
+  goes_on : (q f : ℕ) (p : Parted) → q < length s.capacities → parted_at ps f ≡ Some p → Begins (lawful.histories q).history (p.passes q).seen
+  goes_on =
+      history_goes_on s h.nodes ps h.left h.outside h.late h.ran h.ascending h.answered.none_lost h.words h.answered.none_unsettled
+      h.term h.noted may h.named h.left_by_queue h.queues h.undeclared
+
+  -- a fiber that is the only one split its passes for nobody
+  no_parts : (q f : ℕ) (p : Parted) → parted_at ps f ≡ Some p → IsOnlyFiber told f → (p.passes q).parts ≡ []
+  no_parts q f p at only = has_none (p.passes q).parts (λ g i.
+      let d = (p.lawful.agreed.queues_agree q).parts g i in
+      starts_nobody told lawful.starters f only (report_of_bare (bares_of ps) p.bare) (report_in ps h.left h.outside h.late f p at) g
+      (part_in_trace g d.0 p d.1))
+
+  shared_with : (q f : ℕ) (p : Parted) → parted_at ps f ≡ Some p → (seen : List QueueEvent)
+      → (q < length s.capacities) × Begins (p.passes q).seen seen ⊎ (seen ≡ []) → Begins (lawful.histories q).history seen
+  shared_with q f p at seen (inl (some, since)) = Begins-trans (lawful.histories q).history (p.passes q).seen seen (goes_on q f p some at) since
+  shared_with q f p at seen (inr none) = ((lawful.histories q).history, ap (λ l. l ++ (lawful.histories q).history) (sym none))
+
+  told_refusals : AreRefusalsTrue s may told lawful
+  told_refusals f x at k q before after is =
+      let o = of_report ps h.left h.outside h.late f x at in
+      let w = all f o.fiber o.at k q before after (ap (λ (y : FiberReportView). y.trace) (sym o.is) ∙ is) in
+      record {
+        log = w.log;
+        items = w.items;
+        shared = w.seen;
+        legal = w.legal;
+        found = w.found;
+        reported = shared_with q f o.fiber o.at w.seen w.since;
+        begins = w.begins;
+        known = w.known;
+        cuts = w.cuts;
+        within = w.within;
+        alone = λ only. w.lone (is_main told lawful.starters f only) (no_parts q f o.fiber o.at only);
+      }
+
+  pub end_refusals : IsLawfulWithRefusals s may answer
+  end_refusals =
+      subst (IsLawfulWithRefusals s may) (sym h.answered.is) (record { lawful = lawful; refusals = told_refusals })
+
+-- and so it is where a run is closed
+module _ (nodes : List Node) (words : word.WordsId) (queues : List QueueId) (g : Gathered) (h : IsGathered nodes words queues g)
+    (lost : NoneIsLost g.bares.items) (ascending : AreAscending g.bares.items) (s : ScriptView) (term : s.term ≡ root_term nodes)
+    (fibers : words.fibers ≡ total s) (capacities : map (λ (i : QueueId). i.cap) queues ≡ s.capacities) where
+  pub refusals_true : (may : ℕ → Bool) → AreAllowed may g.noted → seat.IsSettled g.seat.view → (late : ℕ) (answer : ReportView) → IsReportOf s g late answer
+      → IsLawfulWithRefusals s may answer
+  refusals_true may allowed settled late answer r =
+      end_refusals s may answer (ends_so nodes words queues g h lost ascending s term fibers capacities may allowed settled late answer r)
+      (subst (AllFound s) (sym (ended_fibers nodes words queues g h lost ascending s term fibers capacities may allowed settled late answer r))
+      (all_found nodes words queues s fibers capacities g h))

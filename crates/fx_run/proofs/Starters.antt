@@ -32,7 +32,7 @@ use Rattle.fx_run.proofs.Gathering.{gathered_of, whose}
 use Rattle.fx_run.proofs.WholeEntries.{number_at, start_in_trace, part_in_trace, main_is_given, started_is_given}
 
 -- a trace that starts f does so at least once
-starts_some : (f : ℕ) (es : List Event) → list_any (is_start_of f) es ≡ true → 1 ≤ starts_of f es
+pub starts_some : (f : ℕ) (es : List Event) → list_any (is_start_of f) es ≡ true → 1 ≤ starts_of f es
 starts_some f [] e = absurd cc
 starts_some f (v ∷ es) e = by_test (is_start_of f v) refl (starts_some f es)
   where

@@ -13,5 +13,6 @@ pub mod Flows
 pub mod Told
 pub mod Between
 pub mod Refusals
+pub mod FalseRefusal
 pub mod RunWaits
 pub mod Example

@@ -11,7 +11,7 @@ ghost use Rattle.fx_run.specs.Gathered.{IsGathered, AreAllowed};
 ghost use Rattle.fx_report.specs.Text.{queue_names, IsWritable};
 ghost use Rattle.fx_report.specs.Waits.{WaitsAtQueueBelow};
 ghost use Rattle.fx_run.specs.RunWaits.{IsLawfulWithWaits};
-ghost use Rattle.fx_run.specs.Refusals.{AreRefusalsTrue};
+ghost use Rattle.fx_run.specs.Refusals.{IsLawfulWithRefusals};
 ghost use Rattle.fx_run.specs.Closing.{AreMarked, IsReportOf, IsCloseFault};
 
 use crate::gathered::Gathered;
@@ -66,8 +66,9 @@ pub(crate) fn close_run<R: Wait>(
     ensures promised { (may : ℕ → Bool) → AreAllowed may gathered.noted
         → IfOk result (λ halt. KeepsWhatIsPromised (script_of (meaning script.now)) may
         halt.report) }
-    ensures refusals { IfOk result
-        (λ halt. AreRefusalsTrue (script_of (meaning script.now)) halt.report) }
+    ensures refusals { (may : ℕ → Bool) → AreAllowed may gathered.noted
+        → IfOk result (λ halt. IsLawfulWithRefusals (script_of (meaning script.now)) may
+        halt.report) }
     ensures writable { script.now.code.queues ≤ length script.now.queues.items
         → IfOk result (λ halt. IsWritable (queue_names (meaning script.now)) halt.report) }
     ensures named { script.now.code.queues ≤ length script.now.queues.items

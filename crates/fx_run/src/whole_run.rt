@@ -12,7 +12,7 @@ ghost use Rattle.fx_word.specs.Words.{IsOf};
 ghost use Rattle.fx_port.specs.Rows.{AreFirst};
 ghost use Rattle.fx_run.specs.Reported.{AreAscending};
 ghost use Rattle.fx_run.specs.Gathered.{IsGathered, AreAllowed};
-ghost use Rattle.fx_run.specs.Refusals.{AreRefusalsTrue};
+ghost use Rattle.fx_run.specs.Refusals.{IsLawfulWithRefusals};
 ghost use Rattle.fx_run.specs.RunWaits.{IsLawfulWithWaits};
 ghost use Rattle.fx_run.specs.declared.run_fault.RunFault.TheVariants.{Workers};
 
@@ -109,8 +109,8 @@ fn run_by<R: Wait + Threads + Sync + RandomSource + AllocGlobal, G: Gate + Sync>
         (G.may gate.now) halt.report halt.waits.items) }
     ensures promised { IfOk result (λ halt. KeepsWhatIsPromised (script_of (meaning script.now))
         (G.may gate.now) halt.report) }
-    ensures refusals { IfOk result
-        (λ halt. AreRefusalsTrue (script_of (meaning script.now)) halt.report) }
+    ensures refusals { IfOk result (λ halt. IsLawfulWithRefusals (script_of (meaning script.now))
+        (G.may gate.now) halt.report) }
     ensures writable { script.now.code.queues ≤ length script.now.queues.items
         → IfOk result (λ halt. IsWritable (queue_names (meaning script.now)) halt.report) }
     ensures named { script.now.code.queues ≤ length script.now.queues.items
@@ -141,8 +141,8 @@ pub fn run_to_halt<R: Wait + Threads + Sync + RandomSource + AllocGlobal, G: Gat
         (G.may gate.now) halt.report halt.waits.items) }
     ensures promised { IfOk result (λ halt. KeepsWhatIsPromised (script_of (meaning script.now))
         (G.may gate.now) halt.report) }
-    ensures refusals { IfOk result
-        (λ halt. AreRefusalsTrue (script_of (meaning script.now)) halt.report) }
+    ensures refusals { IfOk result (λ halt. IsLawfulWithRefusals (script_of (meaning script.now))
+        (G.may gate.now) halt.report) }
     ensures writable { script.now.code.queues ≤ length script.now.queues.items
         → IfOk result (λ halt. IsWritable (queue_names (meaning script.now)) halt.report) }
     ensures named { script.now.code.queues ≤ length script.now.queues.items
@@ -171,7 +171,8 @@ pub fn run<R: Wait + Threads + Sync + RandomSource + AllocGlobal, G: Gate + Sync
         (λ r. IsLawfulReport (script_of (meaning script.now)) (G.may gate.now) r) }
     ensures promised { IfOk result
         (λ r. KeepsWhatIsPromised (script_of (meaning script.now)) (G.may gate.now) r) }
-    ensures refusals { IfOk result (λ r. AreRefusalsTrue (script_of (meaning script.now)) r) }
+    ensures refusals { IfOk result
+        (λ r. IsLawfulWithRefusals (script_of (meaning script.now)) (G.may gate.now) r) }
     ensures writable { script.now.code.queues ≤ length script.now.queues.items
         → IfOk result (λ r. IsWritable (queue_names (meaning script.now)) r) }
     ensures workers { ((workers < 1) ⊎ (MOST_WORKERS < workers)) ↔ (result ≡ Err Workers) }

@@ -8,7 +8,9 @@ ghost use Rattle.fx_model.specs.Headline.{KeepsWhatIsPromised};
 ghost use Rattle.fx_fiber.specs.Bare.{BareView};
 ghost use Rattle.fx_run.specs.Reported.{IsLost, NoneIsLost};
 ghost use Rattle.fx_run.specs.EndOfRun.{EndsWithReport};
+ghost use Rattle.fx_run.specs.Refusals.{IsLawfulWithRefusals};
 ghost use Rattle.fx_run.specs.Example.{example_script, example_report};
+ghost use Rattle.fx_run.specs.FalseRefusal.{false_script, false_report};
 
 /// The report is lawful with which a run ends that parted all its fibers from their ports, gathered
 /// what these had, and closed the words and the queues with that.
@@ -38,4 +40,12 @@ pub fn premises_can_be_met()
     ensures ends { EndsWithReport example_script (λ f. false) example_report }
     ensures core { IsCore example_script.term }
     ensures ended { AllEnded example_report }
+{}
+
+/// A refusal that cannot have been is told by a report that the rules of each fiber let through: of a
+/// fiber that is alone, offers an element to an empty queue with room for four, and is refused. No
+/// histories by which that report is lawful make its refusal true.
+pub fn false_refusals_are_not_true()
+    ensures lawful { (may : ℕ → Bool) → IsLawfulReport false_script may false_report }
+    ensures refused { (may : ℕ → Bool) → IsLawfulWithRefusals false_script may false_report → ⊥ }
 {}

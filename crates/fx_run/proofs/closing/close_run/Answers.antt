@@ -78,9 +78,12 @@ returns-clause-promised g c may allowed =
     record { lawful = lawful; promised = lawful_report_holds s may _ core lawful }
 
 pub returns-clause-refusals : goal.returns-clause-refusals
-returns-clause-refusals g c =
-    refusals_true c.args.script.now.code.nodes c.args.words c.args.queues.items (script_of (meaning c.args.script.now)) c.requires.capacities c.args.gathered
-    c.requires.gathered c.args.late _ (returns-clause-report g c)
+returns-clause-refusals g c may allowed =
+    let s = script_of (meaning c.args.script.now) in
+    let nodes = c.args.script.now.code.nodes in
+    let lost = subst NoneIsLost c.deref.ensures.value c.in_ok-test_for_lost.ensures.whole in
+    refusals_true nodes c.args.words c.args.queues.items c.args.gathered c.requires.gathered lost c.requires.ascending s refl c.requires.fibers
+    c.requires.capacities may allowed c.close.ensures c.args.late _ (returns-clause-report g c)
 
 pub returns-clause-writable : goal.returns-clause-writable
 returns-clause-writable g c le =
