@@ -1,6 +1,6 @@
 -- Steps of a burst one after the other, and what each of them keeps.
 use Rattle.std.proofs.Common.{◌≡◌, ◌∙◌, ℕ, zero, suc, ◌+◌, ◌<◌, ◌≤◌, Bool, true, false, ◌&&◌, ◌||◌}
-use Rattle.std.proofs.Common.{Option, Some, None, List, [], ◌∷◌, ◌++◌, refl, sym, ap, subst, append-nil}
+use Rattle.std.proofs.Common.{Option, Some, None, List, [], ◌∷◌, ◌++◌, refl, sym, subst, append-nil}
 use Rattle.std.proofs.Common.{inl, inr, arith}
 use Rattle.std.proofs.Math.Numerals.{add-one}
 use Rattle.fx_term.specs.declared.node.Node.{Node}
@@ -254,11 +254,6 @@ module _ {P S : Type 0} (theory : Theory P S) (old s : Machine) (p : P) (sh : S)
             (local_call theory s p p sh sh (made.Shows e) s' refl refl is_shown.0),
         is_shown.1,
       )
-
-  -- or none
-  pub glides_no_further : (between s' : Machine) → ComesAhead theory.calls (is_open_machine s) s.known ahead.Rule p sh
-      → MakesIfSilent theory.code s false between → MakesIfShown theory.code between None s' → GlidesOnce theory old p sh glided.Stops s'
-  glides_no_further between s' first none_is_made none_is_shown = rw (none_is_shown, none_is_made) same
 
 -- the look that comes next found a request, which was seen
 module _ {P S : Type 0} (theory : Theory P S) (s : Machine) (p p' : P) (sh sh' : S) (next : LooksNext theory.code s)

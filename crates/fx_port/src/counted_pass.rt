@@ -47,6 +47,7 @@ impl CountedPass {
         pass
     }
 
+    #[inline(always)]
     pub fn offer<R: Wait>(&mut self, rt: &R, queue: &FiberQueue, fiber: u32, value: u64) -> Offered
         requires queue { IsOf self.old queue.now }
         requires fiber { fiber ≡ self.old.view.own.id }
@@ -70,6 +71,7 @@ impl CountedPass {
         }
     }
 
+    #[inline(always)]
     pub fn take<R: Wait>(&mut self, rt: &R, queue: &FiberQueue) -> Option<Item>
         requires queue { IsOf self.old queue.now }
         ensures same { IsSameFiber self.old self.new }

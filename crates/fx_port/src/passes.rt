@@ -40,6 +40,7 @@ impl Passes {
 
     /// Puts the value at the back of that queue, for the fiber of these passes. A queue that there is
     /// not is full.
+    #[inline(always)]
     pub(crate) fn offer<R: Wait>(
         &mut self,
         rt: &R,
@@ -62,6 +63,7 @@ impl Passes {
     }
 
     /// Takes the front of that queue, for the fiber of these passes. A queue that there is not is empty.
+    #[inline(always)]
     pub(crate) fn take<R: Wait>(&mut self, rt: &R, queues: &[FiberQueue], queue: u8) -> Option<u64>
         requires queues { IsRowOf queues.now self.old }
         ensures { RowTakes self.old queue result self.new }

@@ -38,6 +38,8 @@ pub(crate) fn wait<R: Wait>(
 
 /// Takes a fiber off where it waited, if it did, once it goes on, with `met` where that is of a queue.
 /// Where it had been taken off already, by a put or get that it does not use, the next waiter is woken.
+/// Mostly it did not wait, and then no call is made.
+#[inline(always)]
 pub(crate) fn leave<R: Wait, N: RunBrand>(
     rt: &R,
     queues: &[FiberQueue],
@@ -50,24 +52,44 @@ pub(crate) fn leave<R: Wait, N: RunBrand>(
     requires { (q : ℕ) (i : QueueId) → slice_get queues.now q ≡ Some i → fiber < i.fibers }
     ensures { KeepsMarks notes.old notes.new }
 {
+    if let Some(waited) = waited {
+        leave_source(rt, queues, sources, fiber, waited, met, notes);
+    }
+}
+
+/// The same of a fiber that waited for this.
+fn leave_source<R: Wait, N: RunBrand>(
+    rt: &R,
+    queues: &[FiberQueue],
+    sources: &Sources,
+    fiber: u32,
+    waited: Source,
+    met: Option<Source>,
+    notes: &mut Notes<N>,
+)
+    requires { (q : ℕ) (i : QueueId) → slice_get queues.now q ≡ Some i → fiber < i.fibers }
+    ensures { KeepsMarks notes.old notes.new }
+{
     let (queue, side) = match waited {
-        Some(Source::Room(queue)) => (queue, Side::Room),
-        Some(Source::Element(queue)) => (queue, Side::Element),
-        Some(Source::Outcome(_)) | Some(Source::Either(_, _)) => {
+        Source::Room(queue) => (queue, Side::Room),
+        Source::Element(queue) => (queue, Side::Element),
+        Source::Outcome(_) | Source::Either(_, _) => {
             sources.remove(rt, fiber);
             return;
         }
-        Some(Source::Nothing) | None => return,
+        Source::Nothing => return,
     };
     if let Some(queue) = queues.get(queue as usize) {
         let listed = queue.unwait(rt, fiber, side);
-        if !listed && met != waited {
+        if !listed && met != Some(waited) {
             wake_next(rt, queue, side, notes);
         }
     }
 }
 
-/// Wakes the fiber that was listed longest at that side of the queue of that number.
+/// Wakes the fiber that was listed longest at that side of the queue of that number, once the put or get that
+/// it is woken by is made. Mostly nobody is listed, and then no call is made.
+#[inline(always)]
 pub(crate) fn wake_at<R: Wait, N: RunBrand>(
     rt: &R,
     queues: &[FiberQueue],
@@ -82,6 +104,7 @@ pub(crate) fn wake_at<R: Wait, N: RunBrand>(
     }
 }
 
+#[inline(always)]
 fn wake_next<R: Wait, N: RunBrand>(rt: &R, queue: &FiberQueue, side: Side, notes: &mut Notes<N>)
     ensures { KeepsMarks notes.old notes.new }
 {

@@ -101,6 +101,7 @@ impl FiberQueue {
 
     /// Puts the item at the back (`tryOffer`). It comes back only where the queue was full at one moment
     /// of the call, and then nothing has changed. Its `nth` is how often its fiber has put here before.
+    #[inline(always)]
     pub fn offer_as<R: Wait>(&self, rt: &R, pass: &mut QueuePass, item: Item) -> Result<(), Item>
         requires queue { IsOf pass.old self.now }
         requires item { (item.fiber ≡ pass.old.view.own.id)
@@ -116,6 +117,7 @@ impl FiberQueue {
 
     /// Takes the front (`tryTake`). `None` comes only where the queue was empty at one moment of the
     /// call, and then nothing has changed.
+    #[inline(always)]
     pub fn take_as<R: Wait>(&self, rt: &R, pass: &mut QueuePass) -> Option<Item>
         requires queue { IsOf pass.old self.now }
         ensures same { IsSameFiber pass.old pass.new }
@@ -179,10 +181,12 @@ impl FiberQueue {
     }
 
     /// Takes the fiber off that side that was listed there longest, if there is one.
+    #[inline(always)]
     pub fn next_waiter<R: Wait>(&self, rt: &R, side: Side) -> Option<u32> {
         self.side(side).take_first(rt)
     }
 
+    #[inline(always)]
     fn side(&self, side: Side) -> &WaitSide {
         match side {
             Side::Room => &self.room,

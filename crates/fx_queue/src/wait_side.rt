@@ -7,8 +7,15 @@ use std::sync::atomic::{AtomicU64, Ordering};
 use std::sync::{Mutex, Wait};
 
 /// The fibers that wait at one side of a queue, behind a lock, and a word that says whether any does, so
-/// that who finds nobody there takes no lock. A fiber that is listed tries once more before it waits: so
-/// where the word says that nobody is, who comes after is seen by that try.
+/// that who finds nobody there takes no lock.
+///
+/// No wake is lost by that. Each change of the list ends, under the lock, in a store of the word, so from that
+/// store on until a fiber is taken off the word says that somebody is listed. A fiber lists itself first, and
+/// then tries again before it waits. Who puts or takes does that first, and then loads the word. All these
+/// steps are sequentially consistent, those of the ring too, so they stand in one order. Where the load comes
+/// before the store, the put or get comes before the second try, which meets it, unless another fiber did.
+/// Where it comes after the store, it finds the word set, unless the fiber was taken off meanwhile: by another
+/// wake, which then is its own, or by itself as it goes on.
 #[derive(Drop)]
 pub(crate) struct WaitSide {
     waiters: Mutex<Waiters>,
@@ -41,11 +48,16 @@ impl WaitSide {
         was_listed
     }
 
-    /// Takes off the one that was listed longest, if somebody is.
+    /// Takes off the one that was listed longest, if somebody is. Mostly nobody is, and then no call is made.
+    #[inline(always)]
     pub fn take_first<R: Wait>(&self, rt: &R) -> Option<u32> {
         if self.listed.load(Ordering::SeqCst) == 0 {
             return None;
         }
+        self.take_listed(rt)
+    }
+
+    fn take_listed<R: Wait>(&self, rt: &R) -> Option<u32> {
         let mut waiters = self.waiters.lock(rt);
         let first = waiters.take_first();
         self.tell(&waiters);

@@ -6,6 +6,8 @@ ghost use Rattle.fx_fiber.specs.Bursts.{Outset, HasLooked, GlidesOnce};
 
 use crate::fiber::ahead::{Ahead, Looked, look_ahead};
 use crate::machine::Machine;
+use crate::machine::entry::is_canceled;
+use crate::machine::focus::Focus;
 use crate::port::Port;
 use fx_term::{Code, Event, Memory};
 
@@ -39,20 +41,45 @@ pub(crate) fn glide<P: Port>(
         machine.old outset.port outset.shared glided machine.new) }
     ensures same { OnErr result (IsSame P.theory.code machine.old machine.new) }
 {
-    if !machine.comes_inside(code)? {
-        return Ok(Glided::Stops);
-    }
-    match look_ahead::<P>(machine, looked) {
-        Ahead::Rule => {
-            if machine.silent_rule(code)? {
-                return Ok(Glided::Went);
+    match machine.focus {
+        Focus::Eval(from) => {
+            let (id, node) = machine.enter(code, from)?;
+            if is_canceled(node) {
+                return Ok(Glided::Stops);
             }
-            match machine.bracket_rule(code)? {
-                Some(event) => Ok(Glided::Showed(event)),
-                None => Ok(Glided::Stops),
+            match look_ahead::<P>(machine, looked) {
+                Ahead::Rule => {
+                    if machine.silent_leaf(id, node)? {
+                        Ok(Glided::Went)
+                    } else {
+                        Ok(Glided::Stops)
+                    }
+                }
+                Ahead::Look => Ok(Glided::Looks),
+                Ahead::Cancellation => Ok(Glided::Stops),
             }
         }
-        Ahead::Look => Ok(Glided::Looks),
-        Ahead::Cancellation => Ok(Glided::Stops),
+        Focus::Return(done) => match look_ahead::<P>(machine, looked) {
+            Ahead::Rule => {
+                if machine.silent_result(done)? {
+                    return Ok(Glided::Went);
+                }
+                match machine.bracket_result(code, done)? {
+                    Some(event) => Ok(Glided::Showed(event)),
+                    None => Ok(Glided::Stops),
+                }
+            }
+            Ahead::Look => Ok(Glided::Looks),
+            Ahead::Cancellation => Ok(Glided::Stops),
+        },
+        Focus::Turn(id, turn) => match look_ahead::<P>(machine, looked) {
+            Ahead::Rule => {
+                machine.turn_rule(id, turn, code.node(id))?;
+                Ok(Glided::Went)
+            }
+            Ahead::Look => Ok(Glided::Looks),
+            Ahead::Cancellation => Ok(Glided::Stops),
+        },
+        Focus::Await(_) | Focus::Unwinding | Focus::Ended(_) => Ok(Glided::Stops),
     }
 }

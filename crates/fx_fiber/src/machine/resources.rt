@@ -1,9 +1,9 @@
 //! The rules of `bracket`, one method each, named as in the table; and the table of those, of `bracket` and
 //! `bracketcase`, that show what becomes of the resource, which a burst makes too.
-ghost use Rattle.std.specs.Prelude.{◌≡◌, ◌^◌, ◌<◌, false, Some, slice_get, is_some};
+ghost use Rattle.std.specs.Prelude.{◌≡◌, ◌^◌, ◌<◌, Some, slice_get, is_some};
 ghost use Rattle.fx_model.specs.Row.{after_release};
 ghost use Rattle.fx_fiber.specs.Leaves.{is_of_bracket};
-ghost use Rattle.fx_fiber.specs.Places.{IsSame, IsInside, IsReturning, ReturnsInto, IsBracketAt, must_cancel_machine};
+ghost use Rattle.fx_fiber.specs.Places.{IsSame, IsReturning, ReturnsInto, IsBracketAt};
 ghost use Rattle.fx_fiber.specs.Makes.{MakesSilently, MakesShown, MakesIfShown};
 
 use crate::machine::Machine;
@@ -85,23 +85,6 @@ impl Machine {
         self.masks.leave();
         self.focus = Focus::Return(after_release(done, use_result));
         Event::End(resource)
-    }
-
-    /// Makes the rule of the place, where it shows what becomes of a resource, and answers that event.
-    #[inline(always)]
-    pub fn bracket_rule(&mut self, code: &Code) -> Result<Option<Event>, Memory>
-        ghost nodes: { List Node }
-        requires code { code.now.nodes ≡ nodes }
-        requires inside { IsInside nodes self.old false }
-        requires free { must_cancel_machine nodes self.old ≡ false }
-        requires countable { self.old.acquired < 2 ^ 63 }
-        ensures ok { IfOk result (λ shown. MakesIfShown nodes self.old shown self.new) }
-        ensures err { OnErr result (IsSame nodes self.old self.new) }
-    {
-        match self.focus {
-            Focus::Return(done) => self.bracket_result(code, done),
-            _ => Ok(None),
-        }
     }
 
     /// The row of a result in a bracket, where it shows something, and what it shows.

@@ -6,7 +6,7 @@ ghost use Rattle.std.specs.Bool.{OnTrue};
 ghost use Rattle.fx_term.specs.declared.node.Node.TheVariants as node;
 ghost use Rattle.fx_fiber.specs.Leaves.{is_silent_node, is_silent_inside};
 ghost use Rattle.fx_fiber.specs.Sound.{IsSoundMachine};
-ghost use Rattle.fx_fiber.specs.Places.{IsSame, IsInside, StandsAt, IsBeforeTurn, IsReturning, must_cancel_machine};
+ghost use Rattle.fx_fiber.specs.Places.{IsSame, IsInside, StandsAt, IsBeforeTurn, IsReturning};
 ghost use Rattle.fx_fiber.specs.Makes.{MakesSilently, MakesIfSilent};
 
 use crate::machine::Machine;
@@ -35,28 +35,6 @@ impl Machine {
                 Ok(!is_canceled(node))
             }
             Focus::Return(_) | Focus::Turn(..) => Ok(true),
-            Focus::Await(_) | Focus::Unwinding | Focus::Ended(_) => Ok(false),
-        }
-    }
-
-    /// Makes the rule of the place, where it is silent and stands in this table, and answers whether it does.
-    #[inline(always)]
-    pub fn silent_rule(&mut self, code: &Code) -> Result<bool, Memory>
-        ghost nodes: { List Node }
-        requires code { code.now.nodes ≡ nodes }
-        requires inside { IsInside nodes self.old false }
-        requires free { must_cancel_machine nodes self.old ≡ false }
-        requires countable { self.old.masks.entries < 2 ^ 63 }
-        ensures ok { IfOk result (λ is_made. MakesIfSilent nodes self.old is_made self.new) }
-        ensures err { OnErr result (IsSame nodes self.old self.new) }
-    {
-        match self.focus {
-            Focus::Eval(id) => self.silent_leaf(id, code.node(id)),
-            Focus::Return(done) => self.silent_result(done),
-            Focus::Turn(id, turn) => {
-                self.turn_rule(id, turn, code.node(id))?;
-                Ok(true)
-            }
             Focus::Await(_) | Focus::Unwinding | Focus::Ended(_) => Ok(false),
         }
     }

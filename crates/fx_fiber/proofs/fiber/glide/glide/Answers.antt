@@ -1,16 +1,62 @@
-use Rattle.fx_fiber.proofs.Bursts.{glides, glides_shown}
+use Rattle.std.proofs.Common.{◌≡◌, ap}
+use Rattle.fx_model.specs.Row.{Counts}
+use Rattle.fx_fiber.proofs.Advances.{inside_leaf, inside_result, inside_loop, same_here}
+use Rattle.fx_fiber.proofs.Bursts.{ahead_is_free, glides, glides_shown}
+use Rattle.fx_fiber.proofs.Nodes.{loop_number}
 use Rattle.fx_fiber.proofs.fiber.glide.glide.Goals as goal
+
+pub silent_leaf-requires : goal.silent_leaf-requires
+silent_leaf-requires g c =
+    let here = c.in_ok-id-in-Eval in
+    let inside = inside_leaf g.P.Port.theory.code c.enter.new.self here.id here.node.now _ here.ensures.at here.ensures.leaf c.is_canceled.ensures in
+    let masks : c.enter.new.self.masks.entries ≡ c.args.machine.now.masks.entries = ap (λ (k : Counts). k.masks) here.ensures.same.counts in (
+      record {
+        at = here.ensures.at;
+        free =
+            ahead_is_free g.P.Port.theory c.args.machine.now c.enter.new.self _ _ here.ensures.same
+            (rw c.if-is_canceled.false at inside) (rw c.in-Rule.is at c.look_ahead.ensures);
+      },
+      rw masks c.requires.1.1.1.1.0,
+    )
 
 pub returns-then-branch-clause-ok : goal.returns-then-branch-clause-ok
 returns-then-branch-clause-ok g c =
-    let here = c.in_ok-comes_inside in
-    glides g.P.Port.theory c.args.machine.now c.comes_inside.new.self _ _ here.ensures.same
-    (rw c.if-not-branch.false at here.ensures.inside) c.silent_rule.new.self (rw c.in-Rule.is at c.look_ahead.ensures)
-    (rw c.if-branch.true at c.in_ok-silent_rule-in-Rule.ensures.ok)
+    let here = c.in_ok-id-in-Eval in
+    let inside = inside_leaf g.P.Port.theory.code c.enter.new.self here.id here.node.now _ here.ensures.at here.ensures.leaf c.is_canceled.ensures in
+    glides g.P.Port.theory c.args.machine.now c.enter.new.self _ _ here.ensures.same
+    (rw c.if-is_canceled.false at inside) c.silent_leaf.new.self (rw c.in-Rule.is at c.look_ahead.ensures)
+    (rw c.if-branch.true at c.in_ok-silent_leaf-in-Rule.ensures.ok)
+
+pub returns-in-Look-clause-ok : goal.returns-in-Look-clause-ok
+returns-in-Look-clause-ok g c =
+    let here = c.in_ok-id-in-Eval in
+    let inside = inside_leaf g.P.Port.theory.code c.enter.new.self here.id here.node.now _ here.ensures.at here.ensures.leaf c.is_canceled.ensures in
+    let next = rw c.in-Look.is at c.look_ahead.ensures in
+    (here.ensures.same, record { inside = rw c.if-is_canceled.false at inside; opened = next.0; unknown = next.1 })
+
+pub returns-then-branch-2-clause-ok : goal.returns-then-branch-2-clause-ok
+returns-then-branch-2-clause-ok g c =
+    let s = c.args.machine.now in
+    glides g.P.Port.theory s s _ _ (same_here g.P.Port.theory.code s c.requires.1.1.1.0)
+    (inside_result g.P.Port.theory.code s c.in-Return.done c.requires.1.1.1.0 c.in-Return.is) c.silent_result.new.self
+    (rw c.in-Rule-look_ahead.is at c.look_ahead-in-Return.ensures)
+    (rw c.if-branch-2.true at c.in_ok-silent_result-in-Rule-look_ahead.ensures.ok)
 
 pub returns-in-Some-clause-ok : goal.returns-in-Some-clause-ok
 returns-in-Some-clause-ok g c =
-    let here = c.in_ok-comes_inside in
-    glides_shown g.P.Port.theory c.args.machine.now c.comes_inside.new.self _ _ here.ensures.same
-    (rw c.if-not-branch.false at here.ensures.inside) c.silent_rule.new.self c.bracket_rule.new.self c.in-Some.event (rw c.in-Rule.is at c.look_ahead.ensures)
-    (rw c.if-branch.false at c.in_ok-silent_rule-in-Rule.ensures.ok) (rw c.in-Some.is at c.in_ok-event-in-Rule.ensures.ok)
+    let s = c.args.machine.now in
+    glides_shown g.P.Port.theory s s _ _ (same_here g.P.Port.theory.code s c.requires.1.1.1.0)
+    (inside_result g.P.Port.theory.code s c.in-Return.done c.requires.1.1.1.0 c.in-Return.is)
+    c.silent_result.new.self c.bracket_result.new.self c.in-Some.event (rw c.in-Rule-look_ahead.is at c.look_ahead-in-Return.ensures)
+    (rw c.if-branch-2.false at c.in_ok-silent_result-in-Rule-look_ahead.ensures.ok) (rw c.in-Some.is at c.in_ok-event-in-Rule-look_ahead.ensures.ok)
+
+pub node-requires : goal.node-requires
+node-requires g c = rw c.requires.1.1.0 (loop_number g.P.Port.theory.code _ c.in-Turn.id (rw c.in-Turn.is at c.requires.1.1.1.0.focus_in))
+
+pub returns-in_ok-turn_rule-in-Rule-look_ahead-2-clause-ok : goal.returns-in_ok-turn_rule-in-Rule-look_ahead-2-clause-ok
+returns-in_ok-turn_rule-in-Rule-look_ahead-2-clause-ok g c =
+    let s = c.args.machine.now in
+    glides g.P.Port.theory s s _ _ (same_here g.P.Port.theory.code s c.requires.1.1.1.0)
+    (inside_loop g.P.Port.theory.code s c.in-Turn.id c.in-Turn.turn c.requires.1.1.1.0 c.in-Turn.is) c.turn_rule.new.self
+    (rw c.in-Rule-look_ahead-2.is at c.look_ahead-in-Turn.ensures)
+    c.in_ok-turn_rule-in-Rule-look_ahead-2.ensures.ok
