@@ -1,10 +1,9 @@
 -- A turn of a fiber at a gate.
-use Rattle.std.specs.Prelude.{◌≡◌, ◌⊎◌, ℕ, Option, Some, IsSome, MatchOption}
+use Rattle.std.specs.Prelude.{◌≡◌, ℕ, Option, MatchOption}
 use Rattle.fx_fiber.specs.Theory.{Theory}
 use Rattle.fx_fiber.specs.Fiber.{FiberView}
 use Rattle.fx_fiber.specs.Turns.{Turns}
 use Rattle.fx_fiber.specs.declared.turned.Turned.{Turned}
-use Rattle.fx_fiber.specs.declared.turned.Turned.TheVariants.{Memory}
 
 module _ {P S : Type 0} (theory : Theory P S) where
   -- nothing has changed where the gate named nobody; else that number was requested from outside, by the fiber's port, of which nothing else has changed
@@ -13,23 +12,12 @@ module _ {P S : Type 0} (theory : Theory P S) where
       MatchOption named ((new ≡ old) × (shared' ≡ shared))
       (λ id. theory.calls.outsides old.port shared id new.port shared' × (new ≡ record old { port = new.port }))
 
-  -- who was named, if anybody, was requested, and then the fiber had its turn, which came to this
-  pub record TurnsAsNamed (named : Option ℕ) (old : FiberView P) (shared : S) (answer : Option (Turned P S)) (new : FiberView P) (shared' : S) : Type 0 where
-    pub before : FiberView P
-    pub between : S
-    pub requested : RequestsNamed named old shared before between
-    pub turns : Turns theory before between answer new shared'
-
-  -- there was no memory to request the fiber that was named: the fiber had no turn, and nothing has changed
-  pub record RequestRefused (named : Option ℕ) (old : FiberView P) (shared : S) (answer : Option (Turned P S)) (new : FiberView P) (shared' : S) : Type 0 where
-    pub some : IsSome named
-    pub told : answer ≡ Some Memory
-    pub same : new ≡ old
-    pub as_shared : shared' ≡ shared
-
-  -- the gate gave an answer, and the request of the fiber that it named was refused, or requested before the fiber's turn
+  -- the gate gave this answer; who was named, if anybody, was requested, and then the fiber had its turn, which came to this
   pub record HasGatedTurn (answers : Option ℕ → Type 0) (old : FiberView P) (shared : S) (answer : Option (Turned P S)) (new : FiberView P) (shared' : S)
       : Type 0 where
     pub named : Option ℕ
     pub answered : answers named
-    pub turned : RequestRefused named old shared answer new shared' ⊎ TurnsAsNamed named old shared answer new shared'
+    pub before : FiberView P
+    pub between : S
+    pub requested : RequestsNamed named old shared before between
+    pub turns : Turns theory before between answer new shared'

@@ -1,7 +1,7 @@
 //! A turn of a fiber at a gate.
 ghost use Rattle.std.specs.Prelude.{◌≡◌, ℕ, true};
 ghost use Rattle.fx_fiber.specs.Turns.{Turns, come_to};
-ghost use Rattle.fx_sched.specs.GatedTurns.{HasGatedTurn, RequestsNamed, TurnsAsNamed};
+ghost use Rattle.fx_sched.specs.GatedTurns.{HasGatedTurn, RequestsNamed};
 
 use crate::gate::Gate;
 use futures::Future;
@@ -16,8 +16,7 @@ pub fn solo<R: RandomSource + AllocGlobal>(rt: &R) -> Result<Solo, Memory> {
     Solo::new(rt, Doorbell::spinning()).map_err(|_| Memory)
 }
 
-/// Asks the gate, requests from outside what it names, and then lets the fiber have its turn. Where there is
-/// no memory for the request, the fiber has no turn, and nothing has changed.
+/// Asks the gate, requests from outside what it names, and then lets the fiber have its turn.
 pub fn gated_turn<P: Port, G: Gate>(
     solo: &Solo,
     gate: &G,
@@ -58,9 +57,7 @@ pub(crate) fn turn_in<P: Port, G: Gate>(
         (come_to result) fiber.new shared.new }
 {
     if let Some(id) = gate.turn(worker, fiber.id()) {
-        let Ok(()) = fiber.outside(shared, id) else {
-            return Poll::Ready(Turned::Memory);
-        };
+        fiber.outside(shared, id);
     }
     one_turn(fiber, code, shared, cx)
 }

@@ -144,10 +144,9 @@ impl<'a, R: Wait, J: CodeBrand> Port for LockedPort<'a, R, J> {
         wake(board, notes, Source::Outcome(self.id));
     }
 
-    fn outside(&mut self, notes: &mut Notes<J>, id: u32) -> Result<(), Memory> {
+    fn outside(&mut self, notes: &mut Notes<J>, id: u32) {
         self.board.lock(self.rt).request(id);
         notes.note(id);
-        Ok(())
     }
 
     fn wait_on(&mut self, _notes: &mut Notes<J>, source: Source) {

@@ -1,18 +1,16 @@
-use Rattle.std.proofs.Common.{refl, inr}
-use Rattle.fx_sched.proofs.turns.turn_in.Goals.{in-Some+in-Ok, in_default}
+use Rattle.std.proofs.Common.{refl}
+use Rattle.fx_sched.proofs.turns.turn_in.Goals.{in-Some, in_default}
 use Rattle.fx_sched.proofs.turns.turn_in.Goals as goal
 
 pub returns-clause-turn : goal.returns-clause-turn
 returns-clause-turn g c = record {
   named = c.turn.result;
   answered = rw c.id.ensures.is at c.turn.ensures.answers;
-  turned = inr (record {
-    before = c.match-turn.fiber;
-    between = c.match-turn.shared;
-    requested = elim c.match-turn.branch [
-      | in-Some+in-Ok w ↦ rw (w.in-Some.is, w.fiber-is, w.shared-is) (rw w.in-Ok.is at w.outside.ensures.told, w.outside.ensures.same)
-      | in_default w ↦ rw (w.in_default.is, w.fiber-is, w.shared-is) (refl, refl)
-    ];
-    turns = c.one_turn.ensures.turns;
-  });
+  before = c.match-turn.fiber;
+  between = c.match-turn.shared;
+  requested = elim c.match-turn.branch [
+    | in-Some w ↦ rw (w.in-Some.is, w.fiber-is, w.shared-is) (w.outside.ensures.told, w.outside.ensures.same)
+    | in_default w ↦ rw (w.in_default.is, w.fiber-is, w.shared-is) (refl, refl)
+  ];
+  turns = c.one_turn.ensures.turns;
 }
