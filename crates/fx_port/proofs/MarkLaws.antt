@@ -1,13 +1,13 @@
 -- Marks, and the numbers that are marked.
 use Rattle.std.proofs.Common.{◌≡◌, ◌≢◌, ℕ, ◌+◌, ◌<◌, ◌≤◌, Bool, true, false, List, [], ◌∷◌, ◌++◌, ◌⊎◌}
 use Rattle.std.proofs.Common.{inl, inr, ⊎_elim, ◌||◌, length, get_or, set, take, replicate, zero, suc, refl, sym, ◌∙◌, ap, subst, arith}
-use Rattle.std.proofs.lemmas.List.{get_or-set_same, get_or-set_other, length-replicate}
+use Rattle.std.proofs.lemmas.List.{get_or-set_same, get_or-set_other}
 use mathlib.Core.Logic.{dite}
 use native.Mathlib.Decide.{ℕ_discrete}
 use Rattle.fx_term.specs.Lists.{Among}
 use Rattle.fx_term.proofs.ListLaws.{Among-append_left, Among-append_right, Among-append}
 use Rattle.fx_queue.specs.WaitRing.{Apart}
-use Rattle.fx_port.specs.Marks.{is_marked, joined_marks, laid_marks, IsLaid, AreListed, KeepsMarks}
+use Rattle.fx_port.specs.Marks.{is_marked, joined_marks, AreBefore, AreListed, KeepsMarks}
 
 no_mark : {P : Type 0} → false ≡ true → P
 no_mark e = let z : ⊥ = cc in absurd z
@@ -16,20 +16,6 @@ pub unmarked : (n f : ℕ) → is_marked (replicate n false) f ≡ false
 unmarked zero f = refl
 unmarked (suc n) zero = refl
 unmarked (suc n) (suc f) = unmarked n f
-
--- a row stands for so many marks
-pub laid_whole : (n : ℕ) (row : List Bool) → length row ≡ n → laid_marks n row ≡ row
-laid_whole n [] e = ap (λ (k : ℕ). replicate k false) (sym e)
-laid_whole n (m ∷ row) e = refl
-
-pub laid_long : (n : ℕ) (row : List Bool) → IsLaid n row → length (laid_marks n row) ≡ n
-laid_long n [] h = length-replicate n false
-laid_long n (m ∷ row) (inl e) = let z : ⊥ = cc in absurd z
-laid_long n (m ∷ row) (inr e) = e
-
-pub laid_read : (n : ℕ) (row : List Bool) (f : ℕ) → is_marked (laid_marks n row) f ≡ is_marked row f
-laid_read n [] f = unmarked n f
-laid_read n (m ∷ row) f = refl
 
 pub marked_within : (marks : List Bool) (f : ℕ) → is_marked marks f ≡ true → f < length marks
 marked_within [] f e = no_mark e
@@ -50,6 +36,13 @@ keeps marks marks' f e g m = ap (λ (l : List Bool). is_marked l g) e ∙ mark_s
 -- what is marked afterwards
 pub mark_cases : (marks : List Bool) (f g : ℕ) → is_marked (set marks f true) g ≡ true → (g ≡ f) ⊎ (is_marked marks g ≡ true)
 mark_cases marks f g m = dite (ℕ_discrete g f) inl (λ n. inr (sym (get_or-set_other marks f g true false n) ∙ m))
+
+-- one more number is marked
+pub before_more : (marks : List Bool) (f end end' : ℕ) → AreBefore end marks → f < end' → end ≤ end' → AreBefore end' (set marks f true)
+before_more marks f end end' h here more g m = elim (mark_cases marks f g m) [
+  | inl e ↦ (omega (arith, e, here))
+  | inr was ↦ (let k = h g was in omega (arith, k, more))
+]
 
 -- a mark that was taken off is no more
 mark_gone : (marks : List Bool) (f g : ℕ) → is_marked marks f ≡ true → is_marked (set marks f false) g ≡ true → g ≢ f
@@ -110,6 +103,9 @@ none_marked marks h f = by_mark (is_marked marks f) refl
     by_mark : (b : Bool) → is_marked marks f ≡ b → b ≡ false
     by_mark false e = refl
     by_mark true e = absurd (h.listed f e)
+
+pub none_before : (n : ℕ) → AreBefore 0 (replicate n false)
+none_before n f e = no_mark (sym (unmarked n f) ∙ e)
 
 -- how many are marked
 abbrev marks_in : List Bool → ℕ
@@ -195,15 +191,16 @@ joined_long [] other = refl
 joined_long (m ∷ marks) [] = refl
 joined_long (m ∷ marks) (n ∷ other) = ap suc (joined_long marks other)
 
--- a row in which none is marked adds nothing
-joined_unmarked_all : (marks : List Bool) (n : ℕ) → joined_marks marks (replicate n false) ≡ marks
-joined_unmarked_all [] n = refl
-joined_unmarked_all (m ∷ marks) zero = refl
-joined_unmarked_all (m ∷ marks) (suc n) = λ i. or_false m i ∷ joined_unmarked_all marks n i
-
-pub joined_nothing : (marks row : List Bool) (n : ℕ) → length row ≡ 0 → joined_marks marks (laid_marks n row) ≡ marks
-joined_nothing marks [] n e = joined_unmarked_all marks n
-joined_nothing marks (m ∷ row) n e = absurd (omega (arith, e))
+-- past the last mark of the other row nothing is added
+pub joined_whole : (marks other : List Bool) (end : ℕ) → AreBefore end other → joined_marks marks (take end other) ≡ joined_marks marks other
+joined_whole [] other end h = refl
+joined_whole (m ∷ marks) [] zero h = refl
+joined_whole (m ∷ marks) [] (suc end) h = refl
+joined_whole (m ∷ marks) (true ∷ other) zero h = absurd (let z = h 0 refl in omega (arith, z))
+joined_whole (m ∷ marks) (false ∷ other) zero h =
+    λ i. sym (or_false m) i ∷ (sym (joined_none marks) ∙ joined_whole marks other 0 (λ f e. let z = h (suc f) e in omega (arith, z))) i
+joined_whole (m ∷ marks) (n ∷ other) (suc end) h =
+    ap (λ l. (m || n) ∷ l) (joined_whole marks other end (λ f e. let k = h (suc f) e in omega (arith, k)))
 
 -- what is marked in the joined row
 pub joined_from : (marks other : List Bool) (f : ℕ) → is_marked (joined_marks marks other) f ≡ true

@@ -1,19 +1,14 @@
 -- Marks of numbers, and numbers that are listed each once.
-use Rattle.std.specs.Prelude.{◌≡◌, ◌⊎◌, ℕ, Bool, true, false, ◌||◌, List, [], ◌∷◌, length, replicate, Option, Some, None, slice_index_or, slice_set}
+use Rattle.std.specs.Prelude.{◌≡◌, ◌<◌, ℕ, Bool, true, false, ◌||◌, List, [], ◌∷◌, Option, Some, None, slice_index_or, slice_set}
 use Rattle.fx_term.specs.Lists.{Among}
 use Rattle.fx_queue.specs.WaitRing.{Apart}
 
 abbrev pub is_marked : List Bool → ℕ → Bool
 is_marked marks f = slice_index_or marks f false
 
--- the marks of so many numbers, for which an empty row stands where none is marked
-abbrev pub laid_marks : ℕ → List Bool → List Bool
-laid_marks n [] = replicate n false
-laid_marks n (m ∷ marks) = m ∷ marks
-
--- the row is empty, or has a mark for each of so many numbers
-abbrev pub IsLaid : ℕ → List Bool → Type 0
-IsLaid n row = (row ≡ []) ⊎ (length row ≡ n)
+-- each number that is marked comes before this one
+abbrev pub AreBefore : ℕ → List Bool → Type 0
+AreBefore end marks = (f : ℕ) → is_marked marks f ≡ true → f < end
 
 -- a number of the first row is marked where it is in either
 abbrev pub joined_marks : List Bool → List Bool → List Bool

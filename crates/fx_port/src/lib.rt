@@ -2,7 +2,7 @@
 //!
 //! A port is what its fiber has of the outside: a seat of the words, a pass of each queue, and a mark for
 //! each number that was requested from outside through it. Who holds it acts for that fiber, on whatever
-//! thread, and borrows what all fibers share. What it costs grows with the queues, and not with the fibers.
+//! thread, and borrows what all fibers share. It grows with the queues, and by a byte with each number.
 //! What a worker lends to the ports of its fibers are notes: the numbers of the fibers that are to be woken,
 //! each once.
 //!
@@ -30,8 +30,7 @@
 //!    taken out that was not marked. That the right fibers are marked no clause says, since who waits
 //!    stands behind locks.
 //! 5. The port of a child has the range and the beginning that it is given, and has done nothing.
-//! 6. Of the calls of a port `start` and `outside` alone take memory, and have all of it before they change
-//!    anything.
+//! 6. Of the calls of a port `start` alone takes memory, and has all of it before it changes anything.
 //! 7. At the end of a run ports are taken apart, and the seat and the passes of one fiber take those of the
 //!    others in, one after the other. Then the words and the queues can be given up.
 #![tactic(auto)]

@@ -1,5 +1,5 @@
 //! The port of a fiber on threads.
-ghost use Rattle.std.specs.Prelude.{◌≡◌, ◌<◌, [], length};
+ghost use Rattle.std.specs.Prelude.{◌≡◌, ◌<◌, [], IfOk, length};
 ghost use Rattle.fx_word.specs.SeatView.{first_view};
 ghost use Rattle.fx_word.specs.Words.{IsOf};
 ghost use Rattle.fx_port.specs.Rows.{AreFirst, IsRowOf, puts_in};
@@ -61,17 +61,17 @@ impl<'a, R: Wait, N: RunBrand> ThreadPort<'a, R, N> {
         sources: &'a Sources,
         seat: WordSeat,
         passes: Passes,
-    ) -> ThreadPort<'a, R, N>
+    ) -> Result<ThreadPort<'a, R, N>, Memory>
         requires words { (words.now ≡ N.words) × (0 < N.words.fibers) }
         requires queues { queues.now ≡ N.queues }
         requires seat { IsOf seat N.words × (seat.view ≡ first_view N.words.fibers) }
         requires passes { AreFirst N.words.fibers N.queues passes }
-        ensures is { result ≡ first_port N.words.fibers passes }
-        ensures puts { puts_in result.passes ≡ 0 }
-        ensures fresh { ThreadAgrees result [] }
+        ensures is { IfOk result (λ port. port ≡ first_port N.words.fibers passes) }
+        ensures puts { IfOk result (λ port. puts_in port.passes ≡ 0) }
+        ensures fresh { IfOk result (λ port. ThreadAgrees port []) }
     {
-        let noted = Marks::new(alloc, words.fibers());
-        ThreadPort {
+        let noted = Marks::new(alloc, words.fibers())?;
+        Ok(ThreadPort {
             rt,
             alloc,
             words,
@@ -82,7 +82,7 @@ impl<'a, R: Wait, N: RunBrand> ThreadPort<'a, R, N> {
             noted,
             waited: None,
             of: PhantomData,
-        }
+        })
     }
 
     /// The numbers that were requested from outside through it.
@@ -193,7 +193,7 @@ impl<'a, R: Wait, N: RunBrand> Port for ThreadPort<'a, R, N> {
         id: u32,
         begin: &Begin,
     ) -> Result<ThreadPort<'a, R, N>, Memory> {
-        let noted = Marks::new(self.alloc, self.words.fibers());
+        let noted = Marks::new(self.alloc, self.words.fibers())?;
         let passes = self.passes.split(self.alloc, self.queues, id, begin.end)?;
         let seat = self.words.split(&mut self.seat, id, begin);
         Ok(ThreadPort {
@@ -215,14 +215,12 @@ impl<'a, R: Wait, N: RunBrand> Port for ThreadPort<'a, R, N> {
         self.sources.wake(self.rt, self.seat.id(), notes);
     }
 
-    fn outside(&mut self, notes: &mut Notes<N>, id: u32) -> Result<(), Memory> {
+    fn outside(&mut self, notes: &mut Notes<N>, id: u32) {
         if id < self.words.fibers() {
-            // the mark may be refused memory, so it comes before all that cannot be taken back
-            self.noted.mark(id)?;
+            self.noted.mark(id);
             self.words.request(&mut self.seat, id);
             notes.wake(id);
         }
-        Ok(())
     }
 
     fn wait_on(&mut self, _notes: &mut Notes<N>, source: Source) {

@@ -121,7 +121,7 @@ fn play_as<N: RunBrand + Send + Sync, R: Threads + Wait + Sync>(
         seat,
         passes,
     } = opened;
-    let port = ThreadPort::<R, N>::new(rt, alloc, &words, &queues, &sources, seat, passes);
+    let port = ThreadPort::<R, N>::new(rt, alloc, &words, &queues, &sources, seat, passes)?;
     play_over(rt, alloc, code, port, mine, theirs, plan)
 }
 
@@ -190,7 +190,7 @@ fn make<P: Port + Drop>(
         }
         Move::Request(id) => {
             if let Some(main) = fibers.first_mut() {
-                main.outside(shared, id)?;
+                main.outside(shared, id);
             }
         }
     }

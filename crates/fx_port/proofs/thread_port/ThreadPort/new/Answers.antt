@@ -10,8 +10,8 @@ returns-clause-puts g c = first_puts _ _ c.args.passes c.requires.passes
 
 pub returns-clause-fresh : goal.returns-clause-fresh
 returns-clause-fresh g c =
-    let marks = c.new-noted.ensures ∙ ap (λ (n : ℕ). replicate n false) (c.fibers.ensures ∙ ap (λ (w : WordsId). w.fibers) c.requires.words.0) in
+    let marks = c.in_ok-noted.ensures ∙ ap (λ (n : ℕ). replicate n false) (c.fibers.ensures ∙ ap (λ (w : WordsId). w.fibers) c.requires.words.0) in
     let made : first_port g.N.RunBrand.words.fibers c.args.passes
-    ≡ record { words = c.args.seat.view; passes = c.args.passes; noted = c.new-noted.result } =
+    ≡ record { words = c.args.seat.view; passes = c.args.passes; noted = c.in_ok-noted.noted } =
     λ i. record { words = sym c.requires.seat.1 i; passes = c.args.passes; noted = sym marks i } in
     subst (λ (u : PortView). ThreadAgrees u []) made (first_agrees _ _ c.args.passes c.requires.passes)

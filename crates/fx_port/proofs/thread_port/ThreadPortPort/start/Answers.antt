@@ -21,9 +21,9 @@ pub invariant_of-result : goal.invariant_of-result
 invariant_of-result g c =
     let p : PortView = record { words = c.self.inside.seat.view; passes = c.self.inside.passes; noted = c.self.inside.noted } in
     let words = ap (λ (s : Seated). s.view) c.split-seat.ensures.given in
-    let marks = c.new-noted.ensures ∙ ap (λ (n : ℕ). replicate n false) (c.fibers.ensures ∙ ap (λ (w : WordsId). w.fibers) c.self.invariant.0) in
+    let marks = c.in_ok-noted.ensures ∙ ap (λ (n : ℕ). replicate n false) (c.fibers.ensures ∙ ap (λ (w : WordsId). w.fibers) c.self.invariant.0) in
     let made : given_port g.N.RunBrand.words.fibers c.args.begin.now p
-    ≡ record { words = c.split-seat.result.view; passes = c.in_ok-passes.passes; noted = c.new-noted.result } =
+    ≡ record { words = c.split-seat.result.view; passes = c.in_ok-passes.passes; noted = c.in_ok-noted.noted } =
     λ i. record { words = sym words i; passes = sym c.in_ok-passes.ensures.given i; noted = sym marks i } in
     let range = c.requires.range in
     let is = range.number ∙ sym (ap (λ (u : PortView). u.words.own.next) c.self.view_is) in
@@ -58,9 +58,9 @@ returns-clause-child_facts g c =
     let is = range.number ∙ sym (ap (λ (u : PortView). u.words.own.next) c.self.view_is) in
     let none_put = puts_given c.args.begin.now.end c.self.inside.passes in
     let part : PortView = given_port g.N.RunBrand.words.fibers c.args.begin.now p in
-    let child : PortView = record { words = c.split-seat.result.view; passes = c.in_ok-passes.passes; noted = c.new-noted.result } in
+    let child : PortView = record { words = c.split-seat.result.view; passes = c.in_ok-passes.passes; noted = c.in_ok-noted.noted } in
     let made : facts_of g.N.RunBrand.nodes child ≡ facts_of g.N.RunBrand.nodes part =
-    λ i. facts_of g.N.RunBrand.nodes (record { words = words i; passes = c.in_ok-passes.ensures.given i; noted = c.new-noted.result }) in
+    λ i. facts_of g.N.RunBrand.nodes (record { words = words i; passes = c.in_ok-passes.ensures.given i; noted = c.in_ok-noted.noted }) in
     let first : facts_of g.N.RunBrand.nodes part ≡ first_facts c.args.id c.args.begin.now =
     λ i. record (first_facts (sym is i) c.args.begin.now) { puts = none_put i } in
     made ∙ first
@@ -69,9 +69,9 @@ pub returns-clause-child_fresh : goal.returns-clause-child_fresh
 returns-clause-child_fresh g c =
     let p : PortView = record { words = c.self.inside.seat.view; passes = c.self.inside.passes; noted = c.self.inside.noted } in
     let words = ap (λ (s : Seated). s.view) c.split-seat.ensures.given in
-    let marks = c.new-noted.ensures ∙ ap (λ (n : ℕ). replicate n false) (c.fibers.ensures ∙ ap (λ (w : WordsId). w.fibers) c.self.invariant.0) in
+    let marks = c.in_ok-noted.ensures ∙ ap (λ (n : ℕ). replicate n false) (c.fibers.ensures ∙ ap (λ (w : WordsId). w.fibers) c.self.invariant.0) in
     let made : given_port g.N.RunBrand.words.fibers c.args.begin.now p
-    ≡ record { words = c.split-seat.result.view; passes = c.in_ok-passes.passes; noted = c.new-noted.result } =
+    ≡ record { words = c.split-seat.result.view; passes = c.in_ok-passes.passes; noted = c.in_ok-noted.noted } =
     λ i. record { words = sym words i; passes = sym c.in_ok-passes.ensures.given i; noted = sym marks i } in
     subst (λ (u : PortView). ThreadAgrees u []) made (begins p g.N.RunBrand.words.fibers c.args.begin.now)
 
