@@ -1,0 +1,1 @@
+"""The parts of `trusted`, which finds the definitions that what the docs cite rests on."""
