@@ -87,16 +87,25 @@ class Repository:
         names = Scope.of(model.text).inside(code.scopes[model.file]).named_in(seen + kept * with_invariant)
         return [*names, *self.types(crate, item.file, parts)]
 
-    def in_reading_order(self, files):
+    def files(self, names):
+        """The files of specs/, in reading order, and those of src/ that these names reach."""
+        reached = {it[:2] for it in self.reached(names)}
+        specs = self.in_reading_order({f"{crate}/specs/{it.replace('.', '/')}" for crate, it in reached if not it.endswith(".rt")})
+        return specs, [f"{crate}/{it.removesuffix('.rt')}" for crate in self.crates for of, it in sorted(reached) if of == crate and it.endswith(".rt")]
+
+    def in_reading_order(self, paths):
         """Files of specs/, definitions before what uses them, and those of a lower crate first."""
         rank = {name: n for n, name in enumerate(self.crates)}
-        left, ordered = sorted(files, key=lambda it: (rank[it[0]], it[1])), []
+        left, ordered = sorted(paths, key=lambda it: (rank[it.partition("/")[0]], it)), []
         while left:
-            ready = next((it for it in left if not self.used_by(it) & {*left} - {it}), left[0])
+            ready = next((it for it in left if not self.uses(it) & {*left} - {it}), left[0])
             left.remove(ready)
             ordered.append(ready)
         return ordered
 
-    def used_by(self, file):
-        """The files of specs/ that a file imports."""
-        return {(crate, module) for crate, module, _ in self.modules[file].scope.names.values()} | {*self.modules[file].scope.modules.values()}
+    def uses(self, path):
+        """The files of specs/ that one imports."""
+        crate, _, module = path.split("/", 2)
+        scope = self.modules[crate, module.replace("/", ".")].scope
+        imported = {it[:2] for it in scope.names.values()} | {*scope.modules.values()}
+        return {f"{of}/specs/{it.replace('.', '/')}" for of, it in imported}
