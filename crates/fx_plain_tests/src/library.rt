@@ -1,4 +1,4 @@
-//! The README's example of a library: a world with one fiber.
+//! The tour's example of a library: a world with one fiber.
 ghost use Rattle.std.specs.Prelude.{◌≡◌};
 
 use fx_fiber::{Fiber, Stepped};
