@@ -2,8 +2,6 @@
 use Rattle.std.proofs.Common.{◌≡◌, ℕ, ◌+◌, ◌≤◌, Bool, true, false, not, Option, None, List, [], ◌∷◌, refl, sym, ◌∙◌, ap, subst, arith}
 use Rattle.fx_term.specs.declared.node.Arg.TheVariants.{Number}
 use Rattle.fx_term.specs.declared.done.Done.{Done}
-use Rattle.fx_term.specs.declared.done.Done.TheVariants.{Val}
-use Rattle.fx_term.specs.declared.event.Event.TheVariants as event
 use Rattle.fx_term.specs.declared.name_kind.NameKind.{NameKind}
 use Rattle.fx_term.specs.declared.name_kind.NameKind.TheVariants as kind
 use Rattle.fx_term.specs.Term.{Term, Pure, Canceled, Let, Mask, Finished, Masked, put}
@@ -17,7 +15,6 @@ use Rattle.fx_model.specs.Run.{Leads}
 use Rattle.fx_model.specs.MaskLaws.{IsPlain, forced_after}
 use Rattle.fx_model.proofs.Alike.{IsSameRegion, Alike, plain_alike}
 use Rattle.fx_model.proofs.AlikeRows.{row_alike}
-use Rattle.fx_model.proofs.Paths.{no_context}
 use Rattle.fx_laws.specs.Everywhere.{placed}
 use Rattle.fx_laws.specs.Others.{LookTheSame}
 use Rattle.fx_laws.proofs.Placed.{result_placed, row_placed}
@@ -25,20 +22,13 @@ use Rattle.fx_laws.proofs.Views.{HasRun, IsMatched, itself, silent_first, and_th
 use Rattle.fx_laws.proofs.SamePlaces.{Moves, by_row, by_end, MatchesMoves, whole_matched}
 use Rattle.fx_laws.proofs.SilentRows.{let_value_leads, masked_leads}
 use Rattle.fx_laws.proofs.Inside.{RowIsFollowed}
-use Rattle.fx_laws.proofs.Forced.{IsOnlyRow, AreMatched, hidden_left, silent_left, silent_right, runs_only}
-use Rattle.fx_laws.proofs.OnlyRows.{only_silent, only_placed, mask_row_placed}
+use Rattle.fx_laws.proofs.Forced.{AreMatched, hidden_left, silent_left, silent_right, runs_only}
+use Rattle.fx_laws.proofs.OnlyRows.{only_silent, only_self_request, only_placed, mask_row_placed}
 use Rattle.fx_laws.proofs.Shut.{running, IsClosedThere, run_is_shut, shut_matched}
 use Rattle.fx_laws.proofs.StaysShut.{left_shut}
 use Rattle.fx_laws.proofs.KnownRows.{with_known, row_known}
 use Rattle.fx_laws.proofs.Looking.{looking, can_see}
 use Rattle.fx_laws.proofs.Doomed.{known_doomed, forced_doomed}
-
-pub only_self_request : (c : Counts) → IsOnlyRow c Canceled (Shows event.SelfRequest) (known_canceled c) (Finished (Val 0))
-only_self_request c = record { there = rule.self_request refl; only = λ m e w r. one r; going = λ w e. cc }
-  where
-    one : {m : Label} {e : Counts} {w : Term} → Row true c Canceled m e w → (m ≡ Shows event.SelfRequest) × (e ≡ known_canceled c) × (w ≡ Finished (Val 0))
-    one (rule.self_request h) = (refl, refl, refl)
-    one (rule.inside f e g r) = absurd (no_context f _ _ refl e)
 
 -- a term that has no number of a region below this one
 record IsApart (low : ℕ) (t t' : Term) : Type 0 where

@@ -1,19 +1,24 @@
 -- Terms that are forced after others.
-use Rattle.std.proofs.Common.{◌≡◌, ℕ, Bool, false, not, None, List, [], ◌∷◌, refl, sym, ◌∙◌, ap, subst}
+use Rattle.std.proofs.Common.{◌≡◌, ℕ, Bool, true, false, not, Option, None, List, [], ◌∷◌, refl, sym, ◌∙◌, ap, subst}
+use Rattle.std.specs.Prelude.{◌&&◌}
 use Rattle.fx_term.specs.declared.node.Arg.TheVariants.{Number}
 use Rattle.fx_term.specs.declared.done.Done.{Done}
 use Rattle.fx_term.specs.declared.done.Done.TheVariants.{Val, Err}
 use Rattle.fx_term.specs.Term.{Term, Pure, Raise, Let, Handle, Finished}
-use Rattle.fx_model.specs.Path.{Context, LetIn, HandleIn, is_open, must_cancel}
+use Rattle.fx_model.specs.Path.{Context, CleanupTerm, LetIn, HandleIn, is_open, must_cancel}
 use Rattle.fx_model.specs.Row.{Counts, Label, Row}
-use Rattle.fx_model.specs.Step.{Progress, Runs, Step, cancelled, seen, row, succeeds, errs}
+use Rattle.fx_model.specs.Step.{Progress, Runs, must_cancel_at, looks_first, Step, cancelled, seen, row, succeeds, errs}
 use Rattle.fx_model.specs.Run.{Leads, shown}
 use Rattle.fx_model.specs.MaskLaws.{BeginsWithSeen, forced_after}
-use Rattle.fx_laws.specs.Everywhere.{placed, CanShowFrom, ShowTheSameEverywhere, ShowsAllOfEverywhere, ShowTheSameEverywhereUnlessSeenFirst}
-use Rattle.fx_laws.proofs.Placed.{must_placed}
+use Rattle.fx_laws.specs.Everywhere.{placed, Place, InTerm, InCleanup, come_to, CanShowFrom, ShowTheSameEverywhere, ShowsAllOfEverywhere}
+use Rattle.fx_laws.specs.Everywhere.{ShowTheSameEverywhereUnlessSeenFirst}
 use Rattle.fx_laws.proofs.Views.{HasRun, IsMatched, itself, stays, silent_first}
 use Rattle.fx_laws.proofs.SilentRows.{LeadsSilently, pure_leads, raise_leads, let_value_leads, handle_value_leads, handle_error_leads}
 use Rattle.fx_laws.proofs.SilentRows.{leads_placed, silent_step}
+use Rattle.fx_laws.proofs.SamePlaces.{IsSamePlace, same_whole}
+use Rattle.fx_laws.proofs.Forced.{silent_left, runs_only}
+use Rattle.fx_laws.proofs.OnlyRows.{only_silent, only_placed}
+use Rattle.fx_laws.proofs.InCleanups.{cleans_silently}
 use Rattle.fx_laws.proofs.SameHere.{AreSameHere, same_itself, same_too, both_lead, one_leads, same_inside}
 use Rattle.fx_laws.proofs.Showing.{showing, shows_too, everywhere}
 
@@ -34,46 +39,118 @@ shows_next c {t} {u} s free (l ∷ ls) d q h unseen = by_step h.2 refl h.3 unsee
     by_step (succeeds {n = n} f) at after un = absurd (s.going (Val n) (sym at))
     by_step (errs {n = n} f) at after un = absurd (s.going (Err n) (sym at))
 
--- a term after an error that was handled, once it comes to the term
-module _ (n : ℕ) (t : Term) (fs : List Context) where
-  abbrev dropped : Term
-  dropped = Let None (Finished (Val 0)) t
+both_hold : (a b : Bool) → a ≡ true → b ≡ false → (a && not b) ≡ true
+both_hold true false p q = refl
+both_hold true true p q = absurd cc
+both_hold false b p q = absurd cc
 
-  -- up to there it stays at one place
-  comes_to_dropped : AreSameHere showing fs (forced_after (Raise (Number n)) t) dropped
-  comes_to_dropped =
-      let raised = leads_placed (LetIn None t ∷ HandleIn None (Pure (Number 0)) ∷ []) (raise_leads n) in
-      let handled = leads_placed (LetIn None t ∷ []) (handle_error_leads None n (Pure (Number 0))) in
-      let zero = leads_placed (LetIn None t ∷ []) (pure_leads 0) in
+-- a term after a value that is dropped
+module _ (t : Term) (n : ℕ) where
+  abbrev dropping : Term
+  dropping = Let None (Finished (Val n)) t
+
+  drops : LeadsSilently dropping t
+  drops = let_value_leads None n t
+
+  same_in_cleanup : (k : Option ℕ) (rest : List CleanupTerm) (fs : List Context) → AreSameHere showing (InCleanup k rest fs) dropping t
+  same_in_cleanup k rest fs c = silent_left showing (cleans_silently k rest fs drops c) (itself showing, itself showing)
+
+  same_at_closed : (fs : List Context) → is_open (placed fs dropping) ≡ false → AreSameHere showing (InTerm fs) dropping t
+  same_at_closed fs closed c = silent_left showing (runs_only closed (only_placed fs (only_silent c drops))) (itself showing, itself showing)
+
+  dropping_shows_all : ShowsAllOfEverywhere dropping t
+  dropping_shows_all (InTerm fs) c ls free h =
+      let start = silent_step (leads_placed fs drops) free in
+      let there : IsMatched showing c (Runs (placed fs t)) c (Runs (placed fs dropping)) = λ ms d q k. silent_first showing start (itself showing ms d q k) in
+      shows_too there h
+  dropping_shows_all (InCleanup k rest fs) c ls free h = shows_too (same_in_cleanup k rest fs c).1 h
+
+  module _ (fs : List Context) (c : Counts) (ls : List Label) (free : must_cancel c.known (placed fs dropping) ≡ false)
+      (unseen : looks_first c.known (Runs (placed fs dropping)) ≡ true → BeginsWithSeen ls → ⊥) (h : CanShowFrom c (Runs (placed fs dropping)) ls) where
+    at_open : is_open (placed fs dropping) ≡ true → CanShowFrom c (Runs (placed fs t)) ls
+    at_open opened =
+        let looks : looks_first c.known (Runs (placed fs dropping)) ≡ true = both_hold _ _ opened free in
+        let unseen' = subst (λ (ms : List Label). BeginsWithSeen ms → ⊥) (sym h.shown_is) (unseen looks) in
+        let m = shows_next c (leads_placed fs drops) free h.labels h.counts h.progress h.run unseen' in
+        record { labels = m.labels; counts = m.counts; progress = m.progress; run = m.leads; shown_is = m.seen_is ∙ h.shown_is }
+
+    by_place : (b : Bool) → is_open (placed fs dropping) ≡ b → CanShowFrom c (Runs (placed fs t)) ls
+    by_place true opened = at_open opened
+    by_place false closed = shows_too (same_at_closed fs closed c).0 h
+
+  shows_no_more : (place : Place) (c : Counts) (ls : List Label) → must_cancel_at c.known (come_to place dropping) ≡ false
+      → (looks_first c.known (come_to place dropping) ≡ true → BeginsWithSeen ls → ⊥) → CanShowFrom c (come_to place dropping) ls
+      → CanShowFrom c (come_to place t) ls
+  shows_no_more (InTerm fs) c ls free unseen h = by_place fs c ls free unseen h (is_open (placed fs dropping)) refl
+  shows_no_more (InCleanup k rest fs) c ls free unseen h = shows_too (same_in_cleanup k rest fs c).0 h
+
+-- and so after a term that comes to such a value and stays at one place up to there
+module _ (a t : Term) (n : ℕ) (same : IsSamePlace (forced_after a t) (dropping t n))
+    (comes : (place : Place) → AreSameHere showing place (forced_after a t) (dropping t n)) where
+  must_too : (place : Place) (known : Bool)
+      → must_cancel_at known (come_to place (forced_after a t)) ≡ must_cancel_at known (come_to place (dropping t n))
+  must_too (InTerm fs) known = (same_whole fs same).must known
+  must_too (InCleanup k rest fs) known = refl
+
+  looks_too : (place : Place) (known : Bool) → looks_first known (come_to place (forced_after a t)) ≡ looks_first known (come_to place (dropping t n))
+  looks_too (InTerm fs) known = let p = (same_whole fs same).must known in let q = (same_whole fs same).open_is in cc
+  looks_too (InCleanup k rest fs) known = refl
+
+  forced_shows_all : ShowsAllOfEverywhere (forced_after a t) t
+  forced_shows_all place c ls free h =
+      shows_too (comes place c).1 (dropping_shows_all t n place c ls (sym (must_too place c.known) ∙ free) h)
+
+  forced_is_nothing : ShowTheSameEverywhereUnlessSeenFirst (forced_after a t) t
+  forced_is_nothing place c ls free unseen = (
+    λ h. shows_no_more t n place c ls (sym (must_too place c.known) ∙ free) (λ looks. unseen (looks_too place c.known ∙ looks))
+        (shows_too (comes place c).0 h),
+    forced_shows_all place c ls free,
+  )
+
+module _ (n : ℕ) (t : Term) where
+  abbrev in_let : List Context
+  in_let = LetIn None t ∷ []
+
+  abbrev in_handle : List Context
+  in_handle = LetIn None t ∷ HandleIn None (Pure (Number 0)) ∷ []
+
+  comes_to_value : (place : Place) → AreSameHere showing place (forced_after (Pure (Number n)) t) (dropping t n)
+  comes_to_value place =
+      let second = Let None (Handle (Finished (Val n)) None (Pure (Number 0))) t in
+      same_too showing place (forced_after (Pure (Number n)) t) second (dropping t n)
+      (one_leads showing place (leads_placed in_handle (pure_leads n)) (record { closed = λ outer. refl; leaf_is = refl; clean = refl }))
+      (one_leads showing place (leads_placed in_let (handle_value_leads None n (Pure (Number 0))))
+      (record { closed = λ outer. refl; leaf_is = refl; clean = refl }))
+
+  comes_to_zero : (place : Place) → AreSameHere showing place (forced_after (Raise (Number n)) t) (dropping t 0)
+  comes_to_zero place =
       let second = Let None (Handle (Finished (Err n)) None (Pure (Number 0))) t in
       let third = Let None (Pure (Number 0)) t in
-      same_too showing fs (forced_after (Raise (Number n)) t) second dropped
-      (one_leads showing fs raised (record { closed = λ outer. refl; leaf_is = refl; clean = refl }))
-      (same_too showing fs second third dropped (one_leads showing fs handled (record { closed = λ outer. refl; leaf_is = refl; clean = refl }))
-      (one_leads showing fs zero (record { closed = λ outer. refl; leaf_is = refl; clean = refl })))
+      same_too showing place (forced_after (Raise (Number n)) t) second (dropping t 0)
+      (one_leads showing place (leads_placed in_handle (raise_leads n)) (record { closed = λ outer. refl; leaf_is = refl; clean = refl }))
+      (same_too showing place second third (dropping t 0)
+      (one_leads showing place (leads_placed in_let (handle_error_leads None n (Pure (Number 0))))
+      (record { closed = λ outer. refl; leaf_is = refl; clean = refl }))
+      (one_leads showing place (leads_placed in_let (pure_leads 0)) (record { closed = λ outer. refl; leaf_is = refl; clean = refl })))
 
-  free_there : (known : Bool) → must_cancel known (placed fs (forced_after (Raise (Number n)) t)) ≡ false → must_cancel known (placed fs dropped) ≡ false
-  free_there known free = let p = must_placed known fs (forced_after (Raise (Number n)) t) in let q = must_placed known fs dropped in cc
+pub dropped_value_shows_all : (n : ℕ) (t : Term) → ShowsAllOfEverywhere (forced_after (Pure (Number n)) t) t
+dropped_value_shows_all n t =
+    forced_shows_all (Pure (Number n)) t n (record { closed = λ outer. refl; leaf_is = refl; clean = refl }) (comes_to_value n t)
+
+pub dropped_value_is_nothing : (n : ℕ) (t : Term) → ShowTheSameEverywhereUnlessSeenFirst (forced_after (Pure (Number n)) t) t
+dropped_value_is_nothing n t =
+    forced_is_nothing (Pure (Number n)) t n (record { closed = λ outer. refl; leaf_is = refl; clean = refl }) (comes_to_value n t)
 
 pub dropped_error_shows_all : (n : ℕ) (t : Term) → ShowsAllOfEverywhere (forced_after (Raise (Number n)) t) t
-dropped_error_shows_all n t c fs ls free h =
-    let start = silent_step (leads_placed fs (let_value_leads None 0 t)) (free_there n t fs c.known free) in
-    let there : IsMatched showing c (Runs (placed fs t)) c (Runs (placed fs (dropped n t fs))) =
-    λ ms d q k. silent_first showing start (itself showing ms d q k) in
-    shows_too (comes_to_dropped n t fs c).1 (shows_too there h)
+dropped_error_shows_all n t =
+    forced_shows_all (Raise (Number n)) t 0 (record { closed = λ outer. refl; leaf_is = refl; clean = refl }) (comes_to_zero n t)
 
 pub dropped_error_is_nothing : (n : ℕ) (t : Term) → ShowTheSameEverywhereUnlessSeenFirst (forced_after (Raise (Number n)) t) t
-dropped_error_is_nothing n t c fs ls free unseen = (to, dropped_error_shows_all n t c fs ls free)
-  where
-    to : CanShowFrom c (placed fs (forced_after (Raise (Number n)) t)) ls → CanShowFrom c (placed fs t) ls
-    to h =
-        let k = shows_too (comes_to_dropped n t fs c).0 h in
-        let unseen' = subst (λ (ms : List Label). BeginsWithSeen ms → ⊥) (sym k.shown_is) unseen in
-        let m = shows_next c (leads_placed fs (let_value_leads None 0 t)) (free_there n t fs c.known free) k.labels k.counts k.progress k.run unseen' in
-        record { labels = m.labels; counts = m.counts; progress = m.progress; run = m.leads; shown_is = m.seen_is ∙ k.shown_is }
+dropped_error_is_nothing n t =
+    forced_is_nothing (Raise (Number n)) t 0 (record { closed = λ outer. refl; leaf_is = refl; clean = refl }) (comes_to_zero n t)
 
 -- three terms, each forced after the one before
-module _ (a b f : Term) (fs : List Context) where
+module _ (a b f : Term) (place : Place) where
   abbrev nothing : Term
   nothing = Pure (Number 0)
 
@@ -87,23 +164,23 @@ module _ (a b f : Term) (fs : List Context) where
   abbrev inner : List Context
   inner = LetIn None f ∷ HandleIn None nothing ∷ LetIn None b ∷ []
 
-  value_dropped : (n : ℕ) → AreSameHere showing fs (Let None (Finished (Val n)) (forced_after b f)) (placed inner (Finished (Val n)))
+  value_dropped : (n : ℕ) → AreSameHere showing place (Let None (Finished (Val n)) (forced_after b f)) (placed inner (Finished (Val n)))
   value_dropped n =
-      both_lead showing fs (let_value_leads None n (forced_after b f))
+      both_lead showing place (let_value_leads None n (forced_after b f))
       (leads_placed (LetIn None f ∷ HandleIn None nothing ∷ []) (let_value_leads None n b)) (record { closed = λ outer. refl; leaf_is = refl; clean = refl })
-      (same_itself showing fs (forced_after b f))
+      (same_itself showing place (forced_after b f))
 
-  first_ends : (w : Done) → AreSameHere showing fs (placed from_right (Finished w)) (placed from_left (Finished w))
+  first_ends : (w : Done) → AreSameHere showing place (placed from_right (Finished w)) (placed from_left (Finished w))
   first_ends (Val n) =
-      both_lead showing fs (leads_placed (LetIn None (forced_after b f) ∷ []) (handle_value_leads None n nothing))
+      both_lead showing place (leads_placed (LetIn None (forced_after b f) ∷ []) (handle_value_leads None n nothing))
       (leads_placed inner (handle_value_leads None n nothing)) (record { closed = λ outer. refl; leaf_is = refl; clean = refl }) (value_dropped n)
   first_ends (Err n) =
-      both_lead showing fs (leads_placed (LetIn None (forced_after b f) ∷ []) (handle_error_leads None n nothing))
+      both_lead showing place (leads_placed (LetIn None (forced_after b f) ∷ []) (handle_error_leads None n nothing))
       (leads_placed inner (handle_error_leads None n nothing)) (record { closed = λ outer. refl; leaf_is = refl; clean = refl })
-      (both_lead showing fs (leads_placed (LetIn None (forced_after b f) ∷ []) (pure_leads 0)) (leads_placed inner (pure_leads 0))
+      (both_lead showing place (leads_placed (LetIn None (forced_after b f) ∷ []) (pure_leads 0)) (leads_placed inner (pure_leads 0))
       (record { closed = λ outer. refl; leaf_is = refl; clean = refl }) (value_dropped 0))
 
 pub forced_in_order : (a b f : Term) → ShowTheSameEverywhere (forced_after a (forced_after b f)) (forced_after (forced_after a b) f)
 forced_in_order a b f =
     everywhere (forced_after a (forced_after b f)) (forced_after (forced_after a b) f)
-    (λ fs. same_inside showing fs (from_right a b f fs) (from_left a b f fs) (λ outer. refl) (λ xs. refl) (first_ends a b f fs) a)
+    (λ place. same_inside showing place (from_right a b f place) (from_left a b f place) (λ outer. refl) (λ xs. refl) (first_ends a b f place) a)

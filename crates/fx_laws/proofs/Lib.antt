@@ -4,6 +4,7 @@ pub mod SamePlaces
 pub mod SilentRows
 pub mod Inside
 pub mod InBoth
+pub mod InCleanups
 pub mod SameHere
 pub mod Showing
 pub mod NeverLaws

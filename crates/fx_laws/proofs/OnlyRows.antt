@@ -1,8 +1,10 @@
 -- Rows that are the only ones at a closed place.
 use Rattle.std.proofs.Common.{◌≡◌, ℕ, Bool, true, List, refl, sym, ap, subst}
-use Rattle.fx_term.specs.Term.{Term, Mask, Masked, put}
+use Rattle.fx_term.specs.declared.done.Done.TheVariants.{Val}
+use Rattle.fx_term.specs.declared.event.Event.TheVariants as event
+use Rattle.fx_term.specs.Term.{Term, Canceled, Mask, Finished, Masked, put}
 use Rattle.fx_model.specs.Path.{Context}
-use Rattle.fx_model.specs.Row.{Counts, Label, Silent, one_more_mask, Row}
+use Rattle.fx_model.specs.Row.{Counts, Label, Silent, Shows, known_canceled, one_more_mask, Row}
 use Rattle.fx_model.specs.Row as rule
 use Rattle.fx_model.proofs.Paths.{no_context}
 use Rattle.fx_laws.specs.Everywhere.{placed}
@@ -12,6 +14,13 @@ use Rattle.fx_laws.proofs.Forced.{IsOnlyRow}
 
 pub only_silent : (c : Counts) {t u : Term} → LeadsSilently t u → IsOnlyRow c t Silent c u
 only_silent c s = record { there = s.there true c; only = λ m e w r. s.only true c e m w r; going = s.going }
+
+pub only_self_request : (c : Counts) → IsOnlyRow c Canceled (Shows event.SelfRequest) (known_canceled c) (Finished (Val 0))
+only_self_request c = record { there = rule.self_request refl; only = λ m e w r. one r; going = λ w e. cc }
+  where
+    one : {m : Label} {e : Counts} {w : Term} → Row true c Canceled m e w → (m ≡ Shows event.SelfRequest) × (e ≡ known_canceled c) × (w ≡ Finished (Val 0))
+    one (rule.self_request h) = (refl, refl, refl)
+    one (rule.inside f e g r) = absurd (no_context f _ _ refl e)
 
 abbrev EntersMask : Counts → ℕ → Term → Label → Counts → Term → Type 0
 EntersMask c p t l d u = (l ≡ Silent) × (d ≡ one_more_mask c) × (u ≡ Masked c.masks (put p c.masks t))

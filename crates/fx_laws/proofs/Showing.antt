@@ -1,12 +1,11 @@
 -- The view of all labels but the silent ones.
 use Rattle.std.proofs.Common.{◌≡◌, ℕ, List, [], ◌∷◌, ◌++◌, refl, ◌∙◌}
 use Rattle.fx_term.specs.Term.{Term}
-use Rattle.fx_model.specs.Path.{Context}
 use Rattle.fx_model.specs.Row.{Counts, Label, Silent, Shows, Learns, Starts}
-use Rattle.fx_model.specs.Step.{Runs}
+use Rattle.fx_model.specs.Step.{Progress, Runs}
 use Rattle.fx_model.specs.Run.{first_counts, shown}
 use Rattle.fx_model.specs.MaskLaws.{CanShow, ShowTheSame}
-use Rattle.fx_laws.specs.Everywhere.{CanShowFrom, ShowTheSameEverywhere}
+use Rattle.fx_laws.specs.Everywhere.{Place, InTerm, CanShowFrom, ShowTheSameEverywhere}
 use Rattle.fx_laws.proofs.Views.{View, IsMatched}
 use Rattle.fx_laws.proofs.SameHere.{AreSameHere}
 
@@ -19,7 +18,7 @@ shown_more (Starts f b) ls = refl
 abbrev pub showing : View
 showing = record { of = shown; of_none = refl; of_more = shown_more; of_silent = refl }
 
-pub shows_too : {c : Counts} {t u : Term} {ls : List Label} → IsMatched showing c (Runs t) c (Runs u) → CanShowFrom c t ls → CanShowFrom c u ls
+pub shows_too : {c : Counts} {p q : Progress} {ls : List Label} → IsMatched showing c p c q → CanShowFrom c p ls → CanShowFrom c q ls
 shows_too m h =
     let k = m h.labels h.counts h.progress h.run in
     record { labels = k.labels; counts = k.counts; progress = k.progress; run = k.leads; shown_is = k.seen_is ∙ h.shown_is }
@@ -33,15 +32,15 @@ begins m h =
     record { labels = k.labels; counts = k.counts; progress = k.progress; run = k.leads; shown_is = k.seen_is ∙ h.shown_is }
 
 from_here : {t : Term} {next end : ℕ} {ls : List Label} → CanShow (record { term = t; next = next; end = end }) ls
-    → CanShowFrom (first_counts (record { term = t; next = next; end = end })) t ls
+    → CanShowFrom (first_counts (record { term = t; next = next; end = end })) (Runs t) ls
 from_here h = record { labels = h.labels; counts = h.counts; progress = h.progress; run = h.run; shown_is = h.shown_is }
 
-from_there : {t : Term} {next end : ℕ} {ls : List Label} → CanShowFrom (first_counts (record { term = t; next = next; end = end })) t ls
+from_there : {t : Term} {next end : ℕ} {ls : List Label} → CanShowFrom (first_counts (record { term = t; next = next; end = end })) (Runs t) ls
     → CanShow (record { term = t; next = next; end = end }) ls
 from_there h = record { labels = h.labels; counts = h.counts; progress = h.progress; run = h.run; shown_is = h.shown_is }
 
-pub everywhere : (t u : Term) → ((fs : List Context) → AreSameHere showing fs t u) → ShowTheSameEverywhere t u
-everywhere t u same c fs ls = (shows_too (same fs c).0, shows_too (same fs c).1)
+pub everywhere : (t u : Term) → ((place : Place) → AreSameHere showing place t u) → ShowTheSameEverywhere t u
+everywhere t u same place c ls = (shows_too (same place c).0, shows_too (same place c).1)
 
 -- of whole fibers
 pub of_whole : (t u : Term) → ((c : Counts) → IsMatched showing c (Runs t) c (Runs u) × IsMatched showing c (Runs u) c (Runs t)) → ShowTheSame t u
@@ -50,4 +49,4 @@ of_whole t u same next end ls = (begins (same _).0, begins (same _).1)
 pub whole_of_everywhere : (t u : Term) → ShowTheSameEverywhere t u → ShowTheSame t u
 whole_of_everywhere t u same next end ls =
     let begin : Counts = first_counts (record { term = t; next = next; end = end }) in
-    (λ h. from_there ((same begin [] ls).0 (from_here h)), λ h. from_there ((same begin [] ls).1 (from_here h)))
+    (λ h. from_there ((same (InTerm []) begin ls).0 (from_here h)), λ h. from_there ((same (InTerm []) begin ls).1 (from_here h)))

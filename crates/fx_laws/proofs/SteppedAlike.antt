@@ -1,15 +1,17 @@
 -- Two terms at the same place, each with one row, of which the same is shown.
-use Rattle.std.proofs.Common.{◌≡◌, Bool, false, not, List, ◌∷◌, refl, sym, ◌∙◌, ap, subst}
+use Rattle.std.proofs.Common.{◌≡◌, ℕ, Bool, true, false, not, Option, List, ◌∷◌, refl, sym, ◌∙◌, ap, subst}
 use Rattle.fx_term.specs.declared.done.Done.{Done}
 use Rattle.fx_term.specs.Term.{Term, Finished}
-use Rattle.fx_model.specs.Path.{Context, is_open, must_cancel}
+use Rattle.fx_model.specs.Path.{Context, CleanupTerm, is_open, must_cancel}
 use Rattle.fx_model.specs.Row.{Counts, Label, Row}
-use Rattle.fx_model.specs.Step.{Progress, Runs, Step, row}
+use Rattle.fx_model.specs.Step.{Progress, Runs, CleansUp, Step, row}
 use Rattle.fx_model.specs.Run.{Leads}
-use Rattle.fx_laws.specs.Everywhere.{placed}
+use Rattle.fx_laws.specs.Everywhere.{placed, Place, InTerm, InCleanup}
 use Rattle.fx_laws.proofs.Placed.{result_placed, row_placed, RowOfPlaced, moves_in, result_in, row_of_placed}
 use Rattle.fx_laws.proofs.Views.{View, HasRun, IsMatched, step_first}
 use Rattle.fx_laws.proofs.SamePlaces.{IsSamePlace, same_turned, same_whole, Moves, by_row, by_end, place_matched}
+use Rattle.fx_laws.proofs.Forced.{IsForced, IsOnlyRow, cleans_only, forced_both}
+use Rattle.fx_laws.proofs.OnlyRows.{only_placed}
 use Rattle.fx_laws.proofs.SameHere.{AreSameHere}
 
 -- with any counts the term has this row and no other
@@ -43,7 +45,17 @@ module _ (v : View) (fs : List Context) {label : Counts → Label} {after : Coun
           inner c (row_of_placed fs t here) refl free' e ls r rest
       one c (by_end {w = w} free f k) at e ls r rest = absurd (s.going w (result_placed fs t w (sym f ∙ at)).1)
 
-  pub both_step : {t t' : Term} {u u' : Counts → Term} → LeadsBy label after t u → LeadsBy label after t' u' → IsSamePlace t t'
-      → ((b : Counts) → AreSameHere v fs (u b) (u' b)) → AreSameHere v fs t t'
-  both_step s s' same next c =
-      (one_way s s' same (λ b d. (next b d).0) c, one_way s' s (same_turned same) (λ b d. (next b d).1) c)
+only_by : {label : Counts → Label} {after : Counts → Counts} {t : Term} {u : Counts → Term} → LeadsBy label after t u → (c : Counts)
+    → IsOnlyRow c t (label c) (after c) (u c)
+only_by s c = record { there = s.there true c; only = λ m e w r. s.only true c e m w r; going = s.going }
+
+cleans_by : (k : Option ℕ) (rest : List CleanupTerm) (fs : List Context) {label : Counts → Label} {after : Counts → Counts} {t : Term} {u : Counts → Term}
+    → LeadsBy label after t u → (c : Counts) → IsForced c (CleansUp k (placed fs t) rest) (label c) (after c) (CleansUp k (placed fs (u c)) rest)
+cleans_by k rest fs s c = cleans_only k rest (only_placed fs (only_by s c))
+
+pub both_step : (v : View) (place : Place) {label : Counts → Label} {after : Counts → Counts} {t t' : Term} {u u' : Counts → Term} → LeadsBy label after t u
+    → LeadsBy label after t' u' → IsSamePlace t t' → ((b : Counts) → AreSameHere v place (u b) (u' b)) → AreSameHere v place t t'
+both_step v (InTerm fs) s s' same next c =
+    (one_way v fs s s' same (λ b d. (next b d).0) c, one_way v fs s' s (same_turned same) (λ b d. (next b d).1) c)
+both_step v (InCleanup k rest fs) {after = after} s s' same next c =
+    forced_both v refl (cleans_by k rest fs s c) (cleans_by k rest fs s' c) (next c (after c))

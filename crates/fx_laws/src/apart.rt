@@ -1,8 +1,8 @@
 //! What can be told apart, so that the laws say something.
-ghost use Rattle.std.specs.Prelude.{None};
+ghost use Rattle.std.specs.Prelude.{None, []};
 ghost use Rattle.fx_term.specs.declared.node.Arg.TheVariants.{Number};
 ghost use Rattle.fx_term.specs.Term.{Pure, Canceled, Let, Mask, OnCancel, Offer};
-ghost use Rattle.fx_laws.specs.Everywhere.{ShowTheSameEverywhere};
+ghost use Rattle.fx_laws.specs.Everywhere.{InCleanup, ShowTheSameAt, ShowTheSameEverywhere};
 ghost use Rattle.fx_laws.specs.Others.{LookTheSame};
 
 /// Others see what a finalizer does: `(oncancel (canceled) (offer q 1))` does not look to them as
@@ -14,6 +14,11 @@ pub fn others_see_what_a_finalizer_does()
 /// `(seq (canceled) (offer q 1))` is `(canceled)` at open places alone: in a mask the element is put.
 pub fn canceled_goes_on_at_closed_places()
     ensures { ShowTheSameEverywhere (Let None Canceled (Offer 0 (Number 1))) Canceled → ⊥ }
+{}
+
+/// And in a clean-up, where no place is open: a finalizer that requests its own fiber goes on.
+pub fn canceled_goes_on_in_clean_ups()
+    ensures { ShowTheSameAt (InCleanup None [] []) (Let None Canceled (Offer 0 (Number 1))) Canceled → ⊥ }
 {}
 
 /// `(mask p (oncancel A F))` is not `(oncancel (mask p A) F)`: a request that is seen before the mask is

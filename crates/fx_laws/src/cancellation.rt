@@ -8,7 +8,8 @@ ghost use Rattle.fx_model.specs.MaskLaws.{IsPlain, forced_after};
 ghost use Rattle.fx_laws.specs.Others.{LookTheSame};
 ghost use Rattle.fx_laws.specs.Everywhere.{ShowTheSameWhereOpen};
 
-/// `(seq (canceled) A)` is `(canceled)` at each open place. At a closed one the fiber goes on with `A`.
+/// `(seq (canceled) A)` is `(canceled)` at each open place. At a closed one, and in a clean-up, the fiber
+/// goes on with `A`.
 pub fn canceled_short_circuits_flat_map()
     ensures { (a : Term) → ShowTheSameWhereOpen (Let None Canceled a) Canceled }
 {}

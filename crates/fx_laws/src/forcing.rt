@@ -1,19 +1,28 @@
 //! What is forced after a term: it comes once that has succeeded or erred.
 ghost use Rattle.std.specs.Prelude.{ℕ, None};
 ghost use Rattle.fx_term.specs.declared.node.Arg.TheVariants.{Number};
-ghost use Rattle.fx_term.specs.Term.{Term, Raise, Canceled, Let};
+ghost use Rattle.fx_term.specs.Term.{Term, Pure, Raise, Canceled, Let};
 ghost use Rattle.fx_model.specs.MaskLaws.{forced_after};
 ghost use Rattle.fx_laws.specs.Everywhere.{ShowTheSameEverywhere, ShowTheSameEverywhereUnlessSeenFirst, ShowsAllOfEverywhere};
 
-/// `(forcer (raise n) A)` is `A`, but for what begins with a request that is seen: seen before the fiber
-/// comes to `A`, it leaves out the finalizers that stand round the first leaf of `A`.
+/// `(forcer (pure n) A)` is `A` where the fiber is not canceled at once, but for what begins with a request
+/// that is seen there: seen before the fiber comes to `A`, it leaves out the finalizers that stand round the
+/// first leaf of `A`. At a closed place and in a clean-up, where none is seen, it is `A` without exception.
+pub fn force_r_discards_pure()
+    ensures same { (n : ℕ) (a : Term)
+        → ShowTheSameEverywhereUnlessSeenFirst (forced_after (Pure (Number n)) a) a }
+    ensures all { (n : ℕ) (a : Term) → ShowsAllOfEverywhere (forced_after (Pure (Number n)) a) a }
+{}
+
+/// `(forcer (raise n) A)` is `A`, with the same exception.
 pub fn force_r_discards_error()
     ensures same { (n : ℕ) (a : Term)
         → ShowTheSameEverywhereUnlessSeenFirst (forced_after (Raise (Number n)) a) a }
     ensures all { (n : ℕ) (a : Term) → ShowsAllOfEverywhere (forced_after (Raise (Number n)) a) a }
 {}
 
-/// `(forcer (canceled) A)` is `(seq (canceled) A)`: at a closed place, where the fiber goes on, too.
+/// `(forcer (canceled) A)` is `(seq (canceled) A)`: at a closed place and in a clean-up, where the fiber
+/// goes on, too.
 pub fn force_r_canceled_short_circuits()
     ensures { (a : Term) → ShowTheSameEverywhere (forced_after Canceled a) (Let None Canceled a) }
 {}
