@@ -16,6 +16,9 @@ pub mod Shut
 pub mod AlikeFibers
 pub mod OnlyRows
 pub mod Unwinding
+pub mod Remasked
+pub mod RemaskedRows
+pub mod ScopedPlaces
 pub mod FinalizerLaws
 pub mod Looking
 pub mod Doomed

@@ -1,12 +1,13 @@
 -- A running term inside contexts: what closes its place, its clean-ups, and its rows.
 use Rattle.std.proofs.Common.{◌≡◌, Bool, List, [], ◌∷◌, ◌++◌, refl, sym, ◌∙◌, ap, subst}
+use Rattle.std.proofs.lemmas.List.{append_assoc, append-nil}
 use Rattle.std.specs.Prelude.{◌&&◌, ◌||◌}
 use Rattle.fx_term.specs.declared.done.Done.{Done}
 use Rattle.fx_term.specs.Term.{Term, Finished}
 use Rattle.fx_mask.specs.Closing.{Closing, is_none_closed}
 use Rattle.fx_model.specs.Path.{Context, LetIn, HandleIn, OnCancelIn, AcquireIn, AcquireCaseIn, MaskedIn, OpenedIn, InUseIn, InUseCaseIn, InReleaseIn}
-use Rattle.fx_model.specs.Path.{plug, leaf, closed_under, closed_along, closed_regions, CleanupTerm, cleanups_with, cleanup_terms, is_canceled_form}
-use Rattle.fx_model.specs.Path.{is_open, must_cancel}
+use Rattle.fx_model.specs.Path.{plug, leaf, closed_under, closed_along, closed_regions, CleanupTerm, Finalizer, Release, cleanups_with, cleanups_along}
+use Rattle.fx_model.specs.Path.{cleanup_terms, is_canceled_form, is_open, must_cancel}
 use Rattle.fx_model.specs.Row.{Counts, Label, Row}
 use Rattle.fx_model.specs.Row as rule
 use Rattle.fx_model.proofs.Paths.{closed_plug, leaf_plug, cleanups_plug, no_context, row_plug, part_row}
@@ -40,6 +41,16 @@ cleanups_placed (f ∷ fs) t = cleanups_plug f (placed fs t) ∙ ap (cleanups_wi
 pub around_append : (fs gs : List Context) (xs : List CleanupTerm) → around (fs ++ gs) xs ≡ around fs (around gs xs)
 around_append [] gs xs = refl
 around_append (f ∷ fs) gs xs = ap (cleanups_with f) (around_append fs gs xs)
+
+with_append : (f : Context) (xs ys : List CleanupTerm) → cleanups_with f (xs ++ ys) ≡ xs ++ cleanups_with f ys
+with_append (OnCancelIn g) xs ys = append_assoc xs ys (Finalizer g ∷ [])
+with_append (InUseIn k r) xs ys = append_assoc xs ys (Release k r ∷ [])
+with_append (InUseCaseIn k y s z e d) xs ys = append_assoc xs ys (Release k d ∷ [])
+with_append f xs ys = refl
+
+pub around_is : (fs : List Context) (xs : List CleanupTerm) → around fs xs ≡ xs ++ cleanups_along fs
+around_is [] xs = sym (append-nil xs)
+around_is (f ∷ fs) xs = ap (cleanups_with f) (around_is fs xs) ∙ with_append f xs (cleanups_along fs)
 
 pub open_placed : (fs : List Context) (t : Term) → is_open (placed fs t) ≡ is_none_closed (closed_regions (closed_along [] fs) t)
 open_placed fs t = ap is_none_closed (closed_placed [] fs t)

@@ -1,11 +1,12 @@
 -- The view of all labels but the silent ones.
-use Rattle.std.proofs.Common.{◌≡◌, ℕ, List, [], ◌∷◌, ◌++◌, refl, ◌∙◌}
+use Rattle.std.proofs.Common.{◌≡◌, ℕ, false, List, [], ◌∷◌, ◌++◌, refl, ◌∙◌}
 use Rattle.fx_term.specs.Term.{Term}
+use Rattle.fx_model.specs.Path.{Context}
 use Rattle.fx_model.specs.Row.{Counts, Label, Silent, Shows, Learns, Starts}
 use Rattle.fx_model.specs.Step.{Progress, Runs}
 use Rattle.fx_model.specs.Run.{first_counts, shown}
 use Rattle.fx_model.specs.MaskLaws.{CanShow, ShowTheSame}
-use Rattle.fx_laws.specs.Everywhere.{Place, InTerm, CanShowFrom, ShowTheSameEverywhere}
+use Rattle.fx_laws.specs.Everywhere.{placed, Place, InTerm, CanShowFrom, ShowTheSameAt, ShowTheSameEverywhere}
 use Rattle.fx_laws.proofs.Views.{View, IsMatched}
 use Rattle.fx_laws.proofs.SameHere.{AreSameHere}
 
@@ -23,14 +24,6 @@ shows_too m h =
     let k = m h.labels h.counts h.progress h.run in
     record { labels = k.labels; counts = k.counts; progress = k.progress; run = k.leads; shown_is = k.seen_is ∙ h.shown_is }
 
-begins : {t u : Term} {next end : ℕ} {ls : List Label}
-    → IsMatched showing (first_counts (record { term = t; next = next; end = end })) (Runs t) (first_counts (record { term = u; next = next; end = end }))
-    (Runs u)
-    → CanShow (record { term = t; next = next; end = end }) ls → CanShow (record { term = u; next = next; end = end }) ls
-begins m h =
-    let k = m h.labels h.counts h.progress h.run in
-    record { labels = k.labels; counts = k.counts; progress = k.progress; run = k.leads; shown_is = k.seen_is ∙ h.shown_is }
-
 from_here : {t : Term} {next end : ℕ} {ls : List Label} → CanShow (record { term = t; next = next; end = end }) ls
     → CanShowFrom (first_counts (record { term = t; next = next; end = end })) (Runs t) ls
 from_here h = record { labels = h.labels; counts = h.counts; progress = h.progress; run = h.run; shown_is = h.shown_is }
@@ -43,10 +36,10 @@ pub everywhere : (t u : Term) → ((place : Place) → AreSameHere showing place
 everywhere t u same place c ls = (shows_too (same place c).0, shows_too (same place c).1)
 
 -- of whole fibers
-pub of_whole : (t u : Term) → ((c : Counts) → IsMatched showing c (Runs t) c (Runs u) × IsMatched showing c (Runs u) c (Runs t)) → ShowTheSame t u
-of_whole t u same next end ls = (begins (same _).0, begins (same _).1)
+pub whole_of_place : (fs : List Context) (t u : Term) → ShowTheSameAt (InTerm fs) t u → ShowTheSame (placed fs t) (placed fs u)
+whole_of_place fs t u same next end ls =
+    let begin : Counts = record { masks = 0; acquired = 0; next = next; end = end; known = false } in
+    (λ h. from_there ((same begin ls).0 (from_here h)), λ h. from_there ((same begin ls).1 (from_here h)))
 
-pub whole_of_everywhere : (t u : Term) → ShowTheSameEverywhere t u → ShowTheSame t u
-whole_of_everywhere t u same next end ls =
-    let begin : Counts = first_counts (record { term = t; next = next; end = end }) in
-    (λ h. from_there ((same (InTerm []) begin ls).0 (from_here h)), λ h. from_there ((same (InTerm []) begin ls).1 (from_here h)))
+pub whole_of_everywhere : (fs : List Context) (t u : Term) → ShowTheSameEverywhere t u → ShowTheSame (placed fs t) (placed fs u)
+whole_of_everywhere fs t u same = whole_of_place fs t u (same (InTerm fs))

@@ -1,3 +1,4 @@
 pub mod Names
 pub mod Everywhere
+pub mod ScopedPlaces
 pub mod Others

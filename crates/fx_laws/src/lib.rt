@@ -6,6 +6,7 @@
 //! | definitions | what they say |
 //! |---|---|
 //! | `Everywhere` | two terms show the same wherever a fiber comes to them: whatever stands round them, in its term or in a clean-up that unwinding runs, and whatever the fiber has done before |
+//! | `ScopedPlaces` | they do so where the clean-ups round them use each name as what it is, as those of a script's fibers do |
 //! | `Others` | others see the same of two fibers: what a fiber notes of its own cancellation and of its resources is left out |
 //!
 //! | laws of | what they say |
@@ -14,7 +15,7 @@
 //! | [`forcing`], [`binding`] | what is forced after a term, and what takes its value |
 //! | [`finalizers`], [`brackets`] | which forms of finalizers are the same, and what a bracket is |
 //! | [`cases`] | what a bracket with a release for each outcome is |
-//! | [`everywhere`] | what holds everywhere holds of whole fibers |
+//! | [`everywhere`] | what holds everywhere holds of whole fibers, and to which places these come |
 //! | [`apart`] | terms that can be told apart |
 #![tactic(auto)]
 
