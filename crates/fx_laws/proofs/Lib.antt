@@ -28,6 +28,7 @@ pub mod CanceledInOrder
 pub mod KnownRows
 pub mod CanceledInMask
 pub mod ToldApart
+pub mod ToldByRegion
 pub mod Results
 pub mod Renumbered
 pub mod AlikeInside

@@ -21,6 +21,13 @@ pub fn canceled_goes_on_in_clean_ups()
     ensures { ShowTheSameAt (InCleanup None [] []) (Let None Canceled (Offer 0 (Number 1))) Canceled → ⊥ }
 {}
 
+/// A finalizer in a mask is told from itself by a clean-up that gives out the number of its region as a
+/// value, as no script's does: the mask has taken a number.
+pub fn numbers_of_regions_tell_a_masked_finalizer()
+    ensures { ShowTheSameEverywhere (OnCancel Canceled (Mask 0 (Pure (Number 0))))
+        (OnCancel Canceled (Pure (Number 0))) → ⊥ }
+{}
+
 /// `(mask p (oncancel A F))` is not `(oncancel (mask p A) F)`: a request that is seen before the mask is
 /// entered runs the finalizer of the latter alone.
 pub fn finalizer_stands_inside_a_mask_or_outside()
