@@ -99,8 +99,10 @@ impl FiberQueue {
         QueuePass { pass: other }
     }
 
-    /// Puts the item at the back (`tryOffer`). It comes back only where the queue was full at one moment
-    /// of the call, and then nothing has changed. Its `nth` is how often its fiber has put here before.
+    /// Puts the item at the back (`tryOffer`). Its `nth` is how often its fiber has put here before. It
+    /// comes back only where a legal history leaves the queue full, and then nothing has changed. That
+    /// history is told by itself, behind this one refusal: what other passes do in it is not told to be
+    /// what they did. That one history has the puts and gets of all passes is what `close` says.
     #[inline(always)]
     pub fn offer_as<R: Wait>(&self, rt: &R, pass: &mut QueuePass, item: Item) -> Result<(), Item>
         requires queue { IsOf pass.old self.now }
@@ -115,8 +117,8 @@ impl FiberQueue {
         self.ring.push_as::<Put, R>(rt, &mut pass.pass, item)
     }
 
-    /// Takes the front (`tryTake`). `None` comes only where the queue was empty at one moment of the
-    /// call, and then nothing has changed.
+    /// Takes the front (`tryTake`). `None` comes only where a legal history leaves the queue empty, told
+    /// by itself as that of a refused offer is, and then nothing has changed.
     #[inline(always)]
     pub fn take_as<R: Wait>(&self, rt: &R, pass: &mut QueuePass) -> Option<Item>
         requires queue { IsOf pass.old self.now }

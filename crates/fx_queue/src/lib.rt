@@ -10,9 +10,9 @@
 //! | `new` | none | the queue is empty, and nobody waits | the main fiber's pass, with all other numbers in its range |
 //! | `pass` for a number | the one whose range begins with it | the numbers up to the given end leave that range | its pass, with the others of these |
 //! | `offer_as` | any | where there is room: the element is at the back, and the history has the put | `Ok` |
-//! | | | else nothing | the element, and that at one moment of the call the queue was full |
+//! | | | else nothing | the element, and that a history leaves the queue full |
 //! | `take_as` | any | where there is an element: the front is gone, and the history has the get | the element |
-//! | | | else nothing | `None`, and that at one moment of the call the queue was empty |
+//! | | | else nothing | `None`, and that a history leaves the queue empty |
 //! | `gather` of a pass | any | the pass that is gathered is no more, and what it knew its taker knows | nothing |
 //! | `close` | the main fiber's, once it has gathered all | the queue is given up | what was left, from front to back |
 //!
@@ -26,10 +26,13 @@
 //! 2. Each pass's list of its own events is the history's cut to its fiber, and what it has seen is the
 //!    beginning of the history. So a fiber's own events stand in its own order.
 //! 3. A refusal is told only where such a history leaves the queue full, or empty: one that begins with
-//!    all that the pass has seen, and has no other event of its fiber since. Where the pass is the main
-//!    fiber's, and has gathered all, this history has no event of anybody else.
+//!    all that the pass has seen, and has no other event of its fibers, and none of a number that is no
+//!    fiber's. Where the pass is the main fiber's, and has gathered all, this history has no event of
+//!    anybody else. Else it binds the pass alone: others may do in it what they never did, and two
+//!    refusals may have histories that do not go together.
 //! 4. `close` gives the rest of a history whose cuts are the lists of the gathered passes, as they were
-//!    when it was called, and which has no event of anybody else.
+//!    when it was called, and which has no event of anybody else. It begins with all that each pass had
+//!    seen, so that all puts and gets are told by one history.
 //! 5. Those who wait at a side stand in a ring behind a small lock, each once. That the one listed
 //!    longest is next is proved of that ring, and of the queue it is tested, since a contract says
 //!    nothing of what is behind a lock. Where nobody waits `next_waiter` takes no lock.
