@@ -46,6 +46,7 @@ stores_kept n x words book bit keeper kept e at running =
       tells = old.tells;
       learns = old.learns;
       splits = old.splits;
+      once = old.once;
       above = old.above;
       range = old.range;
     }
@@ -82,6 +83,7 @@ ends_kept n o words book bit keeper kept e at running stored =
       tells = old.tells;
       learns = old.learns;
       splits = old.splits;
+      once = old.once;
       above = old.above;
       range = old.range;
     }

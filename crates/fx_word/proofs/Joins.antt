@@ -15,8 +15,10 @@ use Rattle.fx_term.specs.declared.begin.Begin.{Begin}
 use Rattle.fx_term.specs.declared.outcome.Outcome.{Outcome}
 use Rattle.fx_word.specs.declared.entry.Entry.{Entry}
 use Rattle.fx_word.specs.declared.seat_view.SeatView.{SeatView}
-use Rattle.fx_word.specs.SeatView.{spent_view, In, entries, joined, IsWhole, IsSettled}
+use Rattle.fx_word.specs.Entry.{splits_of}
+use Rattle.fx_word.specs.SeatView.{spent_view, In, entries, all_parts, joined, IsWhole, IsSettled, AreSplitOffOnce}
 use Rattle.fx_word.specs.Rule.{Book, outcome_in, begin_in, facts, Fits, Kept, Dealt, Held, Ruled}
+use Rattle.fx_word.proofs.SplitCounts.{Apart-append, splits_never, splits_by_one}
 use Rattle.fx_word.proofs.OwnSteps.{at_below}
 
 module _ (book : Book) (seat : ℕ → ℕ) (p q : ℕ) (v w : SeatView) (ne : q ≢ p) where
@@ -40,13 +42,17 @@ module _ (book : Book) (seat : ℕ → ℕ) (p q : ℕ) (v w : SeatView) (ne : q
     here = λ d k. ⊎_elim
         (λ y. let t = dv.here d y in (t.0, moved_else d.id (λ z. ne (sym z ∙ t.1)) ∙ t.1))
         (λ y. let t = dw.here d y in (t.0, moved_here d.id t.1)) (cases d k);
-    others = λ d k z. ⊎_elim
-        (λ y. ne (sym (dw.here d y).1 ∙ (ap seat z ∙ (dv.here v.own (inl refl)).1)))
-        (λ y. dv.others d y z) (Among-append (entries w) v.taken d k);
+    apart = (
+      (λ d k z. ⊎_elim
+          (λ y. ne (sym (dw.here d y).1 ∙ (ap seat z ∙ (dv.here v.own (inl refl)).1)))
+          (λ y. dv.apart.0 d y z) (Among-append (entries w) v.taken d k)),
+      Apart-append (entries w) v.taken dw.apart dv.apart.1
+          (λ d e m k z. ne (sym (dw.here d m).1 ∙ (ap seat (sym z) ∙ (dv.here e (inr k)).1))),
+    );
   }
 
   rest_dealt : (r : ℕ) (u : SeatView) → r ≢ q → Dealt book seat r u → Dealt book moved r u
-  rest_dealt r u other d = record { here = λ e k. let t = d.here e k in (t.0, moved_else e.id (λ z. other (sym t.1 ∙ z)) ∙ t.1); others = d.others }
+  rest_dealt r u other d = record { here = λ e k. let t = d.here e k in (t.0, moved_else e.id (λ z. other (sym t.1 ∙ z)) ∙ t.1); apart = d.apart }
 
   all_dealt : (views : List SeatView) → v.spent ≡ false → w.spent ≡ false → get_elem? views p ≡ some v → get_elem? views q ≡ some w
       → ((r : ℕ) (u : SeatView) → get_elem? views r ≡ some u → u.spent ≡ false → Dealt book seat r u)
@@ -135,17 +141,40 @@ module _ (n : ℕ) (words : List ℕ) (book : Book) (bit : ℕ → Bool) (keeper
   fit : (e : Entry) → In e v → Fits (facts book bit keeper) e
   fit e k = kept.fits e.id e (at_book e k)
 
+  main_begin : (e : Entry) → In e v → e.id ≡ 0 → e.begin ≡ None
+  main_begin e k z = ⊎_elim (λ t. t.1) (λ t. let less = t.3 in absurd (omega (arith, z, less))) (kept.rooted e.id e (at_book e k))
+
+  no_begin : begin_in (book 0) ≡ None
+  no_begin = ap begin_in (ap book (sym whole.0) ∙ at_book v.own (inl refl)) ∙ main_begin v.own (inl refl) whole.0
+
+  starter : (e : Entry) → In e v → e.id ≢ 0 → (d : Entry) × (b : Begin) × In d v × Among (e.id, b) d.parts
+  starter e k nz = ⊎_elim (λ t. absurd (nz t.0)) (λ t. (t.1, t.2, every t.0 t.1 t.4, t.5)) (kept.rooted e.id e (at_book e k))
+
+  -- whoever split a fiber off is the one that the book says it began by
+  by_starter : (e d : Entry) (b : Begin) → In d v → Among (e.id, b) d.parts → splits_of e.id (all_parts v) ≡ 1
+  by_starter e d b k m = splits_by_one e.id b d (entries v) dealt.apart k m ((fit d k).once e.id)
+      (λ x c n h. ap (λ (s : ℕ × Begin). s.0) (same_Some (x.id, c) (d.id, b) (sym ((fit x n).splits e.id c h) ∙ (fit d k).splits e.id b m)))
+
   settled : IsSettled v
   settled = record {
     one = λ d e k m y. same_Some d e (sym (at_book d k) ∙ (ap book y ∙ at_book e m));
     requested = λ e k s. let t = kept.asked e.id ((fit e k).sees s) in (t.1, every t.0 t.1 t.2, t.3);
     ended = λ e k i o m. out_entry i o (book i) refl ((fit e k).learns i o m);
-    main = λ e k z. ⊎_elim (λ t. t.1) (λ t. let less = t.3 in absurd (omega (arith, z, less))) (kept.rooted e.id e (at_book e k));
-    started = λ e k nz. ⊎_elim (λ t. absurd (nz t.0)) (λ t. (t.1, t.2, every t.0 t.1 t.4, t.5)) (kept.rooted e.id e (at_book e k));
+    main = main_begin;
+    started = starter;
     began = λ e k i b m d h y. sym (ap begin_in (ap book (sym y) ∙ at_book d h)) ∙ (fit e k).splits i b m;
   }
 
-pub closes : (n p : ℕ) (v : SeatView) (words : List ℕ) (xs : List (Unit {0})) → v.spent ≡ false → IsWhole v
-    → Final (Seen (λ (s : State (Unit {0}) SeatView). Ruled n s.words s.views) p v) words xs → IsSettled v
-closes n p v words xs fresh whole f = let s = f.0 in let h = f.1.0 in
-    settled n s.words h.0 h.1 h.2 h.4 h.3 p v (h.5 p v f.1.1 fresh) whole
+  split_off_once : AreSplitOffOnce v
+  split_off_once = record {
+    main = splits_never 0 (entries v) (λ e b k m. none-some (e.id, b) (sym no_begin ∙ (fit e k).splits 0 b m));
+    others = λ e k nz. let t = starter e k nz in by_starter e t.0 t.1 t.2 t.3;
+  }
+
+module _ (n p : ℕ) (v : SeatView) (words : List ℕ) (xs : List (Unit {0})) (fresh : v.spent ≡ false) (whole : IsWhole v)
+    (final : Final (Seen (λ (s : State (Unit {0}) SeatView). Ruled n s.words s.views) p v) words xs) where
+  pub closes : IsSettled v
+  closes = let s = final.0 in let h = final.1.0 in settled n s.words h.0 h.1 h.2 h.4 h.3 p v (h.5 p v final.1.1 fresh) whole
+
+  pub closes_once : AreSplitOffOnce v
+  closes_once = let s = final.0 in let h = final.1.0 in split_off_once n s.words h.0 h.1 h.2 h.4 h.3 p v (h.5 p v final.1.1 fresh) whole

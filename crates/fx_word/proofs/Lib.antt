@@ -1,4 +1,5 @@
 pub mod StateWords
+pub mod SplitCounts
 pub mod OwnSteps
 pub mod Requests
 pub mod Ends

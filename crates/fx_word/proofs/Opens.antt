@@ -56,6 +56,7 @@ module _ (n : ℕ) (some_fiber : 0 < n) (words : List ℕ) (long : length words 
           tells = λ j k q. absurd q;
           learns = λ j o q. absurd q;
           splits = λ j c q. absurd q;
+          once = λ j. omega arith;
           above = omega arith;
           range = λ j a c. keeps_in j (omega (arith, a)) c;
         };
@@ -73,7 +74,7 @@ module _ (n : ℕ) (some_fiber : 0 < n) (words : List ℕ) (long : length words 
           ∙ ap Some (sym y)),
       refl,
     )) (λ y. absurd y) k;
-    others = λ d k. absurd k;
+    apart = ((λ d k. absurd k), tt);
   }
   opens_dealt (suc p) v h o = absurd (some-ne-none v (sym h))
 

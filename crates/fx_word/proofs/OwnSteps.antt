@@ -32,6 +32,7 @@ Fits-grows z z' e g k f = record {
   tells = λ i k h. let t = f.tells i k h in (t.0, g.outs i t.0 t.1, t.2);
   learns = λ i o h. g.outs i o (f.learns i o h);
   splits = λ i b h. g.begins i (e.id, b) (f.splits i b h);
+  once = f.once;
   above = f.above;
   range = λ i a b. k i (f.range i a b);
 }
@@ -166,15 +167,15 @@ module _ (book : Book) (e e' : Entry) (same_id : e'.id ≡ e.id) where
               ap seat (ap (λ (u : Entry). u.id) s ∙ same_id) ∙ (seat_own ∙ sym y),
             ))
             (λ s. let w = was.here d (inr s) in
-            (at_other e.id (Some e') book d.id (λ z. was.others d s (z ∙ sym (ap (λ (u : Entry). u.id) own))) ∙ w.0, w.1 ∙ sym y)) k;
-        others = λ d k z. was.others d k (z ∙ (same_id ∙ sym (ap (λ (u : Entry). u.id) own)));
+            (at_other e.id (Some e') book d.id (λ z. was.apart.0 d s (z ∙ sym (ap (λ (u : Entry). u.id) own))) ∙ w.0, w.1 ∙ sym y)) k;
+        apart = ((λ d k z. was.apart.0 d k (z ∙ (same_id ∙ sym (ap (λ (u : Entry). u.id) own)))), was.apart.1);
       }
 
       theirs : q ≢ p → Dealt book seat q u → Dealt (with_at e.id (Some e') book) seat q u
       theirs m w = record {
         here = λ d k. let t = w.here d k in
             (at_other e.id (Some e') book d.id (λ z. m (sym t.1 ∙ (ap seat z ∙ seat_own))) ∙ t.0, t.1);
-        others = w.others;
+        apart = w.apart;
       }
 
   -- and each entry is in a view

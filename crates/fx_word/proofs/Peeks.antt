@@ -32,6 +32,7 @@ telling_fits z i (Some o) e is f = record {
   tells = λ j k q. ⊎_elim (λ y. (o, ap z.out (ap (λ (x : ℕ × EndKind). x.0) y) ∙ is, sym (ap (λ (x : ℕ × EndKind). x.1) y))) (f.tells j k) q;
   learns = f.learns;
   splits = f.splits;
+  once = f.once;
   above = f.above;
   range = f.range;
 }
@@ -63,6 +64,7 @@ learning_kept n words book bit keeper kept e at i o is = calm_kept n words book 
           ∙ ap Some (sym (ap (λ (x : ℕ × Outcome). x.1) y)))))
           (f.learns j q) h;
       splits = f.splits;
+      once = f.once;
       above = f.above;
       range = f.range;
     })

@@ -19,6 +19,7 @@ use Rattle.fx_word.specs.StateWord.{state_word}
 use Rattle.fx_word.specs.Entry.{new_entry}
 use Rattle.fx_word.specs.SeatView.{alone, with_own, kept_part, given_part}
 use Rattle.fx_word.specs.Rule.{Book, outcome_in, begin_in, facts, Fits, Root, Kept, Dealt, Held, Ruled}
+use Rattle.fx_word.proofs.SplitCounts.{splits_once}
 use Rattle.fx_word.proofs.OwnSteps.{Grows, Fits-grows, own_at, Root-grows, own_dealt, own_held}
 
 -- the numbers above id, up to end, are id's, and id is nobody's any more
@@ -138,6 +139,7 @@ module _ (n : ℕ) (words : List ℕ) (book : Book) (bit : ℕ → Bool) (keeper
         tells = λ j k q. absurd q;
         learns = λ j o q. absurd q;
         splits = λ j c q. absurd q;
+        once = λ j. omega arith;
         above = omega (arith, follows);
         range = λ j a c. passed_in keeper e.next b.end j (omega (arith, a, follows)) c;
       })
@@ -152,6 +154,7 @@ module _ (n : ℕ) (words : List ℕ) (book : Book) (bit : ℕ → Bool) (keeper
         splits = λ j c q. ⊎_elim
             (λ y. ap begin_in (ap book2 (ap (λ (x : ℕ × Begin). x.0) y) ∙ here2) ∙ ap (λ (x : Begin). Some (e.id, x)) (sym (ap (λ (x : ℕ × Begin). x.1) y)))
             (λ y. begun2 j (e.id, c) (fit.splits j c y)) q;
+        once = splits_once (e.next, b) e.parts (λ c y. none-some (e.id, c) (sym (ap begin_in unborn.0) ∙ fit.splits e.next c y)) fit.once;
         above = (let a = fit.above in omega (arith, a, follows, fits));
         range = λ j a c. passed_above keeper e.next b.end j (omega (arith, a, follows, fits)) a ∙ fit.range j (omega (arith, a, follows, fits)) c;
       })
@@ -207,12 +210,12 @@ module _ (n : ℕ) (words : List ℕ) (book : Book) (bit : ℕ → Bool) (keeper
           ap seat2 (ap (λ (w : Entry). w.id) y)
               ∙ (at_that e.next last seat e.next refl ∙ sym t.0),
         )) (λ y. absurd y) k;
-        others = λ d k. absurd k;
+        apart = ((λ d k. absurd k), tt);
       })
       (λ t. let was = own_dealt book e left refl seat p v views own fresh here all q u t open_ in record {
         here = λ d k. let w = was.here d k in let new : d.id ≢ e.next = λ y. none-some d (sym unborn1 ∙ (ap book1 (sym y) ∙ w.0)) in
             (at_other e.next (Some right) book1 d.id new ∙ w.0, at_other e.next last seat d.id new ∙ w.1);
-        others = was.others;
+        apart = was.apart;
       })
       (at_end (set views p (record v { own = left })) (alone right) u q h)
     where

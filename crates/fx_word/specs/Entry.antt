@@ -1,5 +1,6 @@
 -- What one fiber did to the words and learnt of them, and how each of its steps adds to it.
-use Rattle.std.specs.Prelude.{ℕ, Bool, true, false, [], ◌∷◌, Option, Some, None}
+use Rattle.std.specs.Prelude.{ℕ, Bool, true, false, List, [], ◌∷◌, length, Option, Some, None, ◌==◌}
+use Rattle.std.specs.List.{filter}
 use Rattle.fx_term.specs.declared.begin.Begin.{Begin}
 use Rattle.fx_term.specs.declared.outcome.Outcome.{Outcome}
 use Rattle.fx_word.specs.declared.entry.Entry.{Entry}
@@ -56,3 +57,7 @@ learning i o e = record e { learnt = (i, o) ∷ e.learnt }
 
 abbrev pub peeked : ℕ → Outcome → Entry → Entry
 peeked i o e = learning i o (telling i (Some o) e)
+
+-- how often i stands among what was split off
+abbrev pub splits_of : ℕ → List (ℕ × Begin) → ℕ
+splits_of i ps = length (filter (λ (p : ℕ × Begin). p.0 == i) ps)

@@ -1,6 +1,6 @@
 -- The rule of the words: what the words and the views of all seats agree on. A fiber i has the words 2 * i, its state, and 2 * i + 1, the number
 -- that it ended with.
-use Rattle.std.specs.Prelude.{◌≡◌, ◌≢◌, ℕ, ◌+◌, ◌*◌, ◌<◌, ◌≤◌, Bool, true, false, List, ◌⊎◌, length, slice_index, Option, Some, None}
+use Rattle.std.specs.Prelude.{◌≡◌, ◌≢◌, ℕ, ◌+◌, ◌*◌, ◌<◌, ◌≤◌, Bool, true, false, List, [], ◌∷◌, ◌⊎◌, length, slice_index, Option, Some, None}
 use mathlib.Core.Option.{some}
 use lib.ListN.{get_elem?}
 use Rattle.fx_term.specs.Lists.{Among}
@@ -10,7 +10,8 @@ use Rattle.fx_word.specs.declared.entry.Entry.{Entry}
 use Rattle.fx_word.specs.declared.seat_view.SeatView.{SeatView}
 use Rattle.fx_word.specs.declared.state_word.EndKind.{EndKind}
 use Rattle.fx_word.specs.StateWord.{end_kind, value_of, state_word}
-use Rattle.fx_word.specs.SeatView.{In}
+use Rattle.fx_word.specs.Entry.{splits_of}
+use Rattle.fx_word.specs.SeatView.{In, entries}
 
 -- the entry of each fiber that was split off, whichever seat has it
 abbrev pub Book : Type 0
@@ -42,6 +43,7 @@ pub record Fits (z : Facts) (e : Entry) : Type 0 where
   pub tells : (i : ℕ) (k : EndKind) → Among (i, k) e.told → (o : Outcome) × (z.out i ≡ Some o) × (end_kind o ≡ k)
   pub learns : (i : ℕ) (o : Outcome) → Among (i, o) e.learnt → z.out i ≡ Some o
   pub splits : (i : ℕ) (b : Begin) → Among (i, b) e.parts → z.begun i ≡ Some (e.id, b)
+  pub once : (i : ℕ) → splits_of i e.parts ≤ 1
   pub above : e.id < e.next
   pub range : (i : ℕ) → e.next ≤ i → i < e.end → z.keeper i ≡ Some e.id
 
@@ -62,10 +64,15 @@ pub record Kept (n : ℕ) (words : List ℕ) (book : Book) (bit : ℕ → Bool) 
   pub free : (i f : ℕ) → keeper i ≡ Some f → (book i ≡ None) × (i < n)
   pub rooted : (i : ℕ) (e : Entry) → book i ≡ Some e → Root book i e.begin
 
--- the seat at p has the entries of its view, and no other seat has them
+-- the entries are of different fibers
+abbrev pub Apart : List Entry → Type 0
+Apart [] = Unit {0}
+Apart (e ∷ es) = ((d : Entry) → Among d es → d.id ≢ e.id) × Apart es
+
+-- the seat at p has the entries of its view, each once, and no other seat has them
 pub record Dealt (book : Book) (seat : ℕ → ℕ) (p : ℕ) (v : SeatView) : Type 0 where
   pub here : (e : Entry) → In e v → (book e.id ≡ Some e) × (seat e.id ≡ p)
-  pub others : (e : Entry) → Among e v.taken → e.id ≢ v.own.id
+  pub apart : Apart (entries v)
 
 -- the seat that has the entry of i is not spent
 abbrev pub Held : (ℕ → ℕ) → List SeatView → ℕ → Entry → Type 0

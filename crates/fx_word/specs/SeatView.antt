@@ -1,11 +1,12 @@
 -- What a seat knows: the entry of its own fiber, and those of the seats that it took in.
 use Rattle.std.specs.Prelude.{◌≡◌, ◌≢◌, ℕ, true, false, List, [], ◌∷◌, ◌++◌, ◌⊎◌, Some, None}
+use Rattle.std.specs.List.{flat_map}
 use Rattle.fx_term.specs.Lists.{Among}
 use Rattle.fx_term.specs.declared.begin.Begin.{Begin}
 use Rattle.fx_term.specs.declared.outcome.Outcome.{Outcome}
 use Rattle.fx_word.specs.declared.entry.Entry.{Entry}
 use Rattle.fx_word.specs.declared.seat_view.SeatView.{SeatView}
-use Rattle.fx_word.specs.Entry.{new_entry, splitting}
+use Rattle.fx_word.specs.Entry.{new_entry, splitting, splits_of}
 
 abbrev pub alone : Entry → SeatView
 alone e = record { spent = false; own = e; taken = [] }
@@ -37,6 +38,10 @@ In e v = (e ≡ v.own) ⊎ Among e v.taken
 abbrev pub entries : SeatView → List Entry
 entries v = v.own ∷ v.taken
 
+-- all that its fibers split off
+abbrev pub all_parts : SeatView → List (ℕ × Begin)
+all_parts v = flat_map (λ (e : Entry). e.parts) (entries v)
+
 -- the first view took the second one in
 abbrev pub joined : SeatView → SeatView → SeatView
 joined v w = record v { taken = entries w ++ v.taken }
@@ -66,8 +71,13 @@ pub record IsSettled (v : SeatView) : Type 0 where
   pub requested : (e : Entry) → In e v → e.seen ≡ true → (d : Entry) × In d v × Among e.id d.asked
   -- what was learnt of an end is how that fiber ended
   pub ended : (e : Entry) → In e v → (i : ℕ) (o : Outcome) → Among (i, o) e.learnt → (d : Entry) × In d v × (d.id ≡ i) × (d.ended ≡ Some o)
-  -- nobody started the main fiber, and some fiber each other one
+  -- the main fiber has no beginning, and some fiber split each other one off
   pub main : (e : Entry) → In e v → e.id ≡ 0 → e.begin ≡ None
   pub started : (e : Entry) → In e v → e.id ≢ 0 → (d : Entry) × (b : Begin) × In d v × Among (e.id, b) d.parts
   -- a fiber began as the one that split it off says
   pub began : (e : Entry) → In e v → (i : ℕ) (b : Begin) → Among (i, b) e.parts → (d : Entry) → In d v → d.id ≡ i → d.begin ≡ Some (e.id, b)
+
+-- all fibers of such a seat together split the main one off never, and each other one once
+pub record AreSplitOffOnce (v : SeatView) : Type 0 where
+  pub main : splits_of 0 (all_parts v) ≡ 0
+  pub others : (e : Entry) → In e v → e.id ≢ 0 → splits_of e.id (all_parts v) ≡ 1

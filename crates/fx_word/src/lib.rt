@@ -28,7 +28,9 @@
 //! 3. A number is split off at most once, and a seat is moved: so no fiber has two seats.
 //! 4. `close` tells what the seats know of one another (`IsSettled`): a request that was seen was made,
 //!    an outcome that was learnt is what that number's seat finished with, and each seat but the main
-//!    fiber's was split off by the one that it says, with what that one gave it to begin with.
+//!    fiber's was split off by the one that it says, with what that one gave it to begin with. It tells
+//!    too that each was split off once, by all of them together, and the main fiber's never
+//!    (`AreSplitOffOnce`).
 //! 5. `new` alone takes memory, and no call waits.
 #![tactic(auto)]
 

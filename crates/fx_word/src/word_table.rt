@@ -5,7 +5,7 @@ ghost use Rattle.fx_term.specs.declared.outcome.Outcome as outcome;
 ghost use Rattle.fx_word.specs.StateWord.{kind_in, end_kind};
 ghost use Rattle.fx_word.specs.Entry.{asking, looking, finished, telling, learning, peeked};
 ghost use Rattle.fx_word.specs.SeatView.{first_view, with_own, kept_part, given_part, joined};
-ghost use Rattle.fx_word.specs.SeatView.{IsAsked, Knows, IsWhole, IsSettled};
+ghost use Rattle.fx_word.specs.SeatView.{IsAsked, Knows, IsWhole, IsSettled, AreSplitOffOnce};
 
 use crate::seat_view::SeatView;
 use crate::state_word::{EndKind, REQUESTED, StateWord, done_bits, outcome_of, value_word};
@@ -180,7 +180,8 @@ impl WordTable {
     pub fn close(self, seat: TableSeat)
         requires words { seat.seat.table_id ≡ self.table.shared.table_id }
         requires whole { IsWhole seat.seat.me.0 }
-        ensures { IsSettled seat.seat.me.0 }
+        ensures settled { IsSettled seat.seat.me.0 }
+        ensures once { AreSplitOffOnce seat.seat.me.0 }
     {
         let WordTable { table, fibers: _ } = self;
         let TableSeat { id: _, seat } = seat;

@@ -2,7 +2,7 @@
 ghost use Rattle.std.specs.Prelude.{◌≡◌, ◌<◌, ◌≤◌, ◌+◌, IfOk, IfSome, IfNone, IsTrue, Some, None};
 ghost use Rattle.fx_term.specs.declared.outcome.Outcome as outcome;
 ghost use Rattle.fx_word.specs.Entry.{asking, looking, finished, peeked};
-ghost use Rattle.fx_word.specs.SeatView.{first_view, IsAsked, Knows, IsWhole, IsSettled};
+ghost use Rattle.fx_word.specs.SeatView.{first_view, IsAsked, Knows, IsWhole, IsSettled, AreSplitOffOnce};
 ghost use Rattle.fx_word.specs.Words.{IsOf, with_entry, kept_seat, given_seat, joined_seat};
 
 use crate::word_seat::WordSeat;
@@ -108,7 +108,8 @@ impl Words {
     pub fn close(self, seat: WordSeat)
         requires words { IsOf seat self }
         requires whole { IsWhole seat.view }
-        ensures { IsSettled seat.view }
+        ensures settled { IsSettled seat.view }
+        ensures once { AreSplitOffOnce seat.view }
     {
         self.table.close(seat.seat);
     }

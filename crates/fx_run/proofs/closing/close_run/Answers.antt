@@ -67,7 +67,7 @@ returns-clause-halted g c may allowed =
     let nodes = c.args.script.now.code.nodes in
     let lost = subst NoneIsLost c.deref.ensures.value c.in_ok-test_for_lost.ensures.whole in
     waits_so nodes c.args.words c.args.queues.items c.args.gathered c.requires.gathered lost c.requires.ascending s refl c.requires.fibers c.requires.capacities
-    may allowed c.close.ensures c.args.late _ (returns-clause-report g c) (code_is_scoped (λ f. true) nodes c.main_begin-numbers.ensures.code) _
+    may allowed c.close.ensures.settled c.args.late _ (returns-clause-report g c) (code_is_scoped (λ f. true) nodes c.main_begin-numbers.ensures.code) _
     (c.in_ok-waits.ensures ∙ ap all_waits c.deref-2.ensures.value)
 
 pub returns-clause-promised : goal.returns-clause-promised
@@ -83,7 +83,7 @@ returns-clause-refusals g c may allowed =
     let nodes = c.args.script.now.code.nodes in
     let lost = subst NoneIsLost c.deref.ensures.value c.in_ok-test_for_lost.ensures.whole in
     refusals_true nodes c.args.words c.args.queues.items c.args.gathered c.requires.gathered lost c.requires.ascending s refl c.requires.fibers
-    c.requires.capacities may allowed c.close.ensures c.args.late _ (returns-clause-report g c)
+    c.requires.capacities may allowed c.close.ensures.settled c.args.late _ (returns-clause-report g c)
 
 pub returns-clause-writable : goal.returns-clause-writable
 returns-clause-writable g c le =
@@ -97,7 +97,7 @@ returns-clause-named g c le =
     let lost = subst NoneIsLost c.deref.ensures.value c.in_ok-test_for_lost.ensures.whole in
     subst (λ (n : ℕ). All (WaitsAtQueueBelow n) c.in_ok-waits.waits.items) (sym (length-map m.queues (λ (q : List ℕ × ℕ). q.0)))
     (waits_named_so nodes c.args.words c.args.queues.items c.args.gathered c.requires.gathered lost c.requires.ascending (script_of m) refl c.requires.fibers
-    c.requires.capacities (λ f. true) (λ f marked. refl) c.close.ensures c.args.late _ (returns-clause-report g c)
+    c.requires.capacities (λ f. true) (λ f marked. refl) c.close.ensures.settled c.args.late _ (returns-clause-report g c)
     (code_is_scoped (λ f. true) nodes c.main_begin-numbers.ensures.code) _ (c.in_ok-waits.ensures ∙ ap all_waits c.deref-2.ensures.value) (length m.queues)
     (names_declared c.args.script.now c.main_begin-numbers.ensures.code le))
 
