@@ -12,23 +12,43 @@ use std::thread::Threads;
 
 const CALLS: u64 = 4000;
 
-/// Takes in so many calls.
-fn take<R: Wait>(rt: &R, queue: &FiberQueue, mut pass: QueuePass) -> Tally
-    requires queue { IsOf pass queue.now }
-    ensures { IsSameFiber pass result.pass }
+/// Takes in so many calls, and counts on.
+fn take<R: Wait>(rt: &R, queue: &FiberQueue, mut tally: Tally, calls: u64) -> Tally
+    requires queue { IsOf tally.pass queue.now }
+    ensures { IsSameFiber tally.pass result.pass }
 {
-    let mut count = 0u64;
-    let mut sum = 0u64;
-    'taking: for _call in 0..CALLS {
-        match queue.take_as(rt, &mut pass) {
+    'taking: for _call in 0..calls {
+        match queue.take_as(rt, &mut tally.pass) {
             Some(item) => {
-                sum = sum.wrapping_add(item.value);
-                count = count.wrapping_add(1);
+                tally.sum = tally.sum.wrapping_add(item.value);
+                tally.count = tally.count.wrapping_add(1);
             }
             None => {}
         }
     }
-    Tally { pass, count, sum }
+    tally
+}
+
+/// All calls of a fiber that takes.
+fn take_all<R: Wait>(rt: &R, queue: &FiberQueue, pass: QueuePass) -> Tally
+    requires queue { IsOf pass queue.now }
+    ensures { IsSameFiber pass result.pass }
+{
+    let tally = Tally {
+        pass,
+        count: 0,
+        sum: 0,
+    };
+    take(rt, queue, tally, CALLS)
+}
+
+/// Both takers have three of the eight that are in a full queue, one after the other.
+fn take_three_each<R: Wait>(rt: &R, queue: &FiberQueue, takers: (Tally, Tally)) -> (Tally, Tally)
+    requires { IsOf takers.0.pass queue.now × IsOf takers.1.pass queue.now }
+    ensures { IsSameFiber takers.0.pass result.0.pass × IsSameFiber takers.1.pass result.1.pass }
+{
+    let (one, two) = takers;
+    (take(rt, queue, one, 3), take(rt, queue, two, 3))
 }
 
 fn put_both<R: Threads + Wait + Sync>(
@@ -69,11 +89,11 @@ fn take_both<R: Threads + Wait + Sync>(
         move || -> Tally
             requires { IsOf three queue.now }
             ensures { IsSameFiber three result.pass }
-        { take(rt, queue, three) },
+        { take_all(rt, queue, three) },
         move || -> Tally
             requires { IsOf four queue.now }
             ensures { IsSameFiber four result.pass }
-        { take(rt, queue, four) },
+        { take_all(rt, queue, four) },
     )
 }
 
@@ -130,7 +150,8 @@ fn gathered(queue: &FiberQueue, main: &mut QueuePass, two: (Tally, Tally)) -> (u
     )
 }
 
-/// What was put was taken, or is left. The first eight offers find room, whoever runs when.
+/// What was put was taken, or is left. The first eight offers find room, whoever runs when; and since
+/// the main fiber then fills the queue, each taker has at least three of it, and two are left.
 #[test]
 fn nothing_is_lost_and_nothing_comes_twice(rt: HostRuntime) -> Result<(), Fail> {
     let (queue, mut main) = FiberQueue::new(rt.alloc(), 8, 5)?;
@@ -139,13 +160,19 @@ fn nothing_is_lost_and_nothing_comes_twice(rt: HostRuntime) -> Result<(), Fail> 
     let three = queue.pass(&mut main, 3, 4);
     let four = queue.pass(&mut main, 4, 5);
     let (putters, takers) = exchange(&rt, &queue, (one, two), (three, four));
-    let put = gathered(&queue, &mut main, putters);
-    let taken = gathered(&queue, &mut main, takers);
-    let rest = queue.close(&rt, main)?;
-    let all = (
-        taken.0.wrapping_add(rest.len() as u64),
-        taken.1.wrapping_add(sum_of(&rest)),
+    let mut main = put(&rt, &queue, main, 0, 0..8);
+    let takers = take_three_each(&rt, &queue, takers);
+    assert!(rt; 3 <= takers.0.count && 3 <= takers.1.count);
+    let put = gathered(&queue, &mut main.pass, putters);
+    let taken = gathered(&queue, &mut main.pass, takers);
+    let rest = queue.close(&rt, main.pass)?;
+    assert!(rt; 8 <= put.0 && rest.len() == 2);
+    assert_eq!(rt;
+        (put.0.wrapping_add(main.count), put.1.wrapping_add(main.sum)),
+        (
+            taken.0.wrapping_add(rest.len() as u64),
+            taken.1.wrapping_add(sum_of(&rest))
+        )
     );
-    assert!(rt; 8 <= put.0 && put == all);
     Ok(())
 }

@@ -23,6 +23,18 @@ fn end_of(id: u32) -> Outcome {
     }
 }
 
+/// Requests a fiber, if it is another one: so who finds a request of its own was requested by others.
+fn request_other(words: &Words, seat: &mut WordSeat, id: u32)
+    requires words { IsOf seat.old words.now }
+    requires below { id < words.now.fibers }
+    ensures same { IsSameFiber seat.old seat.new }
+    ensures running { seat.new.view.own.ended ≡ seat.old.view.own.ended }
+{
+    if id != seat.id() {
+        words.request(seat, id);
+    }
+}
+
 /// Requests a fiber, looks, and peeks. Whether what was learnt of the fiber's end is right.
 fn take_turn(words: &Words, seat: &mut WordSeat, id: u32) -> bool
     requires words { IsOf seat.old words.now }
@@ -30,7 +42,7 @@ fn take_turn(words: &Words, seat: &mut WordSeat, id: u32) -> bool
     ensures same { IsSameFiber seat.old seat.new }
     ensures running { seat.new.view.own.ended ≡ seat.old.view.own.ended }
 {
-    words.request(seat, id);
+    request_other(words, seat, id);
     let _seen = words.look(seat);
     match words.peek(seat, id) {
         None => true,
@@ -143,7 +155,7 @@ fn gathered(words: &Words, two: Two) -> WordSeat
     seat
 }
 
-/// Four fibers run, and each seat finds what all of them did.
+/// Four fibers run, each of which requests the other three, and each seat finds what all of them did.
 #[test]
 fn each_seat_finds_all_requests_and_ends(rt: HostRuntime) -> Result<(), Fail> {
     let (words, mut main) = Words::new(rt.alloc(), FIBERS)?;
