@@ -10,7 +10,7 @@ use Rattle.fx_model.specs.Row.{Counts, Label, Row}
 use Rattle.fx_model.specs.Step.{Progress, Runs, must_cancel_at, looks_first, Step, cancelled, seen, row, succeeds, errs}
 use Rattle.fx_model.specs.Run.{Leads, shown}
 use Rattle.fx_model.specs.MaskLaws.{BeginsWithSeen, forced_after}
-use Rattle.fx_laws.specs.Everywhere.{placed, Place, InTerm, InCleanup, come_to, CanShowFrom, ShowTheSameEverywhere, ShowsAllOfEverywhere}
+use Rattle.fx_laws.specs.Everywhere.{placed, Place, InTerm, InCleanup, come_to, CanShowFrom, ShowTheSameEverywhere}
 use Rattle.fx_laws.specs.Everywhere.{ShowTheSameEverywhereUnlessSeenFirst}
 use Rattle.fx_laws.proofs.Views.{HasRun, IsMatched, itself, stays, silent_first}
 use Rattle.fx_laws.proofs.SilentRows.{LeadsSilently, pure_leads, raise_leads, let_value_leads, handle_value_leads, handle_error_leads}
@@ -44,21 +44,27 @@ both_hold true false p q = refl
 both_hold true true p q = absurd cc
 both_hold false b p q = absurd cc
 
+-- wherever a fiber comes to the first term and is not canceled at once, it can show all that it can where the second stands there
+abbrev pub ShowsAllOf : Term → Term → Type 0
+ShowsAllOf t u =
+    (place : Place) (c : Counts) (ls : List Label) → must_cancel_at c.known (come_to place t) ≡ false
+    → CanShowFrom c (come_to place u) ls → CanShowFrom c (come_to place t) ls
+
 -- a term after a value that is dropped
 module _ (t : Term) (n : ℕ) where
-  abbrev dropping : Term
+  abbrev pub dropping : Term
   dropping = Let None (Finished (Val n)) t
 
-  drops : LeadsSilently dropping t
+  pub drops : LeadsSilently dropping t
   drops = let_value_leads None n t
 
-  same_in_cleanup : (k : Option ℕ) (rest : List CleanupTerm) (fs : List Context) → AreSameHere showing (InCleanup k rest fs) dropping t
+  pub same_in_cleanup : (k : Option ℕ) (rest : List CleanupTerm) (fs : List Context) → AreSameHere showing (InCleanup k rest fs) dropping t
   same_in_cleanup k rest fs c = silent_left showing (cleans_silently k rest fs drops c) (itself showing, itself showing)
 
   same_at_closed : (fs : List Context) → is_open (placed fs dropping) ≡ false → AreSameHere showing (InTerm fs) dropping t
   same_at_closed fs closed c = silent_left showing (runs_only closed (only_placed fs (only_silent c drops))) (itself showing, itself showing)
 
-  dropping_shows_all : ShowsAllOfEverywhere dropping t
+  dropping_shows_all : ShowsAllOf dropping t
   dropping_shows_all (InTerm fs) c ls free h =
       let start = silent_step (leads_placed fs drops) free in
       let there : IsMatched showing c (Runs (placed fs t)) c (Runs (placed fs dropping)) = λ ms d q k. silent_first showing start (itself showing ms d q k) in
@@ -87,7 +93,7 @@ module _ (t : Term) (n : ℕ) where
 -- and so after a term that comes to such a value and stays at one place up to there
 module _ (a t : Term) (n : ℕ) (same : IsSamePlace (forced_after a t) (dropping t n))
     (comes : (place : Place) → AreSameHere showing place (forced_after a t) (dropping t n)) where
-  must_too : (place : Place) (known : Bool)
+  pub must_too : (place : Place) (known : Bool)
       → must_cancel_at known (come_to place (forced_after a t)) ≡ must_cancel_at known (come_to place (dropping t n))
   must_too (InTerm fs) known = (same_whole fs same).must known
   must_too (InCleanup k rest fs) known = refl
@@ -96,7 +102,7 @@ module _ (a t : Term) (n : ℕ) (same : IsSamePlace (forced_after a t) (dropping
   looks_too (InTerm fs) known = let p = (same_whole fs same).must known in let q = (same_whole fs same).open_is in cc
   looks_too (InCleanup k rest fs) known = refl
 
-  forced_shows_all : ShowsAllOfEverywhere (forced_after a t) t
+  pub forced_shows_all : ShowsAllOf (forced_after a t) t
   forced_shows_all place c ls free h =
       shows_too (comes place c).1 (dropping_shows_all t n place c ls (sym (must_too place c.known) ∙ free) h)
 
@@ -114,7 +120,7 @@ module _ (n : ℕ) (t : Term) where
   abbrev in_handle : List Context
   in_handle = LetIn None t ∷ HandleIn None (Pure (Number 0)) ∷ []
 
-  comes_to_value : (place : Place) → AreSameHere showing place (forced_after (Pure (Number n)) t) (dropping t n)
+  pub comes_to_value : (place : Place) → AreSameHere showing place (forced_after (Pure (Number n)) t) (dropping t n)
   comes_to_value place =
       let second = Let None (Handle (Finished (Val n)) None (Pure (Number 0))) t in
       same_too showing place (forced_after (Pure (Number n)) t) second (dropping t n)
@@ -122,7 +128,7 @@ module _ (n : ℕ) (t : Term) where
       (one_leads showing place (leads_placed in_let (handle_value_leads None n (Pure (Number 0))))
       (record { closed = λ outer. refl; leaf_is = refl; clean = refl }))
 
-  comes_to_zero : (place : Place) → AreSameHere showing place (forced_after (Raise (Number n)) t) (dropping t 0)
+  pub comes_to_zero : (place : Place) → AreSameHere showing place (forced_after (Raise (Number n)) t) (dropping t 0)
   comes_to_zero place =
       let second = Let None (Handle (Finished (Err n)) None (Pure (Number 0))) t in
       let third = Let None (Pure (Number 0)) t in
@@ -133,17 +139,9 @@ module _ (n : ℕ) (t : Term) where
       (record { closed = λ outer. refl; leaf_is = refl; clean = refl }))
       (one_leads showing place (leads_placed in_let (pure_leads 0)) (record { closed = λ outer. refl; leaf_is = refl; clean = refl })))
 
-pub dropped_value_shows_all : (n : ℕ) (t : Term) → ShowsAllOfEverywhere (forced_after (Pure (Number n)) t) t
-dropped_value_shows_all n t =
-    forced_shows_all (Pure (Number n)) t n (record { closed = λ outer. refl; leaf_is = refl; clean = refl }) (comes_to_value n t)
-
 pub dropped_value_is_nothing : (n : ℕ) (t : Term) → ShowTheSameEverywhereUnlessSeenFirst (forced_after (Pure (Number n)) t) t
 dropped_value_is_nothing n t =
     forced_is_nothing (Pure (Number n)) t n (record { closed = λ outer. refl; leaf_is = refl; clean = refl }) (comes_to_value n t)
-
-pub dropped_error_shows_all : (n : ℕ) (t : Term) → ShowsAllOfEverywhere (forced_after (Raise (Number n)) t) t
-dropped_error_shows_all n t =
-    forced_shows_all (Raise (Number n)) t 0 (record { closed = λ outer. refl; leaf_is = refl; clean = refl }) (comes_to_zero n t)
 
 pub dropped_error_is_nothing : (n : ℕ) (t : Term) → ShowTheSameEverywhereUnlessSeenFirst (forced_after (Raise (Number n)) t) t
 dropped_error_is_nothing n t =

@@ -10,6 +10,7 @@ pub mod Showing
 pub mod NeverLaws
 pub mod CanceledLaws
 pub mod ForcingLaws
+pub mod CanceledBefore
 pub mod BindingLaws
 pub mod Forced
 pub mod Shut

@@ -7,7 +7,7 @@ use Rattle.fx_model.specs.Row.{Counts, Label, Row, inside}
 use Rattle.fx_model.specs.Step.{Progress, CleansUp, Step}
 use Rattle.fx_model.specs.MaskLaws.{forced_after}
 use Rattle.fx_model.proofs.Paths.{no_context}
-use Rattle.fx_laws.specs.Everywhere.{placed, Place, InTerm, InCleanup, ShowTheSameEverywhere}
+use Rattle.fx_laws.specs.Everywhere.{placed, Place, InTerm, InCleanup, come_to, ShowTheSameEverywhere}
 use Rattle.fx_laws.proofs.Placed.{placed_append, result_placed, RowOfPlaced, moves_in, result_in, row_of_placed}
 use Rattle.fx_laws.proofs.Views.{View, IsMatched, stays}
 use Rattle.fx_laws.proofs.SamePlaces.{IsSamePlace, same_turned, Moves, by_row, by_end, place_matched}
@@ -42,12 +42,18 @@ module _ (v : View) (k : Option ℕ) (rest : List CleanupTerm) (fs gs : List Con
   cleans_no_more c [] d q h = stays v
   cleans_no_more c (l ∷ ls) d q h = absurd (never_cleans k rest (fs ++ gs) (sym (placed_append fs gs Never)) h.2)
 
+-- what it can show a term shows too that stands at the same place
+pub never_matches : (v : View) (place : Place) {t : Term} → IsSamePlace Never t → (c : Counts) → IsMatched v c (come_to place Never) c (come_to place t)
+never_matches v (InTerm fs) same = place_matched v fs same (λ c d e l ls q r m after. absurd (never_moves fs m refl))
+never_matches v (InCleanup k rest fs) same = cleans_no_more v k rest fs []
+
 never_alone : (v : View) (place : Place) (gs : List Context) → IsSamePlace (placed gs Never) Never → AreSameHere v place (placed gs Never) Never
 never_alone v (InTerm fs) gs same c = (
   place_matched v fs same (λ c d e l ls q r m after. absurd (never_moves (fs ++ gs) m (sym (placed_append fs gs Never)))) c,
-  place_matched v fs (same_turned same) (λ c d e l ls q r m after. absurd (never_moves fs m refl)) c,
+  never_matches v (InTerm fs) (same_turned same) c,
 )
-never_alone v (InCleanup k rest fs) gs same c = (cleans_no_more v k rest fs gs c, cleans_no_more v k rest fs [] c)
+never_alone v (InCleanup k rest fs) gs same c =
+    (cleans_no_more v k rest fs gs c, never_matches v (InCleanup k rest fs) (same_turned same) c)
 
 pub never_is_last : (t : Term) → ShowTheSameEverywhere (Let None Never t) Never
 never_is_last t = everywhere (Let None Never t) Never (λ place. never_alone showing place (LetIn None t ∷ [])

@@ -1,6 +1,6 @@
 -- Two terms show the same wherever they stand: with any contexts round them, in what a fiber runs or in a clean-up, after anything that the fiber has done.
-use Rattle.std.specs.Prelude.{◌≡◌, ◌↔◌, ℕ, true, false, Option, List, [], ◌∷◌}
-use Rattle.fx_term.specs.Term.{Term}
+use Rattle.std.specs.Prelude.{◌≡◌, ◌↔◌, ◌⊎◌, ℕ, true, false, Option, List, [], ◌∷◌}
+use Rattle.fx_term.specs.Term.{Term, Never}
 use Rattle.fx_model.specs.Path.{Context, CleanupTerm, plug, is_open}
 use Rattle.fx_model.specs.Row.{Counts, Label}
 use Rattle.fx_model.specs.Step.{Progress, Runs, CleansUp, must_cancel_at, looks_first}
@@ -42,12 +42,6 @@ ShowTheSameEverywhere t u = (place : Place) → ShowTheSameAt place t u
 abbrev pub ShowTheSameWhereOpen : Term → Term → Type 0
 ShowTheSameWhereOpen t u = (fs : List Context) → is_open (placed fs t) ≡ true → ShowTheSameAt (InTerm fs) t u
 
--- wherever a fiber comes to the first term and is not canceled at once, it can show all that it can where the second stands there
-abbrev pub ShowsAllOfEverywhere : Term → Term → Type 0
-ShowsAllOfEverywhere t u =
-    (place : Place) (c : Counts) (ls : List Label) → must_cancel_at c.known (come_to place t) ≡ false
-    → CanShowFrom c (come_to place u) ls → CanShowFrom c (come_to place t) ls
-
 -- wherever a fiber comes to the first term and is not canceled at once, it can show exactly what it can where the second stands there, but, where it looks for
 -- a request, for what begins with one that is seen
 abbrev pub ShowTheSameEverywhereUnlessSeenFirst : Term → Term → Type 0
@@ -55,3 +49,10 @@ ShowTheSameEverywhereUnlessSeenFirst t u =
     (place : Place) (c : Counts) (ls : List Label) → must_cancel_at c.known (come_to place t) ≡ false
     → (looks_first c.known (come_to place t) ≡ true → BeginsWithSeen ls → ⊥)
     → CanShowFrom c (come_to place t) ls ↔ CanShowFrom c (come_to place u) ls
+
+-- wherever a fiber comes to the first term, it can show exactly what it can where `never` stands there, so what comes of a cancellation, and, if it is not
+-- canceled at once, what it can where the second stands there
+abbrev pub ShowsItOrIsCanceledBefore : Term → Term → Type 0
+ShowsItOrIsCanceledBefore t u =
+    (place : Place) (c : Counts) (ls : List Label) → CanShowFrom c (come_to place t) ls
+    ↔ (CanShowFrom c (come_to place Never) ls ⊎ ((must_cancel_at c.known (come_to place t) ≡ false) × CanShowFrom c (come_to place u) ls))

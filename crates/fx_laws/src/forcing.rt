@@ -3,22 +3,24 @@ ghost use Rattle.std.specs.Prelude.{ℕ, None};
 ghost use Rattle.fx_term.specs.declared.node.Arg.TheVariants.{Number};
 ghost use Rattle.fx_term.specs.Term.{Term, Pure, Raise, Canceled, Let};
 ghost use Rattle.fx_model.specs.MaskLaws.{forced_after};
-ghost use Rattle.fx_laws.specs.Everywhere.{ShowTheSameEverywhere, ShowTheSameEverywhereUnlessSeenFirst, ShowsAllOfEverywhere};
+ghost use Rattle.fx_laws.specs.Everywhere.{ShowTheSameEverywhere, ShowTheSameEverywhereUnlessSeenFirst};
+ghost use Rattle.fx_laws.specs.Everywhere.{ShowsItOrIsCanceledBefore};
 
 /// `(forcer (pure n) A)` is `A` where the fiber is not canceled at once, but for what begins with a request
-/// that is seen there: seen before the fiber comes to `A`, it leaves out the finalizers that stand round the
-/// first leaf of `A`. At a closed place and in a clean-up, where none is seen, it is `A` without exception.
+/// that is seen there. Exactly, it shows what `A` does if it is not canceled at once, and what `(never)`
+/// does: a cancellation before the fiber comes to `A` leaves out the finalizers that stand round the first
+/// leaf of `A`. At a closed place and in a clean-up, where no request is seen, it is `A` without exception.
 pub fn force_r_discards_pure()
     ensures same { (n : ℕ) (a : Term)
         → ShowTheSameEverywhereUnlessSeenFirst (forced_after (Pure (Number n)) a) a }
-    ensures all { (n : ℕ) (a : Term) → ShowsAllOfEverywhere (forced_after (Pure (Number n)) a) a }
+    ensures exactly { (n : ℕ) (a : Term) → ShowsItOrIsCanceledBefore (forced_after (Pure (Number n)) a) a }
 {}
 
-/// `(forcer (raise n) A)` is `A`, with the same exception.
+/// `(forcer (raise n) A)` is `A`, with the same exceptions.
 pub fn force_r_discards_error()
     ensures same { (n : ℕ) (a : Term)
         → ShowTheSameEverywhereUnlessSeenFirst (forced_after (Raise (Number n)) a) a }
-    ensures all { (n : ℕ) (a : Term) → ShowsAllOfEverywhere (forced_after (Raise (Number n)) a) a }
+    ensures exactly { (n : ℕ) (a : Term) → ShowsItOrIsCanceledBefore (forced_after (Raise (Number n)) a) a }
 {}
 
 /// `(forcer (canceled) A)` is `(seq (canceled) A)`: at a closed place and in a clean-up, where the fiber
