@@ -1,15 +1,16 @@
 -- What the ledger has by number, after the fibers that were given to it.
 use Rattle.std.proofs.Common.{◌≡◌, ◌≢◌, ℕ, ◌<◌, Bool, true, false, Option, Some, None, option_map, List, [], ◌∷◌, length, refl, sym, ◌∙◌, ap, inl, inr}
-use Rattle.std.proofs.Common.{get_or-set_same, get_or-set_other, arith, subst, ◌≤◌, ◌+◌, replicate, zero, suc}
+use Rattle.std.proofs.Common.{get_or-set_same, get_or-set_other, arith, subst, ◌≤◌, ◌+◌, drop, zero, suc}
 use Rattle.std.specs.Prelude.{◌==◌, ◌||◌, is_some, if◌then◌else◌, slice_set, slice_index_or}
 use Rattle.std.specs.List.{find, list_any}
 use Rattle.std.proofs.lemmas.Bool.{eq-eqb, ne_eqb, cases_eq, cases_lt, lt-ltb, le-ltb}
 use Rattle.std.proofs.lemmas.List.{length-set}
+use Rattle.std.proofs.Math.Seq.{drop-nil}
 use Rattle.fx_term.specs.declared.event.Event.{Event}
 use Rattle.fx_term.specs.declared.event.Event.TheVariants as event
 use Rattle.fx_model.specs.LawfulReport.{is_start_of}
 use Rattle.fx_fiber.specs.Bare.{BareView}
-use Rattle.fx_port.specs.Marks.{laid_marks}
+use Rattle.fx_port.specs.Marks.{AreBefore}
 use Rattle.fx_run.specs.Reported.{bare_at, parent_of}
 use Rattle.fx_run.specs.Ledger.{LedgerView, first_of, least_of, with_start, with_request, with_end, with_event, with_events, with_fiber, with_fibers}
 use Rattle.fx_run.specs.Ledger.{with_marks}
@@ -226,11 +227,9 @@ fibers_beyond (x ∷ xs) v s h =
     beyond_alike (length v.parents) _ _ (with_fibers xs w).beyond (λ f. or_or (s f) (list_any (is_start_of f) x.trace) (is_started xs f))
     (subst (λ (n : ℕ). IsBeyond n (λ f. (s f || list_any (is_start_of f) x.trace) || is_started xs f) (with_fibers xs w).beyond) long rest)
 
--- marks of which none is set tell nothing, so a row of marks tells what it stands for
-with_no_mark : (k n : ℕ) (v : LedgerView) → with_marks n (replicate k false) v ≡ v
-with_no_mark zero n v = refl
-with_no_mark (suc k) n v = with_no_mark k (n + 1) v
-
-pub with_laid : (k : ℕ) (row : List Bool) (v : LedgerView) → with_marks 0 row v ≡ with_marks 0 (laid_marks k row) v
-with_laid k [] v = sym (with_no_mark k 0 v)
-with_laid k (m ∷ row) v = refl
+-- past the last mark nothing is told
+pub with_no_mark : (k n : ℕ) (ms : List Bool) (v : LedgerView) → AreBefore k ms → with_marks n (drop k ms) v ≡ v
+with_no_mark k n [] v h = ap (λ l. with_marks n l v) (drop-nil k)
+with_no_mark zero n (true ∷ ms) v h = absurd (let z = h 0 refl in omega (arith, z))
+with_no_mark zero n (false ∷ ms) v h = with_no_mark zero (n + 1) ms v (λ f e. let z = h (suc f) e in omega (arith, z))
+with_no_mark (suc k) n (m ∷ ms) v h = with_no_mark k n ms v (λ f e. let z = h (suc f) e in omega (arith, z))

@@ -75,7 +75,7 @@ impl Gathered {
     {
         let (bare, port) = fiber.part(code);
         let noted = gather(words, queues, &mut self.seat, &mut self.passes, port);
-        self.noted.join(&noted)?;
+        self.noted.join(&noted);
         self.bares.push(bare)?;
         Ok(())
     }

@@ -6,6 +6,7 @@ ghost use Rattle.fx_run.specs.Ledger.{with_marks};
 ghost use Rattle.fx_run.specs.Ledger.{is_lost_in, IsFirstLost};
 
 use fx_fiber::Bare;
+use fx_port::Marks;
 use fx_term::{Event, Memory, Outcome};
 use std::alloc::Global;
 use std::marker::Model;
@@ -134,13 +135,13 @@ impl Ledger {
         }
     }
 
-    /// Those that are marked in this row, which is by number, were requested from outside.
-    pub fn marks(&mut self, row: &[bool])
-        ensures { self.new ≡ with_marks 0 row.now self.old }
+    /// Those that are marked were requested from outside.
+    pub fn marks(&mut self, marks: &Marks)
+        ensures { self.new ≡ with_marks 0 marks.now self.old }
     {
-        for k in 0..row.len() {
-            if row[k] {
-                self.request(k);
+        for id in 0..marks.end() {
+            if marks.is_marked(id) {
+                self.request(id as usize);
             }
         }
     }

@@ -46,7 +46,7 @@ impl Told {
         ensures { self.new ≡ with_live fiber.now self.old }
     {
         self.ledger.fiber(fiber.id(), fiber.trace());
-        self.ledger.marks(fiber.port().noted().row());
+        self.ledger.marks(fiber.port().noted());
         self.flows.events(fiber.trace());
     }
 

@@ -86,7 +86,7 @@ fn run_over<
 {
     let fibers = words.fibers();
     let sources = Sources::new(alloc, fibers)?;
-    let port: ThreadPort<R, N> = ThreadPort::new(rt, alloc, words, queues, &sources, seat, passes);
+    let port: ThreadPort<R, N> = ThreadPort::new(rt, alloc, words, queues, &sources, seat, passes)?;
     let main = Fiber::new(alloc, &script.code, port)?;
     let shared = notes(alloc, fibers, workers)?;
     let ran = run_rounds(rt, alloc, script, main, shared, gate)?;

@@ -13,9 +13,9 @@ returns-clause-gathered g c =
     part.bare part.port told.of_run part.lawful)
     (record { bares = c.push.new.self; seat = c.gather-noted.new.seat; passes = c.gather-noted.new.passes; noted = c.join.new.self })
     c.in_ok-push.ensures.items told.table told.seat told.passes told.row
-    (c.in_ok-join.ensures.joined ∙ ap (joined_marks c.args.self.now.noted) told.noted)
+    (c.join.ensures ∙ ap (joined_marks c.args.self.now.noted) told.noted)
 
 pub returns-clause-allowed : goal.returns-clause-allowed
 returns-clause-allowed g c =
     allowed_more g.N.RunBrand.may c.args.self.now.noted c.part-bare.result.1.noted c.join.new.self c.requires.allowed c.gather-noted.ensures.of_run.allowed
-    (c.in_ok-join.ensures.joined ∙ ap (joined_marks c.args.self.now.noted) c.gather-noted.ensures.noted)
+    (c.join.ensures ∙ ap (joined_marks c.args.self.now.noted) c.gather-noted.ensures.noted)

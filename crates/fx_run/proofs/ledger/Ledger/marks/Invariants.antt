@@ -2,5 +2,5 @@ use Rattle.std.proofs.Common.{◌≡◌, drop}
 use Rattle.fx_run.specs.Ledger.{with_marks}
 use Rattle.fx_run.proofs.ledger.Ledger.marks.Given as goal
 
-abbrev pub invariant-loop-k : goal.invariant-loop-k
-invariant-loop-k l = with_marks l.k (drop l.k l.fn.row) l.self ≡ with_marks 0 l.fn.row l.fn.self
+abbrev pub invariant-loop-id : goal.invariant-loop-id
+invariant-loop-id l = with_marks l.id (drop l.id l.fn.marks) l.self ≡ with_marks 0 l.fn.marks l.fn.self

@@ -1,9 +1,8 @@
-use Rattle.std.proofs.Common.{◌≡◌, ◌∙◌, ℕ, Bool, List, length, ap}
+use Rattle.std.proofs.Common.{◌≡◌, ◌∙◌, ℕ, Bool, List, ap}
 use Rattle.fx_term.specs.declared.event.Event.{Event}
 use Rattle.fx_port.specs.PortView.{PortView}
 use Rattle.fx_run.specs.Ledger.{with_trace, with_marks}
 use Rattle.fx_run.specs.Flows.{with_moves}
-use Rattle.fx_run.proofs.LedgerLaws.{with_laid}
 use Rattle.fx_run.proofs.told.Told.fiber.Goals as goal
 
 pub returns : goal.returns
@@ -19,8 +18,7 @@ returns g c =
     ∙ ap (λ (es : List Event). with_trace id es ledger) c.trace.ensures.events in
     let marked : c.marks.new.self ≡ with_marks 0 f.port.noted (with_trace id f.trace ledger) =
     c.marks.ensures
-    ∙ with_laid (length c.noted.result.now) c.row.result.now c.fiber.new.self
-    ∙ ap (λ (row : List Bool). with_marks 0 row c.fiber.new.self) (c.row.ensures ∙ noted)
+    ∙ ap (λ (row : List Bool). with_marks 0 row c.fiber.new.self) noted
     ∙ ap (with_marks 0 f.port.noted) traced in
     let moved : c.events.new.self ≡ with_moves f.trace flows =
     c.events.ensures ∙ ap (λ (es : List Event). with_moves es flows) c.trace-2.ensures.events in
