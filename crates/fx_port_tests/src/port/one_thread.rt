@@ -4,7 +4,7 @@ use Move::Step;
 use fx_term::{Arg, Event, Node, NodeId, Outcome};
 use std::test::Fail;
 
-static ROWS: [Row; 3] = [
+static ROWS: [Row; 4] = [
     Row {
         what: "an element goes from one fiber to another",
         nodes: &[
@@ -16,6 +16,35 @@ static ROWS: [Row; 3] = [
         told: Told::Trace(&[
             Event::Start(1),
             Event::Got(0, 5),
+            Event::Ended(Outcome::Succeeded(5)),
+        ]),
+    },
+    Row {
+        what: "an element goes from the main fiber to another",
+        nodes: &[
+            Node::Take(0),
+            Node::Offer(0, Arg::Number(5)),
+            Node::Pure(Arg::Slot(1)),
+            Node::Raise(Arg::Slot(1)),
+            Node::Pure(Arg::Number(0)),
+            Node::Join(0, 1, NodeId(2), 1, NodeId(3), NodeId(4)),
+            Node::Let(None, NodeId(1), NodeId(5)),
+            Node::Start(0, NodeId(0), NodeId(6)),
+        ],
+        moves: &[
+            Step(0),
+            Step(0),
+            Step(0),
+            Step(1),
+            Step(1),
+            Step(0),
+            Step(0),
+            Step(0),
+        ],
+        told: Told::Trace(&[
+            Event::Start(1),
+            Event::Put(0, 5),
+            Event::Joined(1, Outcome::Succeeded(5)),
             Event::Ended(Outcome::Succeeded(5)),
         ]),
     },

@@ -41,11 +41,12 @@ pub enum Plan<'a> {
     TwoThreads,
 }
 
-/// What is seen of a run: the trace of the main fiber, and, where it goes by moves, those that were woken.
+/// What is seen of a run: the traces of its fibers by their numbers, and, where it goes by moves, the number
+/// of each move, counted from 0, with each fiber that it wakes, ascending.
 #[derive(Drop)]
 pub struct Seen {
-    pub trace: Vec<Event>,
-    pub woken: Vec<u32>,
+    pub traces: Vec<Vec<Event>>,
+    pub woken: Vec<(usize, u32)>,
 }
 
 /// What the fibers share, and what the main one has of it.
@@ -197,15 +198,32 @@ fn make<P: Port + Drop>(
     Ok(())
 }
 
-/// Lays those that are to be woken to the others.
-fn note_woken<P: Port>(shared: &mut P::Shared, woken: &mut Vec<u32>) -> Result<(), Memory> {
+/// Lays those that the move of this number wakes to the others.
+fn note_woken<P: Port>(
+    shared: &mut P::Shared,
+    number: usize,
+    woken: &mut Vec<(usize, u32)>,
+) -> Result<(), Memory> {
     for _ in 0..MOST {
         let Some(id) = P::woken(shared) else {
             break;
         };
-        woken.push(id)?;
+        woken.push((number, id))?;
     }
     Ok(())
+}
+
+/// The traces of the fibers, one after the other.
+fn traces_of<P: Port + Drop>(
+    alloc: Global,
+    fibers: Vec<Fiber<P>>,
+) -> Result<Vec<Vec<Event>>, Memory> {
+    let mut traces = Vec::new(alloc);
+    let mut fibers = fibers.into_iter();
+    while let Some(fiber) = fibers.next() {
+        traces.push(fiber.into_trace())?;
+    }
+    Ok(traces)
 }
 
 fn by_moves<P: Port<Shared: Drop> + Drop>(
@@ -221,15 +239,13 @@ fn by_moves<P: Port<Shared: Drop> + Drop>(
     let mut woken = Vec::new(alloc);
     let mut fibers = Vec::new(alloc);
     fibers.push(main)?;
-    for &next in moves {
-        make(&mut fibers, code, &mut shared, next)?;
-        note_woken::<P>(&mut shared, &mut woken)?;
+    for number in 0..moves.len() {
+        make(&mut fibers, code, &mut shared, moves[number])?;
+        note_woken::<P>(&mut shared, number, &mut woken)?;
     }
-    let trace = match fibers.into_iter().next() {
-        Some(main) => main.into_trace(),
-        None => Vec::new(alloc),
-    };
-    Ok(Seen { trace, woken })
+    woken.sort_unstable();
+    let traces = traces_of(alloc, fibers)?;
+    Ok(Seen { traces, woken })
 }
 
 /// Steps the main fiber once, and then it and the fiber that it started, each on its own thread.
@@ -243,15 +259,17 @@ fn beside<R: Threads + Wait + Sync, P: Port<Shared: Send + Drop> + Send + Drop>(
 ) -> Result<Seen, Memory>
     requires code { code.now.nodes ≡ P.theory.code }
 {
-    let trace = match step(&mut main, code, &mut mine)? {
-        Some(other) => on_two_threads(rt, code, main, other, mine, theirs)?,
-        None => main.into_trace(),
-    };
+    let mut traces = Vec::new(alloc);
+    if let Some(other) = step(&mut main, code, &mut mine)? {
+        let (one, other) = on_two_threads(rt, code, main, other, mine, theirs);
+        traces.push(one?)?;
+        traces.push(other?)?;
+    }
     let woken = Vec::new(alloc);
-    Ok(Seen { trace, woken })
+    Ok(Seen { traces, woken })
 }
 
-/// The trace of one fiber, where it and another one are stepped till they have ended.
+/// The traces of two fibers that are stepped till they have ended.
 fn on_two_threads<R: Threads + Wait + Sync, P: Port<Shared: Send + Drop> + Send + Drop>(
     rt: &R,
     code: &Code,
@@ -259,10 +277,10 @@ fn on_two_threads<R: Threads + Wait + Sync, P: Port<Shared: Send + Drop> + Send 
     other: Fiber<P>,
     mut mine: P::Shared,
     mut theirs: P::Shared,
-) -> Result<Vec<Event>, Memory>
+) -> (Result<Vec<Event>, Memory>, Result<Vec<Event>, Memory>)
     requires code { code.now.nodes ≡ P.theory.code }
 {
-    let (one, other) = thread::join(
+    thread::join(
         rt,
         move || -> Result<Vec<Event>, Memory>
             requires { code.now.nodes ≡ P.theory.code }
@@ -270,9 +288,7 @@ fn on_two_threads<R: Threads + Wait + Sync, P: Port<Shared: Send + Drop> + Send 
         move || -> Result<Vec<Event>, Memory>
             requires { code.now.nodes ≡ P.theory.code }
         { to_end(rt, code, other, &mut theirs) },
-    );
-    let _other = other?;
-    one
+    )
 }
 
 /// Steps the fiber till it has ended. Those that it starts make no step.
@@ -298,8 +314,8 @@ fn to_end<R: Wait, P: Port + Drop>(
 pub enum Told {
     /// The trace of the main fiber.
     Trace(&'static [Event]),
-    /// Who was woken, in their order.
-    Woken(&'static [u32]),
+    /// The number of each move that wakes a fiber, counted from 0, and whom it wakes.
+    Woken(&'static [(usize, u32)]),
 }
 
 /// A script with a queue of capacity 1, how it goes, and what is seen then.
@@ -312,7 +328,10 @@ pub struct Row {
 
 fn is_seen(seen: &Seen, told: &Told) -> bool {
     match *told {
-        Told::Trace(trace) => seen.trace.as_slice() == trace,
+        Told::Trace(trace) => match seen.traces.first() {
+            Some(main) => main.as_slice() == trace,
+            None => false,
+        },
         Told::Woken(woken) => seen.woken.as_slice() == woken,
     }
 }
