@@ -97,12 +97,11 @@ module _ (p : PortView) where
       passes = passes.got_agrees p.words.own.id p.passes row deeds q n whose got a.passes;
     }
 
-  pub starts : (id : ℕ) (b : Begin) → id ≡ p.words.own.next
-      → ((q : ℕ) (s : HeldPass) → slice_get p.passes q ≡ Some s → s.view.own.next ≡ p.words.own.next)
+  pub starts : (id : ℕ) (b : Begin) → id ≡ p.words.own.next → passes.AreTheirs p.words.own.id p.words.own.next p.passes
       → (deeds : List Deed) → ThreadAgrees p deeds → ThreadAgrees (kept_port b p) (deeds ++ Started id b ∷ [])
-  starts id b is next deeds a = subst (λ (i : ℕ). ThreadAgrees (kept_port b p) (deeds ++ Started i b ∷ [])) (sym is) record {
+  starts id b is theirs deeds a = subst (λ (i : ℕ). ThreadAgrees (kept_port b p) (deeds ++ Started i b ∷ [])) (sym is) record {
     words = words.start_agrees p.words.own p.noted deeds a.words b;
-    passes = passes.start_agrees p.words.own.id p.passes deeds p.words.own.next b next a.passes;
+    passes = passes.start_agrees p.words.own.id p.passes deeds p.words.own.next b theirs a.passes;
   }
 
   -- the port of a child agrees with nothing done

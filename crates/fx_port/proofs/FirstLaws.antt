@@ -3,6 +3,7 @@ use Rattle.std.proofs.Common.{◌≡◌, ℕ, ◌+◌, ◌<◌, List, [], ◌∷
 use Rattle.std.proofs.Common.{None, slice_get, refl, sym, ◌∙◌, ap, subst, arith, zero, suc, ◌⊎◌, inl, inr, ⊎_elim}
 use Rattle.std.proofs.lemmas.Option.{same_Some}
 use Rattle.std.proofs.lemmas.List.{length-append, map-append, take_more}
+use Rattle.fx_fiber.specs.Deed.{Started}
 use Rattle.fx_queue.specs.PassView.{first_view}
 use Rattle.fx_queue.specs.Queues.{QueueId, HeldPass}
 use Rattle.fx_term.specs.Queue.{puts}
@@ -88,6 +89,7 @@ module _ (fibers : ℕ) (queues : List QueueId) (passes : List HeldPass) (first 
     passes = record {
       acts = no_acts passes (λ q s at. ap (λ (v : PassView). v.own.acts) (view_is q s at).1);
       parts = λ q s at. ap (λ (v : PassView). v.own.parts) (view_is q s at).1;
+      handed = λ before after g b e. absurd (not_later before (Started g b) after e);
       refusals = λ before after d e. absurd (not_later before d after e);
     };
   }

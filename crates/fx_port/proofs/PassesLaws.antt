@@ -3,7 +3,7 @@ use Rattle.std.proofs.Common.{◌≡◌, ℕ, ◌==◌, Bool, if◌then◌else�
 use Rattle.std.proofs.Common.{Option, Some, None, slice_get, set, refl, sym, ◌∙◌, ap, subst, zero, suc, eq-eqb, ne_eqb, append-nil}
 use Rattle.std.specs.List.{filter_map, cons_option}
 use Rattle.std.proofs.lemmas.List.Elements.{filter_map-append}
-use Rattle.std.proofs.lemmas.Option.{same_Some}
+use Rattle.std.proofs.lemmas.Option.{same_Some, none-some}
 use mathlib.Core.Logic.{dite}
 use native.Mathlib.Decide.{ℕ_discrete}
 use Rattle.crossbeam_queue.specs.Fifo.{Held}
@@ -11,6 +11,10 @@ use Rattle.fx_term.specs.declared.begin.Begin.{Begin}
 use Rattle.fx_term.specs.declared.outcome.Outcome.{Outcome}
 use Rattle.fx_term.specs.declared.queue_event.QueueEvent.{QueueEvent}
 use Rattle.fx_term.specs.declared.queue_event.QueueEvent.TheVariants as event
+use Rattle.fx_term.specs.Lists.{Among}
+use Rattle.fx_term.specs.Queue.{cut}
+use Rattle.fx_term.proofs.ListLaws.{Among-append_left, Among-append_right}
+use Rattle.fx_queue.specs.declared.entry.Handed.{Handed}
 use Rattle.fx_queue.specs.declared.pass_view.PassView.{PassView}
 use Rattle.fx_queue.specs.History.{Begins}
 use Rattle.fx_queue.specs.PassView.{kept_part, with_act}
@@ -20,7 +24,8 @@ use Rattle.fx_queue.proofs.Histories.{Begins-more, Begins-all, Begins-trans}
 use Rattle.fx_queue.proofs.Views.{lone}
 use Rattle.fx_fiber.specs.Deed.{Deed, Started, Requested, Saw, Put, Got, FoundFull, FoundEmpty, FoundEnded, Ended, queue_deed, queue_deeds}
 use Rattle.fx_port.specs.Rows.{PutsInto, GetsFrom, FoundFullAt, FoundEmptyAt}
-use Rattle.fx_port.specs.PassesAgree.{started_by, starts, acts_by, WasFound}
+use Rattle.fx_port.specs.PortView.{IsAware}
+use Rattle.fx_port.specs.PassesAgree.{started_by, starts, acts_by, WasFound, HasHanded}
 use Rattle.fx_port.specs.PassesAgree.{Refusal, Full, Empty, held_at, HasRefused, IsBacked, PassesAgree}
 use Rattle.fx_port.proofs.Places.{get_set_same, get_set_else}
 
@@ -63,6 +68,7 @@ found_after_act v log a n b h f = record {
   found = f.found;
   begins = f.begins;
   since = Begins-trans (log ++ a ∷ []) v.own.seen f.seen (Begins-more log v.own.seen (a ∷ []) h) f.since;
+  begun = f.begun;
   known = f.known;
   cuts = f.cuts;
   within = f.within;
@@ -83,6 +89,7 @@ found_after_part v end n b f = record {
   found = f.found;
   begins = f.begins;
   since = f.since;
+  begun = f.begun;
   known = f.known;
   cuts = f.cuts;
   within = f.within;
@@ -106,6 +113,7 @@ found_now v n h =
       found = h.1;
       begins = t.begins v.own (inl refl);
       since = Begins-all v.own.seen;
+      begun = t.begun v.own (inl refl);
       known = t.aware v.own (inl refl);
       cuts = t.cuts v.own (inl refl);
       within = t.within;
@@ -117,6 +125,15 @@ pub part_cases : {A B : Type 0} (h : A → B) (xs : List A) (q : ℕ) (b : B) �
 part_cases h [] q b e = let z : ⊥ = cc in absurd z
 part_cases h (x ∷ xs) zero b e = let t : h x ≡ b = cc in (x, refl, t)
 part_cases h (x ∷ xs) (suc q) b e = part_cases h xs q b e
+
+-- the passes are those of fiber f, which starts this number next, and are aware
+pub record IsTheirs (f next : ℕ) (s : HeldPass) : Type 0 where
+  pub number : s.view.own.id ≡ f
+  pub follows : s.view.own.next ≡ next
+  pub aware : IsAware s.view
+
+abbrev pub AreTheirs : ℕ → ℕ → List HeldPass → Type 0
+AreTheirs f next ps = (q : ℕ) (s : HeldPass) → slice_get ps q ≡ Some s → IsTheirs f next s
 
 module _ (f : ℕ) where
   -- where each pass has found what it had found, each refusal is still backed
@@ -140,12 +157,21 @@ module _ (f : ℕ) where
       (λ t. subst (λ (b : List Deed). IsBacked f ps b d) t.0 (subst (λ (k : Deed). IsBacked f ps deeds k) t.1 new))
       (λ t. old before t.0 d t.1) (snoc_cases deeds before after x d e)
 
+  -- where a deed more is no start, what was handed out stays so
+  no_more_handed : (ps : List HeldPass) (deeds : List Deed) (x : Deed) → started_by x ≡ None → PassesAgree f ps deeds
+      → (before after : List Deed) (g : ℕ) (b : Begin) → deeds ++ x ∷ [] ≡ before ++ Started g b ∷ after → (q : ℕ) (s : HeldPass)
+      → slice_get ps q ≡ Some s → HasHanded f s g (queue_deeds q f before)
+  no_more_handed ps deeds x no_start h before after g b e q s at = ⊎_elim
+      (λ t. absurd (none-some g (sym no_start ∙ ap started_by t.1)))
+      (λ t. h.handed before t.0 g b t.1 q s at) (snoc_cases deeds before after x (Started g b) e)
+
   -- a deed that is no event of a queue and no start, and is backed
   adds : (ps : List HeldPass) (deeds : List Deed) (x : Deed) → ((q : ℕ) → queue_deed q f x ≡ None) → started_by x ≡ None → IsBacked f ps deeds x
       → PassesAgree f ps deeds → PassesAgree f ps (deeds ++ x ∷ [])
   adds ps deeds x none no_start new g = record {
     acts = λ q. nothing_given (queue_deed q f) deeds x (none q) ∙ g.acts q;
     parts = λ q s at. g.parts q s at ∙ sym (nothing_given started_by deeds x no_start);
+    handed = no_more_handed ps deeds x no_start g;
     refusals = one_refusal ps deeds x g.refusals new;
   }
 
@@ -214,10 +240,21 @@ module _ (f : ℕ) where
         ap (λ (w : HeldPass). w.view.own.parts) (sym e) ∙ (ap (λ (w : PassView). w.own.parts) is ∙ g.parts q s at))
         (λ n. g.parts k u (sym (get_set_else ps q k s' n) ∙ hu))
 
+    handed_after : (before after : List Deed) (h : ℕ) (b : Begin) → deeds ++ x ∷ [] ≡ before ++ Started h b ∷ after → (k : ℕ) (u : HeldPass)
+        → slice_get row k ≡ Some u → HasHanded f u h (queue_deeds k f before)
+    handed_after before after h b e k u hu = dite (ℕ_discrete k q)
+        (λ y.
+        let same : s' ≡ u = same_Some s' u (sym here ∙ (ap (slice_get row) (sym y) ∙ hu)) in
+        let was = no_more_handed ps deeds x no_start g before after h b e q s at in
+        (was.0, subst (Among was.0) (sym (ap (λ (v : PassView). v.own.handed) is) ∙ ap (λ (w : HeldPass). w.view.own.handed) same) was.1, was.2,
+        was.3 ∙ ap (λ (j : ℕ). queue_deeds j f before) (sym y)))
+        (λ n. no_more_handed ps deeds x no_start g before after h b e k u (sym (get_set_else ps q k s' n) ∙ hu))
+
     agrees_act : PassesAgree f row (deeds ++ x ∷ [])
     agrees_act = record {
       acts = acts_after;
       parts = λ k u hu. parts_after k u hu ∙ sym (nothing_given started_by deeds x no_start);
+      handed = handed_after;
       refusals = one_refusal row deeds x (λ before after d e. still_backed ps row later before d (g.refusals before after d e)) (free row deeds);
     }
 
@@ -253,15 +290,37 @@ module _ (f : ℕ) where
   given_acts end (s ∷ ps) zero = refl
   given_acts end (s ∷ ps) (suc q) = given_acts end ps q
 
-  pub start_agrees : (ps : List HeldPass) (deeds : List Deed) (id : ℕ) (begin : Begin)
-      → ((q : ℕ) (s : HeldPass) → slice_get ps q ≡ Some s → s.view.own.next ≡ id)
+  -- the pass of queue q has split off one more, which began with all that its starter had seen
+  handed_now : (ps : List HeldPass) (deeds : List Deed) (id : ℕ) (begin : Begin) → AreTheirs f id ps
+      → PassesAgree f ps deeds → (before after : List Deed) (g : ℕ) (b : Begin) → deeds ++ Started id begin ∷ [] ≡ before ++ Started g b ∷ after
+      → (q : ℕ) (u : HeldPass) → slice_get (map (kept_pass begin.end) ps) q ≡ Some u → HasHanded f u g (queue_deeds q f before)
+  handed_now ps deeds id begin theirs h before after g b e q u hu =
+      let t = part_cases (kept_pass begin.end) ps q u hu in
+      let s = t.0 in
+      let pass = theirs q s t.1 in
+      subst (λ (w : HeldPass). HasHanded f w g (queue_deeds q f before)) t.2 (⊎_elim
+      (λ last.
+      let part : Handed = record { id = s.view.own.next; seen = s.view.own.seen } in
+      (part, Among-append_right s.view.own.handed (part ∷ []) part (inl refl),
+      pass.follows ∙ same_Some id g (ap started_by last.1),
+      ap (λ (i : ℕ). cut i s.view.own.seen) (sym pass.number) ∙ (pass.aware.own ∙ (sym (acts_are ps deeds q s t.1 h) ∙ ap (queue_deeds q f) last.0))))
+      (λ early. let was = h.handed before early.0 g b early.1 q s t.1 in (
+        was.0,
+        Among-append_left s.view.own.handed (record { id = s.view.own.next; seen = s.view.own.seen } ∷ []) was.0 was.1,
+        was.2,
+        was.3,
+      ))
+      (snoc_cases deeds before after (Started id begin) (Started g b) e))
+
+  pub start_agrees : (ps : List HeldPass) (deeds : List Deed) (id : ℕ) (begin : Begin) → AreTheirs f id ps
       → PassesAgree f ps deeds → PassesAgree f (map (kept_pass begin.end) ps) (deeds ++ Started id begin ∷ [])
-  start_agrees ps deeds id begin next_is g = record {
+  start_agrees ps deeds id begin theirs g = record {
     acts = λ q. nothing_given (queue_deed q f) deeds (Started id begin) refl ∙ (g.acts q ∙ kept_acts begin.end ps q);
     parts = λ q u hu. let t = part_cases (kept_pass begin.end) ps q u hu in
         ap (λ (w : HeldPass). w.view.own.parts) (sym t.2)
         ∙ (ap (λ l. l ++ t.0.view.own.next ∷ []) (g.parts q t.0 t.1)
-        ∙ (ap (λ (n : ℕ). starts deeds ++ n ∷ []) (next_is q t.0 t.1) ∙ sym (given started_by deeds (Started id begin) id refl)));
+        ∙ (ap (λ (n : ℕ). starts deeds ++ n ∷ []) (theirs q t.0 t.1).follows ∙ sym (given started_by deeds (Started id begin) id refl)));
+    handed = handed_now ps deeds id begin theirs g;
     refusals = one_refusal (map (kept_pass begin.end) ps) deeds (Started id begin)
         (λ before after d e. still_backed ps (map (kept_pass begin.end) ps) (kept_refused begin.end ps) before d (g.refusals before after d e)) tt;
   }
@@ -271,5 +330,6 @@ module _ (f : ℕ) where
   fresh_agrees ps end = record {
     acts = λ q. given_acts end ps q;
     parts = λ q u hu. let t = part_cases (given_pass end) ps q u hu in ap (λ (w : HeldPass). w.view.own.parts) (sym t.2);
+    handed = λ before after g b e. absurd (not_later before (Started g b) after e);
     refusals = λ before after d e. absurd (not_later before d after e);
   }

@@ -8,6 +8,8 @@ use Rattle.fx_word.specs.declared.seat_view.SeatView.{SeatView}
 use Rattle.fx_word.specs.SeatView.{with_own}
 use Rattle.fx_word.specs.SeatView as seat
 use Rattle.fx_word.specs.Words.{WordsId}
+use Rattle.fx_term.specs.Queue.{cut}
+use Rattle.fx_queue.specs.declared.pass_view.PassView.{PassView}
 use Rattle.fx_queue.specs.Queues.{QueueId, HeldPass, IsOf, kept_pass, given_pass}
 use Rattle.fx_model.specs.Origin.{main_begin_of}
 use Rattle.fx_fiber.specs.PortFacts.{Facts}
@@ -54,12 +56,18 @@ given_port fibers b p = record {
 abbrev pub first_port : ℕ → List HeldPass → PortView
 first_port fibers passes = record { words = seat.first_view fibers; passes = passes; noted = replicate fibers false }
 
--- each pass is of the queue at its place, for as many fibers, of this fiber and with its range, and has taken in none
+-- of what a pass has seen, its fiber did what it did, and those that it may still start did nothing
+pub record IsAware (v : PassView) : Type 0 where
+  pub own : cut v.own.id v.own.seen ≡ v.own.acts
+  pub ahead : (f : ℕ) → v.own.next ≤ f → f < v.own.end → cut f v.own.seen ≡ []
+
+-- each pass is of the queue at its place, for as many fibers, of this fiber and with its range, has taken in none, and is aware
 pub record AreOf (number next end : ℕ) (queues : List QueueId) (passes : List HeldPass) : Type 0 where
   pub as_many : length passes ≡ length queues
   pub each : (q : ℕ) (s : HeldPass) (i : QueueId) → slice_get passes q ≡ Some s → slice_get queues q ≡ Some i
       → IsOf s i × (s.view.own.id ≡ number) × (s.view.own.next ≡ next) × (s.view.own.end ≡ end) × (s.view.taken ≡ [])
       × (s.view.fibers ≡ i.fibers)
+  pub aware : (q : ℕ) (s : HeldPass) → slice_get passes q ≡ Some s → IsAware s.view
 
 -- the port is one of a run over these words and queues, in which these numbers may be requested from outside
 pub record IsOfRun (words : WordsId) (queues : List QueueId) (may : ℕ → Bool) (p : PortView) : Type 0 where

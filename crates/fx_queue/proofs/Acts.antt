@@ -17,12 +17,12 @@ use Rattle.fx_term.specs.Maps.{with_at}
 use Rattle.fx_term.specs.Queue.{cut, fiber_of, puts, Leaves}
 use Rattle.fx_queue.specs.History.{item, Begins}
 use Rattle.fx_queue.specs.PassView.{with_act}
-use Rattle.fx_queue.specs.Rule.{Book, acts_in, Kept, Dealt, Running, Ringed}
+use Rattle.fx_queue.specs.Rule.{Book, acts_in, IsHanded, Kept, Dealt, Running, Ringed}
 use Rattle.fx_queue.specs.Told.{DidPut, DidGet, stands}
 use Rattle.fx_term.proofs.MapLaws.{at_that, at_other, at_cases}
 use Rattle.fx_term.proofs.LeavesLaws.{leaves_put, leaves_got}
-use Rattle.fx_queue.proofs.Histories.{cut-own, cut-other, Begins-more, Begins-all}
-use Rattle.fx_queue.proofs.Views.{running, own_at, Root-grows, own_dealt, still_set_up, tells}
+use Rattle.fx_queue.proofs.Histories.{cut-own, cut-other, Begins-more, Begins-all, Begins-trans}
+use Rattle.fx_queue.proofs.Views.{running, own_at, Root-grows, Handed-grows, own_dealt, still_set_up, tells}
 
 module _ (log : List QueueEvent) (book : Book) (keeper : ℕ → Option ℕ) (kept : Kept log book keeper) (e : Entry) (at : book e.id
     ≡ Some e) (a : QueueEvent) (own : fiber_of a ≡ e.id) where
@@ -50,6 +50,11 @@ module _ (log : List QueueEvent) (book : Book) (keeper : ℕ → Option ℕ) (ke
       ))
       (λ n. (d, at_other e.id (Some acted) book f n ∙ h, λ x k. k))
 
+  began_stays : (f : ℕ) (d : Entry) → book f ≡ Some d → (d' : Entry) × (book' f ≡ Some d') × (d'.began ≡ d.began)
+  began_stays f d h = dite (ℕ_discrete f e.id)
+      (λ y. (acted, at_that e.id (Some acted) book f y, ap (λ (u : Entry). u.began) (same_Some e d (sym at ∙ (ap book (sym y) ∙ h)))))
+      (λ n. (d, at_other e.id (Some acted) book f n ∙ h, refl))
+
   pub acted_kept : Kept log' book' keeper
   acted_kept = record {
     named = λ i d h. ⊎_elim (λ t. sym (ap (λ (u : Entry). u.id) t.1) ∙ sym t.0) (λ t. kept.named i d t.1) (cases i d h);
@@ -66,6 +71,14 @@ module _ (log : List QueueEvent) (book : Book) (keeper : ℕ → Option ℕ) (ke
         (λ t. kept.range i d t.1) (cases i d h);
     free = λ i f h. let none = kept.free i f h in at_other e.id (Some acted) book i (λ y. none-some e (sym none ∙ (ap book y ∙ at))) ∙ none;
     rooted = λ i d h. Root-grows book book' i parts_grow (⊎_elim (λ t. kept.rooted i e (ap book t.0 ∙ at)) (λ t. kept.rooted i d t.1) (cases i d h));
+    begun = λ i d h. ⊎_elim
+        (λ t. subst (λ (u : Entry). Begins u.seen u.began) t.1
+        (Begins-trans log' e.seen e.began (Begins-more log e.seen _ (kept.begins e.id e at)) (kept.begun e.id e at)))
+        (λ t. kept.begun i d t.1) (cases i d h);
+    handed = λ i d h x k. ⊎_elim
+        (λ t. subst (λ (u : Entry). Among x u.handed → IsHanded book' u x) t.1
+        (λ m. Handed-grows book book' e acted x began_stays refl (kept.handed e.id e at x m)) k)
+        (λ t. Handed-grows book book' d d x began_stays refl (kept.handed i d t.1 x k)) (cases i d h);
   }
 
 module _ (items more : List Item) (views : List PassView) (r : Running items views) (p : ℕ) (v : PassView) (here : get_elem? views p

@@ -70,6 +70,7 @@ module _ (v : PassView) (x : Item) (w : PassView) (whole : IsWhole v) (did : Did
     begins = did.before.begins;
     cuts = did.before.cuts;
     only = did.before.only whole;
+    handed = did.before.handed;
   }
 
 pub closes_one : (v : PassView) (x : Item) (w : PassView) → IsWhole v → DidGet v x w → (items : List Item) → IsRest w items → IsRest v (x ∷ items)
@@ -100,6 +101,7 @@ closes_last v whole h =
       begins = t.begins;
       cuts = t.cuts;
       only = t.only whole;
+      handed = t.handed;
     }
 
 -- the rest after one more item was taken

@@ -11,6 +11,7 @@ use Rattle.fx_term.specs.declared.item.Item.{Item}
 use Rattle.fx_queue.specs.declared.entry.Entry.{Entry}
 use Rattle.fx_queue.specs.declared.stage.Stage.TheVariants.{Blank, Live, Spent}
 use Rattle.fx_queue.specs.declared.pass_view.PassView.{PassView}
+use Rattle.fx_term.specs.Lists.{Among}
 use Rattle.fx_term.specs.Maps.{with_at}
 use Rattle.fx_term.specs.Queue.{cut, Leaves}
 use Rattle.fx_queue.specs.Entry.{new_entry}
@@ -63,6 +64,8 @@ module _ (cap n : ℕ) where
         → opens_keeper j ≡ Some u.id) (only i d h).1 (λ j a c. keeps_in j (omega (arith, a)) c);
     free = λ i f h. at_other 0 (Some first) nobody i (λ y. let a = keeps_only i f h in omega (arith, y, a));
     rooted = λ i d h. inl (only i d h).0;
+    begun = λ i d h. subst (λ (u : Entry). Begins u.seen u.began) (only i d h).1 ([], refl);
+    handed = λ i d h x k. absurd (subst (λ (u : Entry). Among x u.handed) (sym (only i d h).1) k);
   }
 
   opens_dealt : 0 < n → (p q : ℕ) (v : PassView) → q ≡ p → first_view cap n ≡ v → Dealt cap opens_book (λ _. p) q v

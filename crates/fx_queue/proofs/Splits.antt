@@ -10,6 +10,7 @@ use Rattle.crossbeam_queue.specs.Fifo.{Forks}
 use Rattle.crossbeam_queue.proofs.Lists.{at_snoc}
 use Rattle.fx_term.specs.declared.queue_event.QueueEvent.{QueueEvent}
 use Rattle.fx_queue.specs.declared.entry.Entry.{Entry}
+use Rattle.fx_queue.specs.declared.entry.Handed.{Handed}
 use Rattle.fx_queue.specs.declared.stage.Stage.TheVariants.{Blank, Live}
 use Rattle.fx_queue.specs.declared.pass_view.PassView.{PassView}
 use Rattle.fx_term.specs.Lists.{Among}
@@ -18,11 +19,11 @@ use Rattle.fx_term.specs.Queue.{cut}
 use Rattle.fx_queue.specs.Entry.{new_entry}
 use Rattle.fx_queue.specs.History.{Begins}
 use Rattle.fx_queue.specs.PassView.{kept_part, given_part}
-use Rattle.fx_queue.specs.Rule.{Book, acts_in, Kept, IsBelow, Dealt, Ringed}
-use Rattle.fx_term.proofs.ListLaws.{at_end, Among-append_left, Among-append_right}
+use Rattle.fx_queue.specs.Rule.{Book, acts_in, IsHanded, Kept, IsBelow, Dealt, Ringed}
+use Rattle.fx_term.proofs.ListLaws.{at_end, Among-append, Among-append_left, Among-append_right}
 use Rattle.fx_term.proofs.MapLaws.{at_that, at_other, at_cases, pick, pick_yes, pick_no}
-use Rattle.fx_queue.proofs.Histories.{cut-begins_none}
-use Rattle.fx_queue.proofs.Views.{blank_live, running, own_at, Root-grows, own_dealt, still_set_up}
+use Rattle.fx_queue.proofs.Histories.{cut-begins_none, Begins-all}
+use Rattle.fx_queue.proofs.Views.{blank_live, running, own_at, Root-grows, Handed-grows, own_dealt, still_set_up}
 
 -- the numbers above id, up to end, are id's, and id is nobody's any more
 passed : (ℕ → Option ℕ) → ℕ → ℕ → ℕ → Option ℕ
@@ -60,8 +61,11 @@ module _ (keeper : ℕ → Option ℕ) (id end : ℕ) where
 
 module _ (log : List QueueEvent) (book : Book) (keeper : ℕ → Option ℕ) (kept : Kept log book keeper)
     (e : Entry) (at : book e.id ≡ Some e) (end : ℕ) (some_number : e.next < end) (inside : end ≤ e.end) where
+  abbrev part : Handed
+  part = record { id = e.next; seen = e.seen }
+
   abbrev left : Entry
-  left = record e { next = end; parts = e.parts ++ e.next ∷ [] }
+  left = record e { next = end; parts = e.parts ++ e.next ∷ []; handed = e.handed ++ part ∷ [] }
 
   abbrev right : Entry
   right = new_entry e.next (e.next + 1) end e.seen
@@ -135,6 +139,18 @@ module _ (log : List QueueEvent) (book : Book) (keeper : ℕ → Option ℕ) (ke
       ))
       (λ m. (d, else2 f (λ y. none-some d (sym unborn ∙ (ap book (sym y) ∙ h))) m ∙ h, λ x k. k))
 
+  began2 : (f : ℕ) (d : Entry) → book f ≡ Some d → (d' : Entry) × (book2 f ≡ Some d') × (d'.began ≡ d.began)
+  began2 f d h = dite (ℕ_discrete f e.id)
+      (λ y. (left, ap book2 y ∙ left2, ap (λ (u : Entry). u.began) (same_Some e d (sym at ∙ (ap book (sym y) ∙ h)))))
+      (λ m. (d, else2 f (λ y. none-some d (sym unborn ∙ (ap book (sym y) ∙ h))) m ∙ h, refl))
+
+  -- the new pass began with all that its starter had seen
+  handed_left : (x : Handed) → Among x left.handed → IsHanded book2 left x
+  handed_left x k = ⊎_elim
+      (λ m. Handed-grows book book2 e left x began2 refl (kept.handed e.id e at x m))
+      (λ m. ⊎_elim (λ y. subst (λ (h : Handed). IsHanded book2 left h) (sym y) (right, here2, refl, kept.begun e.id e at)) absurd m)
+      (Among-append e.handed (part ∷ []) x k)
+
   -- a fact of each entry afterwards
   each2 : (P : Entry → Type 0) → P right → P left → ((i : ℕ) (d : Entry) → i ≢ e.id → book i ≡ Some d → P d) → (i : ℕ) (d : Entry) → book2 i ≡ Some d → P d
   each2 P a b c i d h = ⊎_elim (λ t. subst P t.1 a) (λ t. ⊎_elim (λ u. subst P u.1 b) (λ u. c i d u.1 u.2) t) (cases2 i d h)
@@ -161,6 +177,9 @@ module _ (log : List QueueEvent) (book : Book) (keeper : ℕ → Option ℕ) (ke
         (λ t. inr (e.id, left, subst (λ (k : ℕ). e.id < k) (sym t.0) above, left2, Among-append_right e.parts (e.next ∷ []) i (inl t.0)))
         (λ t. Root-grows book book2 i parts2 (⊎_elim (λ u. kept.rooted i e (ap book u.0 ∙ at)) (λ u. kept.rooted i d u.2) t))
         (cases2 i d h);
+    begun = each2 (λ (u : Entry). Begins u.seen u.began) (Begins-all e.seen) (kept.begun e.id e at) (λ i d n h. kept.begun i d h);
+    handed = each2 (λ (u : Entry). (x : Handed) → Among x u.handed → IsHanded book2 u x) (λ x k. absurd k) handed_left
+        (λ i d n h x k. Handed-grows book book2 d d x began2 refl (kept.handed i d h x k));
   }
 
   below1 : (n : ℕ) → IsBelow n book → IsBelow n book1

@@ -7,6 +7,7 @@ use Rattle.crossbeam_queue.proofs.Lists.{at_set}
 use Rattle.fx_term.specs.declared.item.Item.{Item}
 use Rattle.fx_term.specs.declared.queue_event.QueueEvent.{QueueEvent}
 use Rattle.fx_queue.specs.declared.entry.Entry.{Entry}
+use Rattle.fx_queue.specs.declared.entry.Handed.{Handed}
 use Rattle.fx_queue.specs.declared.stage.Stage.{Stage}
 use Rattle.fx_queue.specs.declared.stage.Stage.TheVariants.{Blank, Live, Spent}
 use Rattle.fx_queue.specs.declared.pass_view.PassView.{PassView}
@@ -14,8 +15,9 @@ use Rattle.fx_term.specs.Lists.{Among}
 use Rattle.fx_term.specs.Maps.{with_at}
 use Rattle.fx_term.specs.Queue.{cut, Leaves}
 use Rattle.fx_queue.specs.PassView.{blank_view, In, IsWhole, IsOnlyOf}
-use Rattle.fx_queue.specs.Rule.{Book, acts_in, Root, Kept, IsBelow, Dealt, Running, Ringed}
-use Rattle.fx_queue.specs.Told.{Tells}
+use Rattle.fx_queue.specs.History.{Begins}
+use Rattle.fx_queue.specs.Rule.{Book, acts_in, Root, IsHanded, Kept, IsBelow, Dealt, Running, Ringed}
+use Rattle.fx_queue.specs.Told.{IsHandedOn, Tells}
 use Rattle.fx_term.proofs.MapLaws.{at_that, at_other, at_cases}
 use Rattle.fx_queue.proofs.Histories.{all_own}
 
@@ -43,6 +45,13 @@ pub Root-grows : (book book' : Book) (i : ℕ)
     → ((f : ℕ) (d : Entry) → book f ≡ Some d → (d' : Entry) × (book' f ≡ Some d') × ((x : ℕ) → Among x d.parts → Among x d'.parts))
     → Root book i → Root book' i
 Root-grows book book' i g r = ⊎_elim inl (λ t. let w = g t.0 t.1 t.3 in inr (t.0, w.0, t.2, w.1, w.2 i t.4)) r
+
+pub Handed-grows : (book book' : Book) (d d' : Entry) (h : Handed)
+    → ((f : ℕ) (e : Entry) → book f ≡ Some e → (e' : Entry) × (book' f ≡ Some e') × (e'.began ≡ e.began))
+    → d'.began ≡ d.began → IsHanded book d h → IsHanded book' d' h
+Handed-grows book book' d d' h g same t =
+    let w = g h.id t.0 t.1 in
+    (w.0, w.1, w.2 ∙ t.2, subst (λ (l : List QueueEvent). Begins h.seen l) (sym same) t.3)
 
 -- each view after a step on the own entry has its entries
 module _ (cap : ℕ) (book : Book) (e e' : Entry) (same_id : e'.id ≡ e.id) (same_end : e'.end ≡ e.end) where
@@ -136,6 +145,18 @@ none_above n f log book keeper kept below le = kept.cuts f ∙ by_entry (book f)
     by_entry None at = refl
     by_entry (Some d) at = (let lt = (below f d at).0 in let named = kept.named f d at in absurd (omega (arith, lt, named, le)))
 
+-- nor has one of a fiber that was not started
+none_unborn : (log : List QueueEvent) (book : Book) (keeper : ℕ → Option ℕ) → Kept log book keeper → (e : Entry) → book e.id ≡ Some e
+    → (f : ℕ) → e.next ≤ f → f < e.end → cut f log ≡ []
+none_unborn log book keeper kept e at f le lt = kept.cuts f ∙ ap acts_in (kept.free f e.id (kept.range e.id e at f le lt))
+
+-- what a pass in the book was handed
+handed_on : (log : List QueueEvent) (book : Book) (keeper : ℕ → Option ℕ) → Kept log book keeper → (d e : Entry) → book d.id ≡ Some d → book e.id ≡ Some e
+    → IsHandedOn d e
+handed_on log book keeper kept d e at there h m same =
+    let t = kept.handed d.id d at h m in
+    (subst (λ (x : Entry). x.began ≡ h.seen) (same_Some t.0 e (sym t.1 ∙ (ap book same ∙ there))) t.2, t.3)
+
 pub tells : (items : List Item) (views : List PassView) (r : Running items views) (p : ℕ) (v : PassView) → get_elem? views p ≡ some v → v.stage ≡ Live
     → Tells v r.log items
 tells items views r p v at live =
@@ -148,6 +169,10 @@ tells items views r p v at live =
       apart = d.others;
       only = λ whole. only r.log r.cap r.book r.keeper r.kept r.seat p v d whole;
       within = λ f le. none_above v.fibers f r.log r.book r.keeper r.kept d.below le;
+      above = r.kept.above v.own.id v.own (d.here v.own (inl refl)).0;
+      unborn = λ f le lt. none_unborn r.log r.book r.keeper r.kept v.own (d.here v.own (inl refl)).0 f le lt;
+      begun = λ e k. r.kept.begun e.id e (d.here e k).0;
+      handed = λ e x k j h m same. handed_on r.log r.book r.keeper r.kept e x (d.here e k).0 (d.here x j).0 h m same;
     }
 
 -- the history of a first pass that split off and took in none is its own list

@@ -5,7 +5,7 @@ use Rattle.fx_queue.specs.declared.entry.Entry.{Entry}
 
 -- of a fiber that has done nothing, with this range, which has seen this history
 abbrev pub new_entry : ℕ → ℕ → ℕ → List QueueEvent → Entry
-new_entry id next end seen = record { id = id; next = next; end = end; parts = []; acts = []; seen = seen }
+new_entry id next end seen = record { id = id; next = next; end = end; parts = []; handed = []; acts = []; began = seen; seen = seen }
 
 -- after that history it did this
 abbrev pub acting : List QueueEvent → QueueEvent → Entry → Entry

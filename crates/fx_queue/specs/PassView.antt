@@ -23,7 +23,13 @@ nobody_view = record { stage = Spent; cap = 0; fibers = 0; own = new_entry 0 0 0
 -- what is left of a view by a split, and the view of the new pass: that of the first number, with the numbers after it up to end as its range, which
 -- has seen what its starter has
 abbrev pub kept_part : ℕ → PassView → PassView
-kept_part end v = record v { own = record (v.own) { next = end; parts = v.own.parts ++ v.own.next ∷ [] } }
+kept_part end v = record v {
+  own = record (v.own) {
+    next = end;
+    parts = v.own.parts ++ v.own.next ∷ [];
+    handed = v.own.handed ++ record { id = v.own.next; seen = v.own.seen } ∷ [];
+  };
+}
 
 abbrev pub given_part : ℕ → PassView → PassView
 given_part end v = record {

@@ -7,6 +7,7 @@ use Rattle.fx_term.specs.Queue.{cut, Leaves}
 use Rattle.fx_term.specs.declared.item.Item.{Item}
 use Rattle.fx_term.specs.declared.queue_event.QueueEvent.{QueueEvent}
 use Rattle.fx_queue.specs.declared.entry.Entry.{Entry}
+use Rattle.fx_queue.specs.declared.entry.Handed.{Handed}
 use Rattle.fx_queue.specs.declared.stage.Stage.TheVariants.{Blank, Live}
 use Rattle.fx_queue.specs.declared.pass_view.PassView.{PassView}
 use Rattle.fx_queue.specs.History.{Begins}
@@ -24,6 +25,10 @@ acts_in (Some e) = e.acts
 abbrev pub Root : Book → ℕ → Type 0
 Root book i = (i ≡ 0) ⊎ ((f : ℕ) × (d : Entry) × (f < i) × (book f ≡ Some d) × Among i d.parts)
 
+-- the pass that was split off is in the book, and began with what its starter had seen then, which goes on from what the starter began with
+abbrev pub IsHanded : Book → Entry → Handed → Type 0
+IsHanded book d h = (e : Entry) × (book h.id ≡ Some e) × (e.began ≡ h.seen) × Begins h.seen d.began
+
 -- the history against the entries: the events of each fiber are its entry's, and a fiber without one has none. A number that no pass was made for is
 -- in one range at most
 pub record Kept (log : List QueueEvent) (book : Book) (keeper : ℕ → Option ℕ) : Type 0 where
@@ -35,6 +40,8 @@ pub record Kept (log : List QueueEvent) (book : Book) (keeper : ℕ → Option �
   pub range : (i : ℕ) (e : Entry) → book i ≡ Some e → (j : ℕ) → e.next ≤ j → j < e.end → keeper j ≡ Some e.id
   pub free : (i f : ℕ) → keeper i ≡ Some f → book i ≡ None
   pub rooted : (i : ℕ) (e : Entry) → book i ≡ Some e → Root book i
+  pub begun : (i : ℕ) (e : Entry) → book i ≡ Some e → Begins e.seen e.began
+  pub handed : (i : ℕ) (d : Entry) → book i ≡ Some d → (h : Handed) → Among h d.handed → IsHanded book d h
 
 -- the fibers in the book, and the numbers in their ranges, are below n
 abbrev pub IsBelow : ℕ → Book → Type 0

@@ -6,9 +6,14 @@ use Rattle.fx_term.specs.declared.item.Item.{Item}
 use Rattle.fx_term.specs.declared.queue_event.QueueEvent.{QueueEvent}
 use Rattle.fx_term.specs.declared.queue_event.QueueEvent.TheVariants.{Put, Got}
 use Rattle.fx_queue.specs.declared.entry.Entry.{Entry}
+use Rattle.fx_queue.specs.declared.entry.Handed.{Handed}
 use Rattle.fx_queue.specs.declared.pass_view.PassView.{PassView}
 use Rattle.fx_queue.specs.History.{item, Begins}
 use Rattle.fx_queue.specs.PassView.{In, with_act, IsWhole, IsOnlyOf}
+
+-- where the first fiber's pass split off that of the second, this began with what the first had seen then, which goes on from what the first began with
+abbrev pub IsHandedOn : Entry → Entry → Type 0
+IsHandedOn d e = (h : Handed) → Among h d.handed → h.id ≡ e.id → (e.began ≡ h.seen) × Begins h.seen d.began
 
 -- what a pass knows of the history at one moment, with these items in the queue
 pub record Tells (v : PassView) (log : List QueueEvent) (items : List Item) : Type 0 where
@@ -19,6 +24,10 @@ pub record Tells (v : PassView) (log : List QueueEvent) (items : List Item) : Ty
   pub apart : (e : Entry) → Among e v.taken → e.id ≢ v.own.id
   pub only : IsWhole v → IsOnlyOf v log
   pub within : (f : ℕ) → v.fibers ≤ f → cut f log ≡ []
+  pub above : v.own.id < v.own.next
+  pub unborn : (f : ℕ) → v.own.next ≤ f → f < v.own.end → cut f log ≡ []
+  pub begun : (e : Entry) → In e v → Begins e.seen e.began
+  pub handed : (d e : Entry) → In d v → In e v → IsHandedOn d e
 
 -- a history stands behind these items: it is legal, begins with all that the pass has seen, has of its fibers their events and no other, and none of a
 -- number that is no fiber's; of a pass that is the first and has taken in all, it has the events of these fibers alone
@@ -50,3 +59,4 @@ pub record IsRest (v : PassView) (items : List Item) : Type 0 where
   pub begins : (e : Entry) → In e v → Begins log e.seen
   pub cuts : (e : Entry) → In e v → cut e.id log ≡ e.acts
   pub only : IsOnlyOf v log
+  pub handed : (d e : Entry) → In d v → In e v → IsHandedOn d e

@@ -11,8 +11,18 @@ pub struct Entry {
     pub end: u32,
     /// Whose passes it split off.
     pub parts: LinkedList<u32>,
+    /// What each of them began with, in the same order.
+    pub handed: LinkedList<Handed>,
     /// Its own events, the oldest first.
     pub acts: LinkedList<QueueEvent>,
-    /// All events up to its latest one, or, where it has none yet, what its starter had seen.
+    /// What its starter had seen when it split this pass off.
+    pub began: LinkedList<QueueEvent>,
+    /// All events up to its latest one, or, where it has none yet, what it began with.
+    pub seen: LinkedList<QueueEvent>,
+}
+
+/// What a pass was split off with: the number of its fiber, and all that its starter had seen by then.
+pub struct Handed {
+    pub id: u32,
     pub seen: LinkedList<QueueEvent>,
 }

@@ -34,7 +34,8 @@ use Rattle.fx_queue.specs.declared.pass_view.PassView.{PassView}
 use Rattle.fx_queue.specs.Entry as queue_entry
 use Rattle.fx_queue.specs.PassView as queue
 use Rattle.fx_queue.specs.History.{Begins}
-use Rattle.fx_queue.specs.Told.{IsRest}
+use Rattle.fx_queue.specs.declared.entry.Handed.{Handed}
+use Rattle.fx_queue.specs.Told.{IsHandedOn, IsRest}
 use Rattle.fx_run.specs.Agreement.{PortAgrees}
 use Rattle.fx_run.specs.Changes.{IsNewPass, AreSplitFor, AddsEvent}
 use Rattle.fx_run.specs.Parted.{Parted}
@@ -320,6 +321,16 @@ item = record { fiber = 0; nth = 0; value = 3 }
 abbrev queue_view : PassView
 queue_view = queue.joined main_view child_view
 
+-- the child began with the put that the main fiber had seen
+handed_to_main : IsHandedOn main_view.own main_view.own
+handed_to_main h k same = elim k [
+  | inl is ↦ absurd (let one : h.id ≡ 1 = ap (λ (x : Handed). x.id) is in omega (arith, one, same))
+  | inr none ↦ absurd none
+]
+
+handed_to_child : IsHandedOn main_view.own child_view.own
+handed_to_child h k same = elim k [ inl is ↦ (ap (λ (x : Handed). x.seen) (sym is), (h.seen, refl)) | inr none ↦ absurd none ]
+
 rest : IsRest queue_view []
 rest = record {
   log = history;
@@ -330,6 +341,9 @@ rest = record {
       (let main : (0 == f) ≡ false = ne_eqb 0 f (λ e. apart main_view.own (inl refl) e) in
       let child : (1 == f) ≡ false = ne_eqb 1 f (λ e. apart child_view.own (inr (inl refl)) e) in
       rw (main, child) refl);
+  handed = λ d e i j. of_two (λ (x : pass.Entry). IsHandedOn x e) main_view.own child_view.own
+      (of_two (λ (x : pass.Entry). IsHandedOn main_view.own x) main_view.own child_view.own handed_to_main handed_to_child e j)
+      (λ h k same. absurd k) d i;
 }
 
 queue_end : QueueEnd 0 1 fibers []

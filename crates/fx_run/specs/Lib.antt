@@ -12,6 +12,7 @@ pub mod EndOfRun
 pub mod Flows
 pub mod Told
 pub mod Between
+pub mod Ancestors
 pub mod Refusals
 pub mod FalseRefusal
 pub mod RunWaits

@@ -10,6 +10,7 @@ use Rattle.fx_model.specs.Report.{FiberReportView, ReportView, fiber_in, capacit
 use Rattle.fx_model.specs.LawfulReport.{IsLawfulReport}
 use Rattle.fx_queue.specs.History.{Begins}
 use Rattle.fx_port.specs.PassesAgree.{Refusal, Full, Empty}
+use Rattle.fx_run.specs.Ancestors.{ComesFrom}
 
 -- the event that tells of a refusal at queue q, and how many elements the queue held
 abbrev pub refused : Refusal → ℕ → Event
@@ -26,7 +27,8 @@ IsOnlyFiber r f = (g : ℕ) (x : FiberReportView) → fiber_in r g ≡ Some x �
 
 -- At one moment after these events of fiber f, and before its next one at queue q, the queue was full, or empty: a legal history that has just these events of
 -- the fiber, and none of a number that is no fiber's, leaves it so. It begins as the history does that the report has of the queue, and goes with that at
--- least as far as the last of these events. Where the report has no other fiber it is these events alone
+-- least as far as the last of these events, and of each fiber that f comes from as far as the last event before it started f, or who started f. Where the
+-- report has no other fiber it is these events alone
 pub record HeldAfter (s : ScriptView) (r : ReportView) (k : Refusal) (q f : ℕ) (history : List QueueEvent) (before : List Event) : Type 0 where
   pub log : List QueueEvent
   pub items : List Item
@@ -37,6 +39,7 @@ pub record HeldAfter (s : ScriptView) (r : ReportView) (k : Refusal) (q f : ℕ)
   pub begins : Begins log shared
   pub known : cut f shared ≡ queue_events q f before
   pub cuts : cut f log ≡ queue_events q f before
+  pub ancestors : (g : ℕ) (earlier : List Event) → ComesFrom r f g earlier → Begins (cut g shared) (queue_events q g earlier)
   pub within : (g : ℕ) → total s ≤ g → cut g log ≡ []
   pub alone : IsOnlyFiber r f → log ≡ queue_events q f before
 

@@ -1,11 +1,11 @@
-use Rattle.std.proofs.Common.{◌≡◌, ◌∙◌, [], ℕ, ◌+◌, ◌≤◌, false, replicate, sym, ap, subst}
+use Rattle.std.proofs.Common.{◌≡◌, ◌∙◌, [], arith, ℕ, ◌+◌, ◌≤◌, false, replicate, sym, ap, subst}
 use Rattle.fx_word.specs.Words.{Seated, WordsId}
 use Rattle.fx_fiber.specs.Deed.{Started}
 use Rattle.fx_fiber.specs.PortFacts.{first_facts}
 use Rattle.fx_port.specs.PortView.{PortView, IsOfRun, kept_port, given_port, facts_of}
 use Rattle.fx_port.specs.ThreadCalls.{ThreadAgrees}
 use Rattle.fx_port.proofs.RowLaws.{puts_given}
-use Rattle.fx_port.proofs.RunLaws.{splits, started, given, nexts}
+use Rattle.fx_port.proofs.RunLaws.{splits, started, given, theirs}
 use Rattle.fx_port.proofs.CallLaws.{by_deed, starts, begins}
 use Rattle.fx_port.proofs.thread_port.ThreadPortPort.start.Goals as goal
 
@@ -43,11 +43,15 @@ invariant_of-self-2 g c =
     let kept : kept_port c.args.begin.now p
     ≡ record { words = c.split-seat.new.seat.view; passes = c.split.new.self; noted = c.self.inside.noted } =
     λ i. record { words = sym words i; passes = sym c.in_ok-passes.ensures.kept i; noted = c.self.inside.noted } in
+    let range = c.requires.range in
+    let is = range.number ∙ sym (ap (λ (u : PortView). u.words.own.next) c.self.view_is) in
+    let later : p.words.own.next ≤ c.args.begin.now.end =
+    let follows = range.follows in let ordered = range.ordered in omega (arith, is, follows, ordered) in
     let inv = c.self.invariant in (
       inv.0,
       inv.1,
       ap (λ (s : Seated). s.table) c.split-seat.ensures.kept ∙ inv.2,
-      subst (λ (u : PortView). IsOfRun g.N.RunBrand.words g.N.RunBrand.queues g.N.RunBrand.may u) kept (started _ _ _ p inv.3 c.args.begin.now),
+      subst (λ (u : PortView). IsOfRun g.N.RunBrand.words g.N.RunBrand.queues g.N.RunBrand.may u) kept (started _ _ _ p inv.3 c.args.begin.now later),
     )
 
 pub returns-clause-child_facts : goal.returns-clause-child_facts
@@ -84,4 +88,4 @@ returns-clause-deed g c =
     let inside = subst (λ (n : ℕ). c.args.begin.now.end ≤ n) (sym (ap (λ (u : PortView). u.words.own.end) c.self.view_is)) range.within in
     by_deed p _ (kept_port c.args.begin.now p) _ (Started c.args.id c.args.begin.now) c.self.view_is
     (λ i. record { words = words i; passes = c.in_ok-passes.ensures.kept i; noted = c.self.inside.noted })
-    (starts p c.args.id c.args.begin.now is (nexts _ _ _ p c.self.invariant.3))
+    (starts p c.args.id c.args.begin.now is (theirs _ _ _ p c.self.invariant.3))
