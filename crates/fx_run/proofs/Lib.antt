@@ -12,6 +12,8 @@ pub mod MarkedNumbers
 pub mod EndLaws
 pub mod Declared
 pub mod CloseFaults
+pub mod TracedDeeds
+pub mod FoundPasses
 pub mod RefusalLaws
 pub mod Starters
 pub mod Lawful
