@@ -24,4 +24,5 @@ pub mod CoreTerms
 pub mod QueueLaws
 pub mod ListLaws
 pub mod MapLaws
+pub mod BitLaws
 pub mod LeavesLaws

@@ -19,3 +19,4 @@ pub mod QueuesNamed
 pub mod Script
 pub mod Lists
 pub mod Maps
+pub mod Bits
