@@ -5,7 +5,7 @@
 //!
 //! | definitions | what they say |
 //! |---|---|
-//! | `Everywhere` | two terms show the same wherever a fiber comes to them: whatever stands round them, in its term or in a clean-up that unwinding runs, and whatever the fiber has done before |
+//! | `Everywhere` | two terms show the same wherever a fiber comes to them, in its term or in a clean-up, and whatever it has done before |
 //! | `ScopedPlaces` | they do so where the clean-ups round them use each name as what it is, as those of a script's fibers do |
 //! | `Others` | others see the same of two fibers: what a fiber notes of its own cancellation and of its resources is left out |
 //!

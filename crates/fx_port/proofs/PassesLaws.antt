@@ -245,9 +245,12 @@ module _ (f : ℕ) where
     handed_after before after h b e k u hu = dite (ℕ_discrete k q)
         (λ y.
         let same : s' ≡ u = same_Some s' u (sym here ∙ (ap (slice_get row) (sym y) ∙ hu)) in
-        let was = no_more_handed ps deeds x no_start g before after h b e q s at in
-        (was.0, subst (Among was.0) (sym (ap (λ (v : PassView). v.own.handed) is) ∙ ap (λ (w : HeldPass). w.view.own.handed) same) was.1, was.2,
-        was.3 ∙ ap (λ (j : ℕ). queue_deeds j f before) (sym y)))
+        let was = no_more_handed ps deeds x no_start g before after h b e q s at in (
+          was.0,
+          subst (Among was.0) (sym (ap (λ (v : PassView). v.own.handed) is) ∙ ap (λ (w : HeldPass). w.view.own.handed) same) was.1,
+          was.2,
+          was.3 ∙ ap (λ (j : ℕ). queue_deeds j f before) (sym y),
+        ))
         (λ n. no_more_handed ps deeds x no_start g before after h b e k u (sym (get_set_else ps q k s' n) ∙ hu))
 
     agrees_act : PassesAgree f row (deeds ++ x ∷ [])
@@ -300,10 +303,12 @@ module _ (f : ℕ) where
       let pass = theirs q s t.1 in
       subst (λ (w : HeldPass). HasHanded f w g (queue_deeds q f before)) t.2 (⊎_elim
       (λ last.
-      let part : Handed = record { id = s.view.own.next; seen = s.view.own.seen } in
-      (part, Among-append_right s.view.own.handed (part ∷ []) part (inl refl),
-      pass.follows ∙ same_Some id g (ap started_by last.1),
-      ap (λ (i : ℕ). cut i s.view.own.seen) (sym pass.number) ∙ (pass.aware.own ∙ (sym (acts_are ps deeds q s t.1 h) ∙ ap (queue_deeds q f) last.0))))
+      let part : Handed = record { id = s.view.own.next; seen = s.view.own.seen } in (
+        part,
+        Among-append_right s.view.own.handed (part ∷ []) part (inl refl),
+        pass.follows ∙ same_Some id g (ap started_by last.1),
+        ap (λ (i : ℕ). cut i s.view.own.seen) (sym pass.number) ∙ (pass.aware.own ∙ (sym (acts_are ps deeds q s t.1 h) ∙ ap (queue_deeds q f) last.0)),
+      ))
       (λ early. let was = h.handed before early.0 g b early.1 q s t.1 in (
         was.0,
         Among-append_left s.view.own.handed (record { id = s.view.own.next; seen = s.view.own.seen } ∷ []) was.0 was.1,

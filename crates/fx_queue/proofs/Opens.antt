@@ -108,6 +108,7 @@ sets_up p cap n some_fiber items views h here = ⊎_elim
       set_up =
           λ q u k. ⊎_elim (λ s. subst (λ (w : PassView). w.stage ≢ Blank) s.1 (first_blank cap n)) (λ s. subst (λ (w : PassView). w.stage ≢ Blank) s
           (none_blank n)) (cases q u k);
-      dealt = λ q u k live. ⊎_elim (λ s. opens_dealt cap n some_fiber p q u s.0 s.1) (λ s. spent_live u.stage (sym (ap (λ (w : PassView). w.stage) s)) live) (cases q u k);
+      dealt = λ q u k live. ⊎_elim (λ s. opens_dealt cap n some_fiber p q u s.0 s.1)
+          (λ s. spent_live u.stage (sym (ap (λ (w : PassView). w.stage) s)) live) (cases q u k);
     })
     (λ r. absurd (r.set_up p blank_view here refl)) h

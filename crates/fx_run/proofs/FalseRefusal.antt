@@ -94,7 +94,8 @@ history q = record {
 }
 
 of_both : (P : Label → Type 0) → P (Shows (event.Refused 0)) → P (Shows (event.Ended (Succeeded 0))) → All P labels
-of_both P a b = All-cons P (Shows (event.Refused 0)) (Shows (event.Ended (Succeeded 0)) ∷ []) a (All-cons P (Shows (event.Ended (Succeeded 0))) [] b (All-nil P))
+of_both P a b = All-cons P (Shows (event.Refused 0)) (Shows (event.Ended (Succeeded 0)) ∷ []) a
+    (All-cons P (Shows (event.Ended (Succeeded 0))) [] b (All-nil P))
 
 pub false_is_lawful : (may : ℕ → Bool) → IsLawfulReport false_script may false_report
 false_is_lawful may = record {

@@ -204,6 +204,9 @@ module _ (nodes : List Node) (words : word.WordsId) (queues : List QueueId) (s :
       let a = t.0 in
       let number : a.port.words.own.id ≡ i =
       sym a.number ∙ (ap (λ (x : Parted). x.bare.id) (sym t.2) ∙ id_at (parted nodes words queues g h) i p at) in
-      let x = handed_of a f before after (ap (λ (x : Parted). x.bare.trace) (sym t.2) ∙ is) q lt in
-      (x.0, subst (λ (e : Entry). Among x.0 e.handed) (ap (λ (y : Parted). y.passes q) (sym t.2)) x.1, x.2,
-      subst (λ (n : ℕ). cut n x.0.seen ≡ queue_events q n before) number x.3)
+      let x = handed_of a f before after (ap (λ (x : Parted). x.bare.trace) (sym t.2) ∙ is) q lt in (
+        x.0,
+        subst (λ (e : Entry). Among x.0 e.handed) (ap (λ (y : Parted). y.passes q) (sym t.2)) x.1,
+        x.2,
+        subst (λ (n : ℕ). cut n x.0.seen ≡ queue_events q n before) number x.3,
+      )

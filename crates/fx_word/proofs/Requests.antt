@@ -84,7 +84,17 @@ looking_same true e = record { id = refl; begin = refl; next = refl; end = refl;
 looking_fits : (z : Facts) (b : Bool) (e : Entry) → z.bit e.id ≡ b → Fits z e → Fits z (looking b e)
 looking_fits z false e is f = f
 looking_fits z true e is f =
-    record { asks = f.asks; sees = λ _. is; ends = f.ends; tells = f.tells; learns = f.learns; splits = f.splits; once = f.once; above = f.above; range = f.range }
+    record {
+      asks = f.asks;
+      sees = λ _. is;
+      ends = f.ends;
+      tells = f.tells;
+      learns = f.learns;
+      splits = f.splits;
+      once = f.once;
+      above = f.above;
+      range = f.range;
+    }
 
 looking_kept : (n : ℕ) (words : List ℕ) (book : Book) (bit : ℕ → Bool) (keeper : ℕ → Option ℕ) → Kept n words book bit keeper
     → (e : Entry) → book e.id ≡ Some e → (b : Bool) → bit e.id ≡ b → Kept n words (with_at e.id (Some (looking b e)) book) bit keeper

@@ -50,7 +50,8 @@ module _ (m0 m1 m2 m3 m4 m5 a b c d a' b' c' d' g1 g2 g3 g4 : HeldPass) (e0 : m0
       (leaf_of 5 4 m3 d d' (ap (λ (v : PassView). v.own.next) v3) ed sd) f4
 
   parts : g4.view.own.parts ≡ 1 ∷ 2 ∷ 3 ∷ 4 ∷ []
-  parts = same_parts g3 d' g4 f4 ∙ (same_parts g2 c' g3 f3 ∙ (same_parts g1 b' g2 f2 ∙ (same_parts m5 a' g1 f1 ∙ (sm.parts ∙ ap (λ (v : PassView). v.own.parts) v4))))
+  parts = same_parts g3 d' g4 f4 ∙ (same_parts g2 c' g3 f3 ∙ (same_parts g1 b' g2 f2
+      ∙ (same_parts m5 a' g1 f1 ∙ (sm.parts ∙ ap (λ (v : PassView). v.own.parts) v4))))
 
   whole : IsWhole g4.view
   whole = whole_grown g4.view _ all_grown (λ i m. turned i (subst (λ (l : List ℕ). Among i l) parts m))
