@@ -1,7 +1,7 @@
 //! The deques of the workers, and what they share.
 ghost use Rattle.std.specs.Prelude.{◌≡◌, vec_len, IfOk, IfErr};
 
-use crossbeam_deque::{Injector, Steal, Stealer, Worker};
+use crossbeam_deque::{Steal, Stealer, Worker};
 use fx_fiber::Fiber;
 use fx_term::Memory;
 use std::alloc::Global;
@@ -17,12 +17,10 @@ const LOOKS: u32 = 64;
 /// it looks for the last time, and a call since then lets it not sleep.
 const NAP: u64 = 100;
 
-/// What the workers of a round share: the tasks that came from outside, the ends at which the deques of
-/// the workers are stolen from, how many workers may have a task in hand, how many sleep, and how often
-/// one was called.
+/// What the workers of a round share: the ends at which their deques are stolen from, how many of them
+/// may have a task in hand, how many sleep, and how often one was called.
 #[derive(Drop)]
 pub struct Tasks<T> {
-    injector: Injector<T>,
     stealers: Vec<Stealer<T>>,
     busy: AtomicU64,
     sleepers: AtomicU64,
@@ -47,7 +45,6 @@ impl<T: Drop> Tasks<T> {
     pub fn new(alloc: Global, workers: usize) -> Result<(Tasks<T>, Vec<Owner<T>>), Memory>
         ensures { IfOk result (λ made. vec_len made.1 ≡ workers) }
     {
-        let injector = Injector::new(alloc)?;
         let mut stealers = Vec::new(alloc);
         let mut hands = Vec::new(alloc);
         for _ in 0..workers {
@@ -57,7 +54,6 @@ impl<T: Drop> Tasks<T> {
         }
         Ok((
             Tasks {
-                injector,
                 stealers,
                 busy: AtomicU64::new(0),
                 sleepers: AtomicU64::new(0),
@@ -66,14 +62,9 @@ impl<T: Drop> Tasks<T> {
             hands,
         ))
     }
+}
 
-    /// Gives a task to whichever worker is first.
-    pub fn inject<R: Wait>(&self, rt: &R, task: T) -> Result<(), T>
-        ensures { IfErr result (λ back. back ≡ task) }
-    {
-        self.injector.push(rt, task)
-    }
-
+impl<T> Tasks<T> {
     /// Counts a worker less that may have a task. The last one calls all that sleep.
     pub(crate) fn goes_idle(&self) {
         if self.busy.fetch_sub(1, Ordering::SeqCst) == 1 {
@@ -94,7 +85,7 @@ impl<T: Drop> Tasks<T> {
 
     /// Whether there is a task to be taken, as far as can be seen.
     fn has_task(&self) -> bool {
-        !self.injector.is_empty() || self.stealers.iter().any(|other| !other.is_empty())
+        self.stealers.iter().any(|other| !other.is_empty())
     }
 
     /// Whether a worker sleeps.
@@ -140,7 +131,7 @@ impl<T: Drop> Tasks<T> {
     }
 }
 
-impl<T: Drop> Owner<T> {
+impl<T> Owner<T> {
     /// Puts a task at the back. For want of memory it comes back.
     pub fn push(&mut self, task: T) -> Result<(), T>
         ensures { IfErr result (λ back. back ≡ task) }
@@ -148,17 +139,10 @@ impl<T: Drop> Owner<T> {
         self.local.push(task)
     }
 
-    /// A task from its own deque, else from the injector, else from another's deque.
+    /// A task from its own deque, else from another's.
     pub fn next<R: Wait>(&mut self, rt: &R, work: &Tasks<T>) -> Option<T> {
         if let Some(task) = self.local.pop() {
             return Some(task);
-        }
-        for _ in rt.forever() {
-            match work.injector.steal_batch_and_pop(rt, &mut self.local) {
-                Steal::Success(task) => return Some(task),
-                Steal::Retry => {}
-                Steal::Empty => break,
-            }
         }
         for other in work.stealers.iter() {
             for _ in rt.forever() {

@@ -4,13 +4,13 @@
 //!
 //! | it is | where |
 //! |---|---|
-//! | able to go on | in a worker's deque ([`Hand`]); before the workers begin in the injector ([`Work`]) |
+//! | able to go on | in a worker's deque ([`Hand`]); before the workers begin in that of the first |
 //! | in its turn | in the hand of the worker that took it |
 //! | waiting, or ended | in its bay of the [`Lot`] |
 //!
 //! A worker does this again and again ([`work`]):
 //!
-//! 1. It takes a fiber from the front of its own deque, else from the injector, else from another's deque.
+//! 1. It takes a fiber from the front of its own deque, else from another's.
 //! 2. The gate is asked, and what it names is requested from outside; then the fiber has its turn. No
 //!    lock is held meanwhile.
 //! 3. After its turn the fiber is pushed where it gave way; laid down where it has ended; parked where it
@@ -39,6 +39,7 @@ mod deques;
 mod gate;
 mod lot;
 mod rounds;
+mod threads;
 mod turns;
 mod worker;
 
@@ -47,5 +48,5 @@ pub use deques::{Hand, Owner, Tasks, Work};
 pub use gate::{Free, Gate};
 pub use lot::Lot;
 pub use rounds::{RoundEnd, round};
-pub use turns::{gated_turn, solo};
+pub use turns::{gated_turn, leave, solo};
 pub use worker::{WorkerEnd, work};

@@ -48,48 +48,6 @@ impl<P: Port + Drop> Lot<P> {
         Ok(Lot { bays })
     }
 
-    /// Parks a fiber that waits. It is given back where a wake was left for it.
-    pub fn park<R: Wait>(&self, rt: &R, fiber: Fiber<P>) -> Option<Fiber<P>>
-        requires { P.theory.total ≤ self.now }
-        ensures { IfSome result (λ back. back ≡ fiber) }
-    {
-        let mut guard = self.bays[fiber.id() as usize].lock(rt);
-        let bay = &mut *guard;
-        if bay.is_woken || bay.fiber.is_some() {
-            bay.is_woken = false;
-            return Some(fiber);
-        }
-        bay.fiber = Some(fiber);
-        None
-    }
-
-    /// Takes the parked fiber of this number out, or leaves a wake.
-    pub fn wake<R: Wait>(&self, rt: &R, id: u32) -> Option<Fiber<P>>
-        requires { id < self.now }
-        ensures number { IfSome result (λ fiber. (P.theory.facts fiber.port).number ≡ id) }
-        ensures going { IfSome result (λ fiber. has_ended (progress P.theory.code fiber) ≡ false) }
-    {
-        let mut guard = self.bays[id as usize].lock(rt);
-        let bay = &mut *guard;
-        match bay.fiber.take() {
-            Some(fiber) if fiber.id() == id && !fiber.has_ended() => Some(fiber),
-            other => {
-                bay.fiber = other;
-                bay.is_woken = true;
-                None
-            }
-        }
-    }
-
-    /// Lays a fiber that has ended down.
-    pub fn settle<R: Wait>(&self, rt: &R, fiber: Fiber<P>)
-        requires { P.theory.total ≤ self.now }
-    {
-        let mut guard = self.bays[fiber.id() as usize].lock(rt);
-        let bay = &mut *guard;
-        bay.fiber = Some(fiber);
-    }
-
     /// All fibers that are there, ascending by number.
     pub fn empty(self, alloc: Global) -> Result<Vec<Fiber<P>>, Memory>
         ensures { IfOk result (λ fibers. IsStrictlyIncreasing
@@ -112,5 +70,51 @@ impl<P: Port + Drop> Lot<P> {
             all.push(fiber)?;
         }
         Ok(all)
+    }
+}
+
+impl<P: Port> Lot<P> {
+    /// Parks a fiber that waits. It is given back where a wake was left for it, or its bay is taken.
+    pub fn park<R: Wait>(&self, rt: &R, fiber: Fiber<P>) -> Option<Fiber<P>>
+        requires { P.theory.total ≤ self.now }
+        ensures { IfSome result (λ back. back ≡ fiber) }
+    {
+        let mut guard = self.bays[fiber.id() as usize].lock(rt);
+        let bay = &mut *guard;
+        if bay.is_woken || bay.fiber.is_some() {
+            bay.is_woken = false;
+            return Some(fiber);
+        }
+        bay.fiber.replace(fiber)
+    }
+
+    /// Takes the parked fiber of this number out, or leaves a wake.
+    pub fn wake<R: Wait>(&self, rt: &R, id: u32) -> Option<Fiber<P>>
+        requires { id < self.now }
+        ensures number { IfSome result (λ fiber. (P.theory.facts fiber.port).number ≡ id) }
+        ensures going { IfSome result (λ fiber. has_ended (progress P.theory.code fiber) ≡ false) }
+    {
+        let mut guard = self.bays[id as usize].lock(rt);
+        let bay = &mut *guard;
+        match &bay.fiber {
+            Some(fiber) if fiber.id() == id && !fiber.has_ended() => bay.fiber.take(),
+            _ => {
+                bay.is_woken = true;
+                None
+            }
+        }
+    }
+
+    /// Lays a fiber that has ended down. It is given back where its bay is taken.
+    pub fn settle<R: Wait>(&self, rt: &R, fiber: Fiber<P>) -> Option<Fiber<P>>
+        requires { P.theory.total ≤ self.now }
+        ensures { IfSome result (λ back. back ≡ fiber) }
+    {
+        let mut guard = self.bays[fiber.id() as usize].lock(rt);
+        let bay = &mut *guard;
+        if bay.fiber.is_some() {
+            return Some(fiber);
+        }
+        bay.fiber.replace(fiber)
     }
 }

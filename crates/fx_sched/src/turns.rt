@@ -11,36 +11,20 @@ use fx_term::{Code, Memory};
 use std::alloc::AllocGlobal;
 use std::random::RandomSource;
 
-/// What a worker polls with.
+/// What a worker polls with: it begins a context, and [`leave`]s it after its last turn.
 pub fn solo<R: RandomSource + AllocGlobal>(rt: &R) -> Result<Solo, Memory> {
     Solo::new(rt, Doorbell::spinning()).map_err(|_| Memory)
 }
 
-/// Asks the gate, requests from outside what it names, and then lets the fiber have its turn.
-pub fn gated_turn<P: Port, G: Gate>(
-    solo: &Solo,
-    gate: &G,
-    worker: u32,
-    fiber: &mut Fiber<P>,
-    code: &Code,
-    shared: &mut P::Shared,
-) -> Poll<Turned<P>>
-    requires code { code.now.nodes ≡ P.theory.code }
-    requires gate { (id : ℕ) → G.may gate.now id ≡ true → P.theory.may id ≡ true }
-    ensures number { (P.theory.facts fiber.new.port).number ≡ (P.theory.facts fiber.old.port).number }
-    ensures beginning { (P.theory.facts fiber.new.port).beginning ≡ (P.theory.facts fiber.old.port).beginning }
-    ensures turn { HasGatedTurn P.theory
-        (G.answers gate.now worker ((P.theory.facts fiber.old.port).number)) fiber.old shared.old
-        (come_to result) fiber.new shared.new }
-{
-    let mut cx = solo.begin();
-    let answer = turn_in(&mut cx, gate, worker, fiber, code, shared);
-    leave(cx);
-    answer
+/// Leaves a context whose turns are over.
+pub fn leave(mut cx: Context<'_>) {
+    let _: Poll<()> = cx.yield_now();
+    cx.park();
 }
 
-/// The same in a context of the worker's own, which is ready for the next turn after it.
-pub(crate) fn turn_in<P: Port, G: Gate>(
+/// Asks the gate, requests from outside what it names, and then lets the fiber have its turn. The context is ready
+/// for the next turn after it.
+pub fn gated_turn<P: Port, G: Gate>(
     cx: &mut Context<'_>,
     gate: &G,
     worker: u32,
@@ -60,12 +44,6 @@ pub(crate) fn turn_in<P: Port, G: Gate>(
         fiber.outside(shared, id);
     }
     one_turn(fiber, code, shared, cx)
-}
-
-/// Leaves a context whose turns are over.
-pub(crate) fn leave(mut cx: Context<'_>) {
-    let _: Poll<()> = cx.yield_now();
-    cx.park();
 }
 
 /// Makes one turn of the fiber.

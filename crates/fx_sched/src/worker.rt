@@ -4,7 +4,7 @@ ghost use Rattle.std.specs.Prelude.{◌≡◌, ◌≤◌, ℕ, true};
 use crate::deques::{Hand, Work};
 use crate::gate::Gate;
 use crate::lot::Lot;
-use crate::turns::{leave, solo, turn_in};
+use crate::turns::{gated_turn, leave, solo};
 use futures::task::{Context, Poll};
 use fx_fiber::{Fiber, Port, Turned};
 use fx_term::Code;
@@ -23,11 +23,13 @@ pub enum WorkerEnd<P: Port> {
 }
 
 /// Runs fibers until there is nothing more to do, each in turns that the gate is asked before. No lock is
-/// held in a turn, nor while the gate is asked.
-pub fn work<R: Wait + RandomSource + AllocGlobal, P: Port + Drop, G: Gate>(
+/// held in a turn, nor while the gate is asked. A port is not `Drop` here, so that no fiber is: each that
+/// comes to the worker, from a deque, from the lot or as a child, goes into its deque, into the lot or into
+/// what it ends with.
+pub fn work<R: Wait + RandomSource + AllocGlobal, P: Port, G: Gate>(
     rt: &R,
     worker: u32,
-    hand: Hand<P>,
+    hand: &mut Hand<P>,
     all: &Work<P>,
     lot: &Lot<P>,
     code: &Code,
@@ -49,11 +51,11 @@ pub fn work<R: Wait + RandomSource + AllocGlobal, P: Port + Drop, G: Gate>(
 }
 
 /// Takes a fiber, lets it have its turns, and lays it down, again and again.
-fn rounds<R: Wait, P: Port + Drop, G: Gate>(
+fn rounds<R: Wait, P: Port, G: Gate>(
     rt: &R,
     cx: &mut Context<'_>,
     worker: u32,
-    mut hand: Hand<P>,
+    hand: &mut Hand<P>,
     all: &Work<P>,
     lot: &Lot<P>,
     code: &Code,
@@ -69,7 +71,7 @@ fn rounds<R: Wait, P: Port + Drop, G: Gate>(
             return WorkerEnd::Done;
         };
         let answer = match turns(
-            rt, cx, gate, worker, &mut hand, all, lot, &mut fiber, code, shared,
+            rt, cx, gate, worker, hand, all, lot, &mut fiber, code, shared,
         ) {
             Ok(answer) => answer,
             Err(woken) => {
@@ -77,11 +79,11 @@ fn rounds<R: Wait, P: Port + Drop, G: Gate>(
                 return WorkerEnd::Memory(Some(fiber), Some(woken));
             }
         };
-        if let Err(end) = placed(rt, &mut hand, lot, fiber, answer) {
+        if let Err(end) = placed(rt, hand, lot, fiber, answer) {
             all.goes_idle();
             return end;
         }
-        if let Err(fiber) = wakes(rt, &mut hand, lot, shared) {
+        if let Err(fiber) = wakes(rt, hand, lot, shared) {
             all.goes_idle();
             return WorkerEnd::Memory(None, Some(fiber));
         }
@@ -93,7 +95,7 @@ fn rounds<R: Wait, P: Port + Drop, G: Gate>(
 /// Lets the fiber have its turn, and the next ones for as long as it yields and its worker has no other:
 /// it would come next. Answers what the last turn came to; or want of memory, with the fiber that was woken
 /// after a turn and cannot be pushed.
-fn turns<R: Wait, P: Port + Drop, G: Gate>(
+fn turns<R: Wait, P: Port, G: Gate>(
     rt: &R,
     cx: &mut Context<'_>,
     gate: &G,
@@ -110,10 +112,9 @@ fn turns<R: Wait, P: Port + Drop, G: Gate>(
     requires gate { (id : ℕ) → G.may gate.now id ≡ true → P.theory.may id ≡ true }
 {
     for _ in rt.forever() {
-        let answer = turn_in(cx, gate, worker, fiber, code, shared);
-        let yields = matches!(answer, Poll::Pending) && fiber.source().is_none();
-        if !yields || !hand.is_empty() {
-            return Ok(answer);
+        match gated_turn(cx, gate, worker, fiber, code, shared) {
+            Poll::Pending if fiber.source().is_none() && hand.is_empty() => {}
+            answer => return Ok(answer),
         }
         wakes(rt, hand, lot, shared)?;
         hand.share_rest(all);
@@ -121,8 +122,9 @@ fn turns<R: Wait, P: Port + Drop, G: Gate>(
     unreachable!()
 }
 
-/// Lays a fiber where it belongs after its turn, and a child that it started into the deque before it.
-fn placed<R: Wait, P: Port + Drop>(
+/// Lays a fiber where it belongs after its turn, and a child that it started into the deque before it. What
+/// the lot gives back is able to go on.
+fn placed<R: Wait, P: Port>(
     rt: &R,
     hand: &mut Hand<P>,
     lot: &Lot<P>,
@@ -134,8 +136,10 @@ fn placed<R: Wait, P: Port + Drop>(
     let fiber = match answer {
         Poll::Ready(Turned::Memory) => return Err(WorkerEnd::Memory(Some(fiber), None)),
         Poll::Ready(Turned::Ended) => {
-            lot.settle(rt, fiber);
-            return Ok(());
+            let Some(fiber) = lot.settle(rt, fiber) else {
+                return Ok(());
+            };
+            fiber
         }
         Poll::Ready(Turned::Child(child)) => {
             if let Err(child) = hand.push(child) {
@@ -160,7 +164,7 @@ fn placed<R: Wait, P: Port + Drop>(
 
 /// Takes the fibers out that are noted to be woken, and pushes them. One that cannot be pushed for want
 /// of memory comes back.
-fn wakes<R: Wait, P: Port + Drop>(
+fn wakes<R: Wait, P: Port>(
     rt: &R,
     hand: &mut Hand<P>,
     lot: &Lot<P>,

@@ -8,6 +8,8 @@ mod board;
 #[cfg(test)]
 mod deques;
 #[cfg(test)]
+mod gates;
+#[cfg(test)]
 mod locked_port;
 #[cfg(test)]
 mod lot;

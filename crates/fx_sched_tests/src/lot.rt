@@ -38,24 +38,27 @@ fn woken_twice<P: Port + Drop, R: Wait>(rt: &R, lot: &Lot<P>, fiber: Fiber<P>) -
     lot.wake(rt, id)
 }
 
-/// Lays down the fiber that main starts, and main after it was woken twice, once each has ended.
+/// Lays down the fiber that main starts, and main after it was woken twice, once each has ended: whether the bays
+/// were free.
 fn lay_down<P: Port + Drop, R: Wait>(
     rt: &R,
     lot: &Lot<P>,
     mut main: Fiber<P>,
     code: &Code,
     shared: &mut P::Shared,
-) -> Result<(), Memory>
+) -> Result<bool, Memory>
     requires code { code.now.nodes ≡ P.theory.code }
     requires total { P.theory.total ≤ lot.now }
 {
+    let mut are_free = true;
     if let Some(child) = start(&mut main, code, shared)? {
-        lot.settle(rt, child);
+        are_free = lot.settle(rt, child).is_none();
     }
     if let Some(main) = woken_twice(rt, lot, main) {
-        lot.settle(rt, unable_to_step(main, code, shared)?);
+        let main = unable_to_step(main, code, shared)?;
+        are_free = are_free && lot.settle(rt, main).is_none();
     }
-    Ok(())
+    Ok(are_free)
 }
 
 /// The last event of each of the fibers of a main fiber, once they are laid down in a new lot.
@@ -71,7 +74,9 @@ pub fn ends_in_lot<P: Port + Drop, R: Wait>(
     requires total { P.theory.total ≤ total }
 {
     let lot = Lot::new(alloc, total)?;
-    lay_down(rt, &lot, main, code, shared)?;
+    if !lay_down(rt, &lot, main, code, shared)? {
+        return Ok(Vec::new(alloc));
+    }
     let fibers = lot.empty(alloc)?;
     last_events(alloc, &fibers)
 }

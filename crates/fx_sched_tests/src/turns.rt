@@ -3,7 +3,7 @@ ghost use Rattle.std.specs.Prelude.{◌≡◌, ℕ, true};
 
 use crate::play::{Plan, Seen, play};
 use fx_fiber::{Fiber, Port};
-use fx_sched::{Gate, gated_turn, solo};
+use fx_sched::{Gate, gated_turn, leave, solo};
 use fx_term::{Arg, Code, Event, Memory, Node, NodeId, Outcome};
 use std::alloc::AllocGlobal;
 use std::random::RandomSource;
@@ -82,13 +82,15 @@ pub fn turns<P: Port + Drop, R: RandomSource + AllocGlobal, G: Gate>(
     requires gate { (id : ℕ) → G.may gate.now id ≡ true → P.theory.may id ≡ true }
 {
     let solo = solo(rt)?;
+    let mut cx = solo.begin();
     let mut pending = 0u32;
     for turn in 1..9u32 {
-        if gated_turn(&solo, gate, 0, &mut fiber, code, shared).is_ready() {
+        if gated_turn(&mut cx, gate, 0, &mut fiber, code, shared).is_ready() {
             break;
         }
         pending = turn;
     }
+    leave(cx);
     Ok(Seen {
         pending,
         events: fiber.into_trace(),

@@ -1,6 +1,6 @@
 use Rattle.std.proofs.Common.{refl}
-use Rattle.fx_sched.proofs.turns.turn_in.Goals.{in-Some, in_default}
-use Rattle.fx_sched.proofs.turns.turn_in.Goals as goal
+use Rattle.fx_sched.proofs.turns.gated_turn.Goals.{in-Some, in_default}
+use Rattle.fx_sched.proofs.turns.gated_turn.Goals as goal
 
 pub returns-clause-turn : goal.returns-clause-turn
 returns-clause-turn g c = record {
