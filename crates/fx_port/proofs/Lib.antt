@@ -1,5 +1,6 @@
 pub mod Places
 pub mod MarkLaws
+pub mod MarkBits
 pub mod CountLaws
 pub mod PartRows
 pub mod SplitRows

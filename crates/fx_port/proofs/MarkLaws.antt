@@ -1,13 +1,13 @@
 -- Marks, and the numbers that are marked.
 use Rattle.std.proofs.Common.{◌≡◌, ◌≢◌, ℕ, ◌+◌, ◌<◌, ◌≤◌, Bool, true, false, List, [], ◌∷◌, ◌++◌, ◌⊎◌}
-use Rattle.std.proofs.Common.{inl, inr, ⊎_elim, ◌||◌, length, get_or, set, take, replicate, zero, suc, refl, sym, ◌∙◌, ap, subst, arith}
+use Rattle.std.proofs.Common.{inl, inr, ⊎_elim, ◌||◌, length, max, get_or, set, take, replicate, zero, suc, refl, sym, ◌∙◌, ap, subst, arith}
 use Rattle.std.proofs.lemmas.List.{get_or-set_same, get_or-set_other}
 use mathlib.Core.Logic.{dite}
 use native.Mathlib.Decide.{ℕ_discrete}
 use Rattle.fx_term.specs.Lists.{Among}
 use Rattle.fx_term.proofs.ListLaws.{Among-append_left, Among-append_right, Among-append}
 use Rattle.fx_queue.specs.WaitRing.{Apart}
-use Rattle.fx_port.specs.Marks.{is_marked, joined_marks, AreBefore, AreListed, KeepsMarks}
+use Rattle.fx_port.specs.Marks.{is_marked, joined_marks, AreBefore, IsEndOf, AreListed, KeepsMarks}
 
 no_mark : {P : Type 0} → false ≡ true → P
 no_mark e = let z : ⊥ = cc in absurd z
@@ -37,12 +37,15 @@ keeps marks marks' f e g m = ap (λ (l : List Bool). is_marked l g) e ∙ mark_s
 pub mark_cases : (marks : List Bool) (f g : ℕ) → is_marked (set marks f true) g ≡ true → (g ≡ f) ⊎ (is_marked marks g ≡ true)
 mark_cases marks f g m = dite (ℕ_discrete g f) inl (λ n. inr (sym (get_or-set_other marks f g true false n) ∙ m))
 
--- one more number is marked
-pub before_more : (marks : List Bool) (f end end' : ℕ) → AreBefore end marks → f < end' → end ≤ end' → AreBefore end' (set marks f true)
-before_more marks f end end' h here more g m = elim (mark_cases marks f g m) [
-  | inl e ↦ (omega (arith, e, here))
-  | inr was ↦ (let k = h g was in omega (arith, k, more))
-]
+-- the end of the marks, where one more number is marked
+pub end_after : (marks : List Bool) (f end : ℕ) → f < length marks → IsEndOf end marks → IsEndOf (max end (f + 1)) (set marks f true)
+end_after marks f end lt h = record {
+  past = λ g m. elim (mark_cases marks f g m) [
+    | inl e ↦ (omega (arith, e))
+    | inr was ↦ (let k = h.past g was in omega (arith, k))
+  ];
+  least = λ k all. let one = all f (mark_there marks f lt) in let others = h.least k (λ g m. all g (mark_stays marks f g m)) in omega (arith, one, others);
+}
 
 -- a mark that was taken off is no more
 mark_gone : (marks : List Bool) (f g : ℕ) → is_marked marks f ≡ true → is_marked (set marks f false) g ≡ true → g ≢ f
@@ -104,8 +107,8 @@ none_marked marks h f = by_mark (is_marked marks f) refl
     by_mark false e = refl
     by_mark true e = absurd (h.listed f e)
 
-pub none_before : (n : ℕ) → AreBefore 0 (replicate n false)
-none_before n f e = no_mark (sym (unmarked n f) ∙ e)
+pub none_end : (n : ℕ) → IsEndOf 0 (replicate n false)
+none_end n = record { past = λ f e. no_mark (sym (unmarked n f) ∙ e); least = λ k h. omega arith }
 
 -- how many are marked
 abbrev marks_in : List Bool → ℕ

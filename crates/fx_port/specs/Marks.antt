@@ -1,14 +1,25 @@
 -- Marks of numbers, and numbers that are listed each once.
-use Rattle.std.specs.Prelude.{◌≡◌, ◌<◌, ℕ, Bool, true, false, ◌||◌, List, [], ◌∷◌, Option, Some, None, slice_index_or, slice_set}
+use Rattle.std.specs.Prelude.{◌≡◌, ◌<◌, ◌≤◌, ℕ, Bool, true, false, ◌||◌, List, [], ◌∷◌, map, Option, Some, None, slice_index_or, slice_set}
+use Rattle.std.specs.List.{range_with_len}
+use Rattle.fx_term.specs.Bits.{has_bit}
 use Rattle.fx_term.specs.Lists.{Among}
 use Rattle.fx_queue.specs.WaitRing.{Apart}
 
 abbrev pub is_marked : List Bool → ℕ → Bool
 is_marked marks f = slice_index_or marks f false
 
+-- the marks of so many numbers, of which each is marked that has its bit set
+abbrev pub marks_of : ℕ → List ℕ → List Bool
+marks_of n words = map (has_bit words) (range_with_len 0 n)
+
 -- each number that is marked comes before this one
 abbrev pub AreBefore : ℕ → List Bool → Type 0
 AreBefore end marks = (f : ℕ) → is_marked marks f ≡ true → f < end
+
+-- and it is the least such number
+pub record IsEndOf (end : ℕ) (marks : List Bool) : Type 0 where
+  pub past : AreBefore end marks
+  pub least : (k : ℕ) → AreBefore k marks → end ≤ k
 
 -- a number of the first row is marked where it is in either
 abbrev pub joined_marks : List Bool → List Bool → List Bool

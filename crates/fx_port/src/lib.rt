@@ -2,7 +2,7 @@
 //!
 //! A port is what its fiber has of the outside: a seat of the words, a pass of each queue, and a mark for
 //! each number that was requested from outside through it. Who holds it acts for that fiber, on whatever
-//! thread, and borrows what all fibers share. It grows with the queues, and by a byte with each number.
+//! thread, and borrows what all fibers share. It grows with the queues, and by a bit with each number.
 //! What a worker lends to the ports of its fibers are notes: the numbers of the fibers that are to be woken,
 //! each once.
 //!

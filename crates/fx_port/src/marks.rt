@@ -1,31 +1,35 @@
 //! A row of marks.
-ghost use Rattle.std.specs.Prelude.{◌≡◌, ◌≤◌, false, true, length, replicate, slice_set, IfOk};
-ghost use Rattle.fx_port.specs.Marks.{is_marked, joined_marks, AreBefore};
+ghost use Rattle.std.specs.Prelude.{◌≡◌, false, true, replicate, slice_set, IfOk};
+ghost use Rattle.fx_port.specs.Marks.{is_marked, joined_marks, IsEndOf};
 
 use fx_term::Memory;
 use std::alloc::Global;
 use std::marker::Model;
 
-/// A mark for each fiber number below a bound. Its room is had when it is made, so that no mark can fail.
+/// The bits of a word.
+const BITS: u32 = 64;
+
+/// A mark for each fiber number below a bound, in a bit. Its room is had when it is made, so that no mark
+/// can fail.
 #[derive(Drop)]
 pub struct Marks {
-    /// By number.
-    row: Vec<bool>,
+    /// By number, from the lowest bit of the first word on.
+    words: Vec<u64>,
     numbers: u32,
-    /// Past each number that is marked.
+    /// After the greatest number that is marked.
     end: u32,
 }
 
 impl Model for Marks {
-    ghost use Rattle.std.specs.Prelude.{◌≡◌, ◌≤◌, List, Bool, length};
-    ghost use Rattle.fx_port.specs.Marks.{AreBefore};
+    ghost use Rattle.std.specs.Prelude.{◌≤◌, ◌*◌, List, Bool, length};
+    ghost use Rattle.fx_port.specs.Marks.{marks_of, IsEndOf};
 
     ghost Value = { List Bool };
 
-    ghost view = { λ m. m.row.items };
+    ghost view = { λ m. marks_of m.numbers m.words.items };
 
-    ghost invariant = { λ m. (length m.row.items ≡ m.numbers) × (m.end ≤ m.numbers)
-        × AreBefore m.end m.row.items };
+    ghost invariant = { λ m. (m.numbers ≤ 64 * length m.words.items)
+        × IsEndOf m.end (marks_of m.numbers m.words.items) };
 }
 
 impl Marks {
@@ -33,8 +37,9 @@ impl Marks {
     pub fn new(alloc: Global, numbers: u32) -> Result<Marks, Memory>
         ensures { IfOk result (λ marks. marks ≡ replicate numbers false) }
     {
+        let words = vec![in alloc; 0; numbers.div_ceil(BITS) as usize]?;
         Ok(Marks {
-            row: vec![in alloc; false; numbers as usize]?,
+            words,
             numbers,
             end: 0,
         })
@@ -44,13 +49,12 @@ impl Marks {
     pub fn is_marked(&self, id: u32) -> bool
         ensures { result ≡ is_marked self.now id }
     {
-        id < self.numbers && self.row[id as usize]
+        id < self.numbers && (self.words[(id / BITS) as usize] >> (id % BITS)) & 1 == 1
     }
 
-    /// A number past each one that is marked: 0, where none is.
+    /// The number after the greatest that is marked; 0, where none is.
     pub fn end(&self) -> u32
-        ensures within { result ≤ length self.now }
-        ensures past { AreBefore result self.now }
+        ensures { IsEndOf result self.now }
     {
         self.end
     }
@@ -60,7 +64,7 @@ impl Marks {
         ensures { self.new ≡ slice_set self.old id true }
     {
         if id < self.numbers {
-            self.row[id as usize] = true;
+            self.words[(id / BITS) as usize] |= 1u64 << (id % BITS);
             self.end = self.end.max(id + 1);
         }
     }
