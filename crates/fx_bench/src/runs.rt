@@ -1,11 +1,11 @@
-//! Runs a script so often by so many workers, and prints how many fibers only a sweep put back in all these
-//! runs: `bench/late` asks for it.
+//! Runs a script so often by so many workers, with its wakes or with none, and prints how many fibers only a
+//! sweep put back in all these runs: `bench/late` asks for it.
 
 ghost use Rattle.std.specs.Prelude.{◌<◌, IfSome};
 
 use crate::number;
 use fx_run::{RunFault, run};
-use fx_sched::Free;
+use fx_sched::Gate;
 use fx_text::{Script, parse};
 use std::alloc::{AllocGlobal, Global};
 use std::env::Args;
@@ -14,7 +14,7 @@ use std::random::RandomSource;
 use std::sync::Wait;
 use std::thread::Threads;
 
-/// What the words after `runs` ask for.
+/// What the words after `runs` or `unwoken` ask for.
 #[derive(Drop)]
 pub(crate) struct Asked {
     script: String,
@@ -39,30 +39,35 @@ pub(crate) fn wanted(given: &mut Args) -> Option<Asked>
 }
 
 /// How many fibers only a sweep put back in all the runs.
-fn late_of<R: Wait + Threads + Sync + RandomSource + AllocGlobal>(
+fn late_of<R: Wait + Threads + Sync + RandomSource + AllocGlobal, G: Gate + Sync>(
     rt: &R,
     alloc: Global,
     script: &Script,
     runs: u32,
     workers: u32,
+    gate: &G,
 ) -> Result<u64, RunFault> {
     let mut late = 0u64;
     for _ in 0..runs {
-        late = late.saturating_add(run(rt, alloc, script, workers, &Free)?.late);
+        late = late.saturating_add(run(rt, alloc, script, workers, gate)?.late);
     }
     Ok(late)
 }
 
 /// Runs the script, prints how many fibers were late, and gives the status of the program.
-pub(crate) fn measure<R: Wait + Threads + Sync + RandomSource + AllocGlobal + Print>(
+pub(crate) fn measure<
+    R: Wait + Threads + Sync + RandomSource + AllocGlobal + Print,
+    G: Gate + Sync,
+>(
     rt: &R,
     alloc: Global,
     asked: Asked,
+    gate: &G,
 ) -> ExitCode {
     let Ok(script) = parse(alloc, asked.script.as_bytes()) else {
         return ExitCode::from(1);
     };
-    match late_of(rt, alloc, &script, asked.runs, asked.workers) {
+    match late_of(rt, alloc, &script, asked.runs, asked.workers, gate) {
         Ok(late) => {
             let _ = println!(rt; "late {late}");
             ExitCode::from(0)

@@ -15,6 +15,8 @@ mod given_fibers;
 #[cfg(test)]
 mod idle;
 #[cfg(test)]
+mod late;
+#[cfg(test)]
 mod races;
 #[cfg(test)]
 mod rows;

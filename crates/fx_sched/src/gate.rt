@@ -1,8 +1,8 @@
-//! What may hold a turn, and ask for a cancellation from outside.
+//! What may hold a turn, ask for a cancellation from outside, and drop a wake.
 ghost use Rattle.std.specs.Prelude.{◌≡◌, ℕ, Bool, true, false, Option, None, IfSome};
 
 /// It is asked before each turn of a fiber, and may hold the turn, or name a fiber that is to be canceled
-/// from outside.
+/// from outside; and before each wake, which it may drop.
 pub trait Gate {
     // the numbers that it may name
     ghost may: { Self → ℕ → Bool };
@@ -14,9 +14,15 @@ pub trait Gate {
     fn turn(&self, worker: u32, fiber: u32) -> Option<u32>
         ensures may { IfSome result (λ id. may self.now id ≡ true) }
         ensures answers { answers self.now worker fiber result };
+
+    /// Whether this fiber is woken, which was noted to be. Else it waits on, where it waits, until another
+    /// wake or a sweep.
+    fn lets_wake(&self, _fiber: u32) -> bool {
+        true
+    }
 }
 
-/// The gate that holds no turn and names nobody.
+/// The gate that holds no turn, names nobody, and lets everybody be woken.
 #[derive(Clone, Copy)]
 pub struct Free;
 

@@ -36,6 +36,7 @@
 
 mod at;
 mod deques;
+mod drops_wakes;
 mod gate;
 mod lot;
 mod rounds;
@@ -45,6 +46,7 @@ mod worker;
 
 pub use at::At;
 pub use deques::{Hand, Owner, Tasks, Work};
+pub use drops_wakes::DropsWakes;
 pub use gate::{Free, Gate};
 pub use lot::Lot;
 pub use rounds::{RoundEnd, round};

@@ -83,7 +83,7 @@ fn rounds<R: Wait, P: Port, G: Gate>(
             all.goes_idle();
             return end;
         }
-        if let Err(fiber) = wakes(rt, hand, lot, shared) {
+        if let Err(fiber) = wakes(rt, gate, hand, lot, shared) {
             all.goes_idle();
             return WorkerEnd::Memory(None, Some(fiber));
         }
@@ -116,7 +116,7 @@ fn turns<R: Wait, P: Port, G: Gate>(
             Poll::Pending if fiber.source().is_none() && hand.is_empty() => {}
             answer => return Ok(answer),
         }
-        wakes(rt, hand, lot, shared)?;
+        wakes(rt, gate, hand, lot, shared)?;
         hand.share_rest(all);
     }
     unreachable!()
@@ -162,10 +162,11 @@ fn placed<R: Wait, P: Port>(
         .map_err(|fiber| WorkerEnd::Memory(Some(fiber), None))
 }
 
-/// Takes the fibers out that are noted to be woken, and pushes them. One that cannot be pushed for want
-/// of memory comes back.
-fn wakes<R: Wait, P: Port>(
+/// Takes the fibers out that are noted to be woken, and pushes those that the gate lets wake. One that
+/// cannot be pushed for want of memory comes back.
+fn wakes<R: Wait, P: Port, G: Gate>(
     rt: &R,
+    gate: &G,
     hand: &mut Hand<P>,
     lot: &Lot<P>,
     shared: &mut P::Shared,
@@ -176,7 +177,9 @@ fn wakes<R: Wait, P: Port>(
         let Some(id) = P::woken(shared) else {
             return Ok(());
         };
-        if let Some(fiber) = lot.wake(rt, id) {
+        if gate.lets_wake(id)
+            && let Some(fiber) = lot.wake(rt, id)
+        {
             hand.push(fiber)?;
         }
     }
