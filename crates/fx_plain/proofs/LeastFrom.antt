@@ -8,7 +8,7 @@ use Rattle.std.proofs.lemmas.List.{get_or_past}
 use Rattle.std.proofs.lemmas.Nat.{pow-add}
 use Rattle.std.proofs.lemmas.Nat.Bits.{bit_at-zero, bit_at_above, bit_at-trailing_zeros}
 use Rattle.fx_plain.specs.NumberSet.{is_member, AreMarked, IsLeastFrom}
-use Rattle.fx_plain.proofs.Members.{zero_has_none}
+use Rattle.fx_term.proofs.BitLaws.{zero_has_none}
 use Rattle.fx_plain.proofs.Marks.{unmarked_is_zero}
 
 -- a bit of a word that was shifted

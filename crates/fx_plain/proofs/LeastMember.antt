@@ -5,7 +5,7 @@ use Rattle.std.specs.Int.{bit_at, trailing_zeros}
 use Rattle.std.proofs.lemmas.Bool.{cases_lt, ltb-true}
 use Rattle.std.proofs.lemmas.Nat.Bits.{bit_at-trailing_zeros}
 use Rattle.fx_plain.specs.NumberSet.{is_member, AreMarked, IsLeastOf}
-use Rattle.fx_plain.proofs.Members.{zero_has_none}
+use Rattle.fx_term.proofs.BitLaws.{zero_has_none}
 use Rattle.fx_plain.proofs.Marks.{unmarked_is_zero}
 
 module _ (ws : List ℕ) (marks : ℕ) (marked : AreMarked marks ws)

@@ -18,7 +18,6 @@ pub mod OneRun
 pub mod OneReport
 pub mod Rows
 pub mod WholeMachineWork
-pub mod Bits
 pub mod Capacities
 pub mod PutCounts
 pub mod WorldQueues

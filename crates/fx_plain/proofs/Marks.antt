@@ -6,7 +6,7 @@ use Rattle.std.specs.Int.{bit_at}
 use Rattle.std.proofs.lemmas.Bool.{cases_eq, ltb-false, lt-ltb}
 use Rattle.std.proofs.lemmas.Nat.Bits.{bit_at-zero}
 use Rattle.fx_plain.specs.NumberSet.{AreMarked}
-use Rattle.fx_plain.proofs.Bits.{ChangesBit, with_bit, without_bit, with_changes, without_changes, with_is_above}
+use Rattle.fx_term.proofs.BitLaws.{ChangesBit, with_bit, without_bit, with_changes, without_changes, with_is_above}
 use Rattle.fx_plain.proofs.Members.{zero_at}
 
 module _ (ws : List ℕ) (marks w : ℕ) (long : length ws ≡ 64) (lt : w < 64) (marked : AreMarked marks ws) where

@@ -1,12 +1,13 @@
 -- A set of numbers as bits in two levels.
-use Rattle.std.specs.Prelude.{◌≡◌, ℕ, ◌/◌, ◌%◌, ◌<◌, ◌≤◌, Bool, true, false, ◌==◌, nat_lt, min, Option, Some, None, MatchOption, List, [], slice_index}
+use Rattle.std.specs.Prelude.{◌≡◌, ℕ, ◌<◌, ◌≤◌, Bool, true, false, ◌==◌, nat_lt, min, Option, Some, None, MatchOption, List, [], slice_index}
 use Rattle.std.specs.Prelude.{slice_index_or}
 use Rattle.std.specs.Int.{bit_at}
-use Rattle.fx_plain.specs.declared.number_set.TheConstants.{BITS, WORDS}
+use Rattle.fx_term.specs.Bits.{has_bit}
+use Rattle.fx_plain.specs.declared.number_set.TheConstants.{WORDS}
 
--- the number is in the set: its bit is set in its word
+-- the number is in the set
 abbrev pub is_member : List ℕ → ℕ → Bool
-is_member words n = bit_at (slice_index words (n / BITS)) (n % BITS) == 1
+is_member words n = has_bit words n
 
 -- the number is in the set of that index
 abbrev pub is_member_of : List (List ℕ) → ℕ → ℕ → Bool

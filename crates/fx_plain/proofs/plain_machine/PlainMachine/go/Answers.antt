@@ -1,4 +1,4 @@
-use Rattle.std.proofs.Common.{◌≡◌, ◌∙◌, sym}
+use Rattle.std.proofs.Common.{◌∙◌, sym}
 use Rattle.fx_plain.proofs.PlainMachineWay.{tried_some}
 use Rattle.fx_plain.proofs.PlainMachineBursts.{goes_on_the_same, some_after_burst, world_after_burst, try_after_burst_leaves_less}
 use Rattle.fx_plain.proofs.PlainMachineGoing.{chosen_ready, goes_alone, goes_to_halt, nobody_alone}
