@@ -4,7 +4,7 @@ use Rattle.fx_text.specs.declared.pick.Pick.{Pick}
 use Rattle.fx_text.specs.Meaning.{Meaning}
 use Rattle.fx_model.specs.Report.{ReportView}
 use Rattle.fx_plain.specs.Waits.{IsReplayWithWaits}
-use Rattle.fx_run.specs.declared.whole_run.TheConstants.{MOST_WORKERS}
+use Rattle.fx_run.specs.Workers.{most_workers}
 use Rattle.fx_run.specs.RunWaits.{IsLawfulWithWaits}
 use Rattle.fx_report.specs.Script.{script_of}
 use Rattle.fx_report.specs.Text.{queue_names, report_text, trace_text}
@@ -31,7 +31,7 @@ pub traced_with_status : (m : Meaning) (picks : List Pick) (r : ReportView) (wai
 traced_with_status m picks r waits words status runs said is = rw (is, said) (traced runs)
 
 pub ran_with_status : (m : Meaning) (picks : List Pick) (workers : ℕ) (r : ReportView) (waits : List Wait) (words : List ℕ) (status : ℕ)
-    → (1 ≤ workers) × (workers ≤ MOST_WORKERS) → IsLawfulWithWaits (script_of m) nobody r waits → words ≡ waits_text (queue_names m) waits
+    → (1 ≤ workers) × (workers ≤ most_workers) → IsLawfulWithWaits (script_of m) nobody r waits → words ≡ waits_text (queue_names m) waits
     → status ≡ status_of r → IsPerformed m picks (Run workers) words status (report_text (queue_names m) r)
 ran_with_status m picks workers r waits words status can lawful said is = rw (is, said) (ran can.0 can.1 lawful)
 

@@ -11,7 +11,7 @@ use Rattle.std.proofs.lemmas.Str.Parse.{IsNumeralModel, numerals_by_fold, parse_
 use Rattle.fx_text.specs.Limits.{most_number}
 use Rattle.fx_text.specs.Schedule.{IsNumber}
 use Rattle.fx_text.specs.Token.{is_digit, value_after}
-use Rattle.fx_run.specs.declared.whole_run.TheConstants.{MOST_WORKERS}
+use Rattle.fx_run.specs.Workers.{most_workers}
 use Rattle.fx_run.specs.declared.run_fault.RunFault.{RunFault}
 use Rattle.fx_run.specs.declared.run_fault.RunFault.TheVariants.{Workers}
 use Rattle.fx_command.specs.Workers.{writes_number, workers_in}
@@ -54,18 +54,18 @@ pub number_parsed : {E : Type 0} (word : List ℕ) (r : Result ℕ E) → list_a
     → result_ok r ≡ workers_in word
 number_parsed word r all parsed = number_read word r all (parse_digits own 32 word r parsed all)
 
--- a run that came to its end has from 1 to MOST_WORKERS workers
-outside_or_can : (n : ℕ) → ((n < 1) ⊎ (MOST_WORKERS < n)) ⊎ ((1 ≤ n) × (n ≤ MOST_WORKERS))
+-- a run that came to its end has from 1 to most_workers workers
+outside_or_can : (n : ℕ) → ((n < 1) ⊎ (most_workers < n)) ⊎ ((1 ≤ n) × (n ≤ most_workers))
 outside_or_can n = elim (cases_lt n 1) [
   | inl none ↦ inl (inl none)
-  | inr some ↦ elim (cases_lt MOST_WORKERS n) [
+  | inr some ↦ elim (cases_lt most_workers n) [
     | inl many ↦ inl (inr many)
     | inr few ↦ inr (some, few)
   ]
 ]
 
-pub can_run : {A : Type 0} (n : ℕ) (x : A) → (((n < 1) ⊎ (MOST_WORKERS < n)) ↔ (◌≡◌ {A = Result A RunFault} (Ok x) (Err Workers)))
-    → (1 ≤ n) × (n ≤ MOST_WORKERS)
+pub can_run : {A : Type 0} (n : ℕ) (x : A) → (((n < 1) ⊎ (most_workers < n)) ↔ (◌≡◌ {A = Result A RunFault} (Ok x) (Err Workers)))
+    → (1 ≤ n) × (n ≤ most_workers)
 can_run n x exactly = elim (outside_or_can n) [
   | inl outside ↦ absurd (IfErr-at_err (λ _. ⊥) (exactly.0 outside) tt)
   | inr can ↦ can

@@ -7,7 +7,7 @@ use Rattle.fx_text.specs.Meaning.{Meaning}
 use Rattle.fx_model.specs.Report.{ReportView}
 use Rattle.fx_report.specs.declared.status.TheConstants.{ENDED}
 use Rattle.fx_plain.specs.Waits.{IsReplayWithWaits}
-use Rattle.fx_run.specs.declared.whole_run.TheConstants.{MOST_WORKERS}
+use Rattle.fx_run.specs.Workers.{most_workers}
 use Rattle.fx_run.specs.RunWaits.{IsLawfulWithWaits}
 use Rattle.fx_report.specs.declared.wait.Wait.{Wait}
 use Rattle.fx_report.specs.Script.{script_of}
@@ -43,7 +43,7 @@ pub data IsPerformed (m : Meaning) (picks : List Pick) : Command → List ℕ �
       → IsPerformed m picks Replay (waits_text (queue_names m) waits) (status_of r) (report_text (queue_names m) r)
   traced : {r : ReportView} {waits : List Wait} → IsReplayWithWaits (script_of m) picks r waits
       → IsPerformed m picks Trace (waits_text (queue_names m) waits) (status_of r) (trace_text (queue_names m) r)
-  ran : {workers : ℕ} {r : ReportView} {waits : List Wait} → 1 ≤ workers → workers ≤ MOST_WORKERS → IsLawfulWithWaits (script_of m) nobody r waits
+  ran : {workers : ℕ} {r : ReportView} {waits : List Wait} → 1 ≤ workers → workers ≤ most_workers → IsLawfulWithWaits (script_of m) nobody r waits
       → IsPerformed m picks (command.Run workers) (waits_text (queue_names m) waits) (status_of r) (report_text (queue_names m) r)
 
 -- what is done takes the writer from `old` to `new`

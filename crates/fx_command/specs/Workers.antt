@@ -3,7 +3,7 @@ use Rattle.std.specs.Prelude.{ℕ, Bool, ◌<◌, ◌≤◌, ◌⊎◌, ◌&&◌
 use Rattle.std.specs.List.{list_all}
 use Rattle.fx_text.specs.Limits.{most_number}
 use Rattle.fx_text.specs.Token.{is_digit, value_after}
-use Rattle.fx_run.specs.declared.whole_run.TheConstants.{MOST_WORKERS}
+use Rattle.fx_run.specs.Workers.{most_workers}
 use Rattle.fx_run.specs.declared.run_fault.RunFault.{RunFault}
 use Rattle.fx_run.specs.declared.run_fault.RunFault.TheVariants.{Workers, Memory, Lost, Unsettled}
 use Rattle.fx_command.specs.declared.call.Command.{Command}
@@ -17,16 +17,16 @@ writes_number word = nat_lt 0 (length word) && list_all is_digit word && nat_le 
 abbrev pub workers_in : List ℕ → Option ℕ
 workers_in word = if writes_number word then Some (value_after 0 word) else None
 
--- a run has from 1 to MOST_WORKERS workers, and nothing else has any
+-- a run has from 1 to as many workers as there can be, and nothing else has any
 abbrev pub CanBeDone : Command → Type 0
-CanBeDone (Run n) = (1 ≤ n) × (n ≤ MOST_WORKERS)
+CanBeDone (Run n) = (1 ≤ n) × (n ≤ most_workers)
 CanBeDone Check = Unit {0}
 CanBeDone Replay = Unit {0}
 CanBeDone Trace = Unit {0}
 
 -- only a run has a fault of runs: that of the number of workers where it is outside, and any other one where it is not
 abbrev pub CanFail : Command → RunFault → Type 0
-CanFail (Run n) Workers = (n < 1) ⊎ (MOST_WORKERS < n)
+CanFail (Run n) Workers = (n < 1) ⊎ (most_workers < n)
 CanFail (Run n) Memory = CanBeDone (Run n)
 CanFail (Run n) (Lost f) = CanBeDone (Run n)
 CanFail (Run n) (Unsettled f) = CanBeDone (Run n)

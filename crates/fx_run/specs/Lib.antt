@@ -6,6 +6,7 @@ pub mod Apart
 pub mod Gathered
 pub mod Ledger
 pub mod RunFault
+pub mod Workers
 pub mod Closing
 pub mod ClosedAs
 pub mod EndOfRun

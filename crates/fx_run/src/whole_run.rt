@@ -14,6 +14,7 @@ ghost use Rattle.fx_run.specs.Reported.{AreAscending};
 ghost use Rattle.fx_run.specs.Gathered.{IsGathered, AreAllowed};
 ghost use Rattle.fx_run.specs.Refusals.{IsLawfulWithRefusals};
 ghost use Rattle.fx_run.specs.RunWaits.{IsLawfulWithWaits};
+ghost use Rattle.fx_run.specs.Workers.{most_workers};
 ghost use Rattle.fx_run.specs.declared.run_fault.RunFault.TheVariants.{Workers};
 
 use crate::closing::close_run;
@@ -148,7 +149,7 @@ pub fn run_to_halt<R: Wait + Threads + Sync + RandomSource + AllocGlobal, G: Gat
     ensures named { script.now.code.queues ≤ length script.now.queues.items
         → IfOk result (λ halt. All (WaitsAtQueueBelow (length (queue_names (meaning script.now))))
         halt.waits.items) }
-    ensures workers { ((workers < 1) ⊎ (MOST_WORKERS < workers)) ↔ (result ≡ Err Workers) }
+    ensures workers { ((workers < 1) ⊎ (most_workers < workers)) ↔ (result ≡ Err Workers) }
 {
     if workers < 1 || MOST_WORKERS < workers {
         return Err(RunFault::Workers);
@@ -175,7 +176,7 @@ pub fn run<R: Wait + Threads + Sync + RandomSource + AllocGlobal, G: Gate + Sync
         (λ r. IsLawfulWithRefusals (script_of (meaning script.now)) (G.may gate.now) r) }
     ensures writable { script.now.code.queues ≤ length script.now.queues.items
         → IfOk result (λ r. IsWritable (queue_names (meaning script.now)) r) }
-    ensures workers { ((workers < 1) ⊎ (MOST_WORKERS < workers)) ↔ (result ≡ Err Workers) }
+    ensures workers { ((workers < 1) ⊎ (most_workers < workers)) ↔ (result ≡ Err Workers) }
 {
     let halt = run_to_halt(rt, alloc, script, workers, gate)?;
     Ok(halt.report)
