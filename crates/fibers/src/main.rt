@@ -7,6 +7,7 @@
 mod host_files;
 
 use fx_command::command::{FAULT, command};
+use fx_command::stream::Stream;
 use host_files::HostFiles;
 use std::process::ExitCode;
 use std::{env, io};
@@ -22,8 +23,8 @@ fn main(rt: HostRuntime) -> ExitCode {
         rt.alloc(),
         &words,
         &mut files,
-        &mut io::writer(&rt),
-        &mut rt.stderr(),
+        &mut Stream::new(io::writer(&rt)),
+        &mut Stream::new(rt.stderr()),
     );
     ExitCode::from(status)
 }

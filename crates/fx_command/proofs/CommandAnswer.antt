@@ -1,12 +1,9 @@
 -- What a command answers, from what was read and what was written.
-use Rattle.std.proofs.Common.{◌≡◌, ℕ, Option, Some, None, Result, Ok, Err, List, [], string_bytes, refl, sym, ◌∙◌, ap, inl, inr, option_map}
+use Rattle.std.proofs.Common.{◌≡◌, ℕ, Option, Some, None, Result, Ok, Err, List, [], string_bytes, refl, sym, ◌∙◌, ap, subst, option_map}
 use Rattle.std.proofs.Common.{IfSome, IfOk, IfErr}
-use Rattle.std.specs.Io.KnownBytes.{Appends, Keeps}
 use Rattle.fx_text.specs.declared.pick.Pick.{Pick}
 use Rattle.fx_text.specs.Meaning.{Meaning}
 use Rattle.fx_report.specs.declared.status.TheConstants.{REFUSED}
-use Rattle.fx_report.specs.Written.{WritesAnswer}
-use Rattle.fx_report.proofs.Written.{keeps_same}
 use Rattle.fx_run.specs.declared.run_fault.RunFault.{RunFault}
 use Rattle.fx_command.specs.declared.command_fault.Refusal.{Refusal}
 use Rattle.fx_command.specs.declared.command_fault.CommandFault.{CommandFault}
@@ -14,9 +11,11 @@ use Rattle.fx_command.specs.declared.command_fault.CommandFault.TheVariants.{Ref
 use Rattle.fx_command.specs.Fetched.{FetchesScript, FetchesSchedule, FetchesNoScript, FetchesNoSchedule}
 use Rattle.fx_command.specs.declared.perform.Performed.{Performed}
 use Rattle.fx_command.specs.Performed.{Performs}
+use Rattle.fx_command.specs.Stream.{StreamView, PrintsAnswer}
 use Rattle.fx_command.specs.declared.call.Call.{Call}
 use Rattle.fx_command.specs.Call.{CallView, view_call, call_of}
-use Rattle.fx_command.specs.CommandAnswer.{performed, no_script, no_schedule, known_schedule, AnswersToCall, IsNamedIn, FailsToRun, Leaves}
+use Rattle.fx_command.specs.CommandAnswer.{performed, no_script, no_schedule, known_schedule, AnswersToCall, FailsToRun, Leaves}
+use Rattle.fx_command.specs.CommandAnswer.{ComesToRead, reads_script, reads_schedule}
 use Rattle.fx_command.specs.CommandAnswer.{TellsRefusal, TellsUnreadable, TellsRunFault, Runs}
 use Rattle.fx_command.specs.CommandAnswer.TellsRefusal.{told, not_taken as line_not_taken}
 use Rattle.fx_command.specs.CommandAnswer.TellsUnreadable.{told as unread_told, no_memory as unread_no_memory}
@@ -33,7 +32,7 @@ unfolding known_or_empty
 known_is None = tt
 known_is (Some all) = refl
 
-pub leaves_no_script : (holds : List ℕ → Option (List ℕ)) (call : CallView) (fault : CommandFault) (old : Option (List ℕ))
+pub leaves_no_script : (holds : List ℕ → Option (List ℕ)) (call : CallView) (fault : CommandFault) (old : StreamView)
     → FetchesNoScript call.script (holds call.script) fault → Leaves holds call fault old old
 leaves_no_script holds call (Refused r) old without = (
   record {
@@ -43,14 +42,14 @@ leaves_no_script holds call (Refused r) old without = (
     is_schedule = known_is (known_schedule holds call.schedule);
     answer = no_script without.holds;
   },
-  keeps_same old,
+  refl,
 )
-leaves_no_script holds call (Unreadable name) old without = (inl without, keeps_same old)
-leaves_no_script holds call Memory old without = keeps_same old
+leaves_no_script holds call (Unreadable name) old without = (reads_script without, refl)
+leaves_no_script holds call Memory old without = refl
 leaves_no_script holds call Write old without = absurd without
 leaves_no_script holds call (Run fault) old without = absurd without
 
-pub leaves_no_schedule : (holds : List ℕ → Option (List ℕ)) (call : CallView) (m : Meaning) (fault : CommandFault) (old : Option (List ℕ))
+pub leaves_no_schedule : (holds : List ℕ → Option (List ℕ)) (call : CallView) (m : Meaning) (fault : CommandFault) (old : StreamView)
     → FetchesScript (holds call.script) m → FetchesNoSchedule call.schedule (known_schedule holds call.schedule) fault → Leaves holds call fault old old
 leaves_no_schedule holds call m (Refused r) old has without = (
   record {
@@ -60,15 +59,15 @@ leaves_no_schedule holds call m (Refused r) old has without = (
     is_schedule = without.is;
     answer = no_schedule has.holds without.holds;
   },
-  keeps_same old,
+  refl,
 )
-leaves_no_schedule holds call m (Unreadable name) old has without = (inr without, keeps_same old)
-leaves_no_schedule holds call m Memory old has without = keeps_same old
+leaves_no_schedule holds call m (Unreadable name) old has without = (reads_schedule (m, has) without, refl)
+leaves_no_schedule holds call m Memory old has without = refl
 leaves_no_schedule holds call m Write old has without = absurd without
 leaves_no_schedule holds call m (Run fault) old has without = absurd without
 
 pub leaves_unwritten : (holds : List ℕ → Option (List ℕ)) (call : CallView) (m : Meaning) (ps : List Pick) (r : Result Performed CommandFault)
-    (old new : Option (List ℕ)) → FetchesScript (holds call.script) m → FetchesSchedule (known_schedule holds call.schedule) ps
+    (old new : StreamView) → FetchesScript (holds call.script) m → FetchesSchedule (known_schedule holds call.schedule) ps
     → Performs call.command m ps r old new → IfErr r (λ fault. Leaves holds call fault old new)
 leaves_unwritten holds call m ps (Ok done) old new has picks whole = tt
 leaves_unwritten holds call m ps (Err Write) old new has picks (words, part) = (
@@ -83,7 +82,7 @@ leaves_unwritten holds call m ps (Err Write) old new has picks (words, part) = (
       is_schedule = picks.is;
       answer = performed has.holds picks.holds part.answer;
     };
-    part = part.part;
+    taken = part.taken;
   },
 )
 leaves_unwritten holds call m ps (Err Memory) old new has picks (can, kept) = kept
@@ -92,9 +91,9 @@ leaves_unwritten holds call m ps (Err (Refused r)) old new has picks none = absu
 leaves_unwritten holds call m ps (Err (Unreadable name)) old new has picks none = absurd none
 
 pub writes_answer : (holds : List ℕ → Option (List ℕ)) (call : CallView) (m : Meaning) (ps : List Pick) (r : Result Performed CommandFault)
-    (old new : Option (List ℕ)) → FetchesScript (holds call.script) m → FetchesSchedule (known_schedule holds call.schedule) ps
+    (old new : StreamView) → FetchesScript (holds call.script) m → FetchesSchedule (known_schedule holds call.schedule) ps
     → Performs call.command m ps r old new
-    → IfOk r (λ done. WritesAnswer (AnswersToCall holds call (string_bytes done.words)) done.status old new)
+    → IfOk r (λ done. PrintsAnswer (AnswersToCall holds call (string_bytes done.words)) done.status old new)
 writes_answer holds call m ps (Ok done) old new has picks whole = record {
   text = whole.text;
   answer = record {
@@ -104,47 +103,36 @@ writes_answer holds call m ps (Ok done) old new has picks whole = record {
     is_schedule = picks.is;
     answer = performed has.holds picks.holds whole.answer;
   };
-  appended = whole.appended;
+  taken = whole.taken;
 }
 writes_answer holds call m ps (Err fault) old new has picks none = tt
 
--- what is kept, and then grows
-kept_then_appends : (old mid new : Option (List ℕ)) (bytes : List ℕ) → Keeps old mid → Appends mid new bytes → Appends old new bytes
-kept_then_appends None mid new bytes k a = tt
-kept_then_appends (Some xs) None new bytes k a = absurd k
-kept_then_appends (Some xs) (Some ys) None bytes k a = absurd a
-kept_then_appends (Some xs) (Some ys) (Some zs) bytes k a = rw (a, k) refl
-
 -- the line of a refusal was told
-pub refusal_runs : (words : List (List ℕ)) (holds : List ℕ → Option (List ℕ)) (call : CallView) (r : Refusal) (old mid new said says : Option (List ℕ))
+pub refusal_runs : (words : List (List ℕ)) (holds : List ℕ → Option (List ℕ)) (call : CallView) (r : Refusal) (old mid new said says : StreamView)
     (status : ℕ) → call_of words ≡ Some call → Leaves holds call (Refused r) old mid
     → TellsRefusal (string_bytes r.line) (string_bytes r.words) mid new said says status → Runs words holds old new said says status
-refusal_runs words holds call r old mid new said says _ is left (told appended remark) = answered call is (record {
+refusal_runs words holds call r old mid new said says status is left (told taken remark) = subst (λ o. Runs words holds o new said says status) left.1 (answered call is (record {
   text = string_bytes r.line;
   answer = left.0;
-  appended = kept_then_appends old mid new (string_bytes r.line) left.1 appended;
-}) remark
-refusal_runs words holds call r old mid new said says _ is left (line_not_taken part line) = not_taken call is (record {
+  taken = taken;
+}) remark)
+refusal_runs words holds call r old mid new said says status is left (line_not_taken part line) = subst (λ o. Runs words holds o new said says status) left.1 (not_taken call is (record {
   status = REFUSED;
   text = string_bytes r.line;
   answer = left.0;
-  part = record {
-    count = part.count;
-    short = part.short;
-    appended = kept_then_appends old mid new _ left.1 part.appended;
-  };
-}) line
+  taken = part;
+}) line)
 
 -- it was said that a text cannot be read
-pub unread_runs : (words : List (List ℕ)) (holds : List ℕ → Option (List ℕ)) (call : CallView) (name : List ℕ) (old new said says : Option (List ℕ))
-    (status : ℕ) → call_of words ≡ Some call → IsNamedIn call name × Keeps old new → TellsUnreadable name said says status
+pub unread_runs : (words : List (List ℕ)) (holds : List ℕ → Option (List ℕ)) (call : CallView) (name : List ℕ) (old new said says : StreamView)
+    (status : ℕ) → call_of words ≡ Some call → ComesToRead holds call name × (new ≡ old) → TellsUnreadable name said says status
     → Runs words holds old new said says status
 unread_runs words holds call name old new said says _ is left (unread_told line) = unreadable call name is left.0 left.1 line
 unread_runs words holds call name old new said says _ is left (unread_no_memory line) = no_memory call is left.1 line
 
 -- a fault of a run was told
-pub run_fault_runs : (words : List (List ℕ)) (holds : List ℕ → Option (List ℕ)) (call : CallView) (fault : RunFault) (old new said says : Option (List ℕ))
-    (status : ℕ) → call_of words ≡ Some call → FailsToRun holds call fault × Keeps old new → TellsRunFault fault said says status
+pub run_fault_runs : (words : List (List ℕ)) (holds : List ℕ → Option (List ℕ)) (call : CallView) (fault : RunFault) (old new said says : StreamView)
+    (status : ℕ) → call_of words ≡ Some call → FailsToRun holds call fault × (new ≡ old) → TellsRunFault fault said says status
     → Runs words holds old new said says status
 run_fault_runs words holds call fault old new said says _ is left (fault_told line) = not_run call fault is left.0 left.1 line
 run_fault_runs words holds call fault old new said says _ is left (fault_no_memory line) = no_memory call is left.1 line

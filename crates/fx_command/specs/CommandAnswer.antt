@@ -1,13 +1,10 @@
 -- What a call of the program answers to the texts that its names stand for.
-use Rattle.std.specs.Prelude.{◌≡◌, ◌⊎◌, ℕ, Option, Some, None, List, [], string_bytes, IfSome}
-use Rattle.std.specs.Io.KnownBytes.{Appends, Keeps}
+use Rattle.std.specs.Prelude.{◌≡◌, ℕ, Option, Some, None, List, [], string_bytes, IfSome}
 use Rattle.fx_text.specs.declared.pick.Pick.{Pick}
 use Rattle.fx_text.specs.Meaning.{Meaning}
 use Rattle.fx_text.specs.Grammar.{IsScript}
 use Rattle.fx_text.specs.Schedule.{IsSchedule}
 use Rattle.fx_report.specs.declared.status.TheConstants.{OTHER_WORDS, REFUSED, UNREADABLE, FAULT}
-use Rattle.fx_report.specs.Output.{WritesPrefix}
-use Rattle.fx_report.specs.Written.{WritesAnswer, WritesPart}
 use Rattle.fx_command.specs.declared.call.Command.{Command}
 use Rattle.fx_command.specs.declared.command_fault.CommandFault.{CommandFault}
 use Rattle.fx_command.specs.declared.command_fault.CommandFault.TheVariants.{Refused, Unreadable, Memory, Write, Run}
@@ -17,6 +14,7 @@ use Rattle.fx_command.specs.Workers.{CanFail}
 use Rattle.fx_command.specs.Fetched.{FetchesScript}
 use Rattle.fx_command.specs.Performed.{IsPerformed}
 use Rattle.fx_command.specs.Call.{CallView, call_of}
+use Rattle.fx_command.specs.Stream.{StreamView, TakesWhole, TakesPart, PrintsAnswer, PrintsPart}
 use Rattle.fx_command.specs.Said.{Says, usage_line, unreadable_line, memory_line, write_line, run_fault_line}
 
 -- the status and the printed text for a script and a schedule, with these words for people: what was asked for, or one line where one of them is no such
@@ -44,48 +42,53 @@ pub record AnswersTo (c : Command) (script_known schedule_known : Option (List �
 abbrev pub AnswersToCall : (List ℕ → Option (List ℕ)) → CallView → List ℕ → ℕ → List ℕ → Type 0
 AnswersToCall holds call words = AnswersTo call.command (holds call.script) (known_schedule holds call.schedule) words
 
--- the call names this text
-abbrev pub IsNamedIn : CallView → List ℕ → Type 0
-IsNamedIn call name = (name ≡ call.script) ⊎ (call.schedule ≡ Some name)
+-- the text that the call names as its script says one
+abbrev pub HasScript : (List ℕ → Option (List ℕ)) → CallView → Type 0
+HasScript holds call = (m : Meaning) × FetchesScript (holds call.script) m
+
+-- the call comes to read the text of this name: it is the script; or it is the schedule, and the script was read before it and says one
+pub data ComesToRead (holds : List ℕ → Option (List ℕ)) (call : CallView) (name : List ℕ) : Type 0 where
+  reads_script : name ≡ call.script → ComesToRead holds call name
+  reads_schedule : HasScript holds call → call.schedule ≡ Some name → ComesToRead holds call name
 
 -- the call is of a run with a script that there is, and the fault is one that it can have
 abbrev pub FailsToRun : (List ℕ → Option (List ℕ)) → CallView → RunFault → Type 0
-FailsToRun holds call fault = ((m : Meaning) × FetchesScript (holds call.script) m) × CanFail call.command fault
+FailsToRun holds call fault = HasScript holds call × CanFail call.command fault
 
--- what a fault leaves: only where the output took not all was anything written. The line of a refusal is the answer, and comes then
-abbrev pub Leaves : (List ℕ → Option (List ℕ)) → CallView → CommandFault → Option (List ℕ) → Option (List ℕ) → Type 0
-Leaves holds call (Refused r) old new = AnswersToCall holds call (string_bytes r.words) REFUSED (string_bytes r.line) × Keeps old new
-Leaves holds call (Unreadable name) old new = IsNamedIn call name.now × Keeps old new
-Leaves holds call Memory old new = Keeps old new
-Leaves holds call (Run fault) old new = FailsToRun holds call fault × Keeps old new
-Leaves holds call Write old new = (words : List ℕ) × WritesPart (AnswersToCall holds call words) old new
+-- what a fault leaves: only where the output refused a write was anything written. The line of a refusal is the answer, and comes then
+abbrev pub Leaves : (List ℕ → Option (List ℕ)) → CallView → CommandFault → StreamView → StreamView → Type 0
+Leaves holds call (Refused r) old new = AnswersToCall holds call (string_bytes r.words) REFUSED (string_bytes r.line) × (new ≡ old)
+Leaves holds call (Unreadable name) old new = ComesToRead holds call name.now × (new ≡ old)
+Leaves holds call Memory old new = new ≡ old
+Leaves holds call (Run fault) old new = FailsToRun holds call fault × (new ≡ old)
+Leaves holds call Write old new = (words : List ℕ) × PrintsPart (AnswersToCall holds call words) old new
 
--- the line of a refusal was written, and its words said; or a prefix of the line was written
-pub data TellsRefusal (line remark : List ℕ) (old new said says : Option (List ℕ)) : ℕ → Type 0 where
-  told : Appends old new line → Says remark said says → TellsRefusal line remark old new said says REFUSED
-  not_taken : WritesPrefix line old new → Says write_line said says → TellsRefusal line remark old new said says FAULT
+-- the line of a refusal was written, and its words said; or a prefix of the line was written, and the next write refused
+pub data TellsRefusal (line remark : List ℕ) (old new said says : StreamView) : ℕ → Type 0 where
+  told : TakesWhole line old new → Says remark said says → TellsRefusal line remark old new said says REFUSED
+  not_taken : TakesPart line old new → Says write_line said says → TellsRefusal line remark old new said says FAULT
 
 -- it was said that the text of this name cannot be read, or that memory ran out
-pub data TellsUnreadable (name : List ℕ) (said says : Option (List ℕ)) : ℕ → Type 0 where
+pub data TellsUnreadable (name : List ℕ) (said says : StreamView) : ℕ → Type 0 where
   told : Says (unreadable_line name) said says → TellsUnreadable name said says UNREADABLE
   no_memory : Says memory_line said says → TellsUnreadable name said says FAULT
 
 -- it was said that a run of fibers has this fault, or that memory ran out
-pub data TellsRunFault (fault : RunFault) (said says : Option (List ℕ)) : ℕ → Type 0 where
+pub data TellsRunFault (fault : RunFault) (said says : StreamView) : ℕ → Type 0 where
   told : Says (run_fault_line fault) said says → TellsRunFault fault said says FAULT
   no_memory : Says memory_line said says → TellsRunFault fault said says FAULT
 
--- A run of the program with these words, of which `old` and `new` are what was written on standard output before and after, `said` and `says` what on standard
--- error. Words that make no call, a text that cannot be read and any other fault have a status and a line each, and all else is the answer to the call, with
--- its words for people
-pub data Runs (words : List (List ℕ)) (holds : List ℕ → Option (List ℕ)) (old new said says : Option (List ℕ)) : ℕ → Type 0 where
-  other_words : call_of words ≡ None → Keeps old new → Says usage_line said says → Runs words holds old new said says OTHER_WORDS
-  answered : {status : ℕ} {remark : List ℕ} (call : CallView) → call_of words ≡ Some call → WritesAnswer (AnswersToCall holds call remark) status old new
+-- A run of the program with these words, of which `old` and `new` are standard output before and after, `said` and `says` standard error. Words that make no
+-- call, a text that cannot be read and any other fault have a status and a line each, and all else is the answer to the call, with its words for people. A
+-- schedule can be told as one that cannot be read only where there is a script: one that is refused is answered so, whatever the schedule is
+pub data Runs (words : List (List ℕ)) (holds : List ℕ → Option (List ℕ)) (old new said says : StreamView) : ℕ → Type 0 where
+  other_words : call_of words ≡ None → new ≡ old → Says usage_line said says → Runs words holds old new said says OTHER_WORDS
+  answered : {status : ℕ} {remark : List ℕ} (call : CallView) → call_of words ≡ Some call → PrintsAnswer (AnswersToCall holds call remark) status old new
       → Says remark said says → Runs words holds old new said says status
-  unreadable : (call : CallView) (name : List ℕ) → call_of words ≡ Some call → IsNamedIn call name → Keeps old new → Says (unreadable_line name) said says
+  unreadable : (call : CallView) (name : List ℕ) → call_of words ≡ Some call → ComesToRead holds call name → new ≡ old → Says (unreadable_line name) said says
       → Runs words holds old new said says UNREADABLE
-  no_memory : (call : CallView) → call_of words ≡ Some call → Keeps old new → Says memory_line said says → Runs words holds old new said says FAULT
-  not_run : (call : CallView) (fault : RunFault) → call_of words ≡ Some call → FailsToRun holds call fault → Keeps old new
+  no_memory : (call : CallView) → call_of words ≡ Some call → new ≡ old → Says memory_line said says → Runs words holds old new said says FAULT
+  not_run : (call : CallView) (fault : RunFault) → call_of words ≡ Some call → FailsToRun holds call fault → new ≡ old
       → Says (run_fault_line fault) said says → Runs words holds old new said says FAULT
-  not_taken : {remark : List ℕ} (call : CallView) → call_of words ≡ Some call → WritesPart (AnswersToCall holds call remark) old new
+  not_taken : {remark : List ℕ} (call : CallView) → call_of words ≡ Some call → PrintsPart (AnswersToCall holds call remark) old new
       → Says write_line said says → Runs words holds old new said says FAULT

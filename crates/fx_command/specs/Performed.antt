@@ -1,6 +1,5 @@
 -- What is done with a script and picks, and what is printed and said of it.
-use Rattle.std.specs.Prelude.{ℕ, ◌≤◌, Bool, false, Option, Result, Ok, Err, List, [], ◌++◌, codes, decimal, length, string_bytes}
-use Rattle.std.specs.Io.KnownBytes.{Keeps}
+use Rattle.std.specs.Prelude.{◌≡◌, ℕ, ◌≤◌, Bool, false, Result, Ok, Err, List, [], ◌++◌, codes, decimal, length, string_bytes}
 use Rattle.fx_term.specs.Script.{total}
 use Rattle.fx_text.specs.declared.pick.Pick.{Pick}
 use Rattle.fx_text.specs.Meaning.{Meaning}
@@ -14,13 +13,13 @@ use Rattle.fx_report.specs.Script.{script_of}
 use Rattle.fx_report.specs.Text.{line_end, queue_names, report_text, trace_text}
 use Rattle.fx_report.specs.Status.{status_of}
 use Rattle.fx_report.specs.Waits.{waits_text}
-use Rattle.fx_report.specs.Written.{WritesAnswer, WritesPart}
 use Rattle.fx_command.specs.declared.call.Command.{Command}
 use Rattle.fx_command.specs.declared.call.Command.TheVariants.{Check, Replay, Trace}
 use Rattle.fx_command.specs.declared.call.Command.TheVariants as command
 use Rattle.fx_command.specs.declared.command_fault.CommandFault.{CommandFault}
 use Rattle.fx_command.specs.declared.command_fault.CommandFault.TheVariants.{Refused, Unreadable, Memory, Write, Run}
 use Rattle.fx_command.specs.Workers.{CanBeDone, CanFail}
+use Rattle.fx_command.specs.Stream.{StreamView, PrintsAnswer, PrintsPart}
 use Rattle.fx_command.specs.declared.perform.Performed.{Performed}
 
 -- the line of a check
@@ -46,11 +45,11 @@ pub data IsPerformed (m : Meaning) (picks : List Pick) : Command → List ℕ �
   ran : {workers : ℕ} {r : ReportView} {waits : List Wait} → 1 ≤ workers → workers ≤ most_workers → IsLawfulWithWaits (script_of m) nobody r waits
       → IsPerformed m picks (command.Run workers) (waits_text (queue_names m) waits) (status_of r) (report_text (queue_names m) r)
 
--- what is done takes the writer from `old` to `new`
-abbrev pub Performs : Command → Meaning → List Pick → Result Performed CommandFault → Option (List ℕ) → Option (List ℕ) → Type 0
-Performs c m picks (Ok done) old new = WritesAnswer (IsPerformed m picks c (string_bytes done.words)) done.status old new
-Performs c m picks (Err Write) old new = (words : List ℕ) × WritesPart (IsPerformed m picks c words) old new
-Performs c m picks (Err Memory) old new = CanBeDone c × Keeps old new
-Performs c m picks (Err (Run fault)) old new = CanFail c fault × Keeps old new
+-- what is done takes the stream from `old` to `new`
+abbrev pub Performs : Command → Meaning → List Pick → Result Performed CommandFault → StreamView → StreamView → Type 0
+Performs c m picks (Ok done) old new = PrintsAnswer (IsPerformed m picks c (string_bytes done.words)) done.status old new
+Performs c m picks (Err Write) old new = (words : List ℕ) × PrintsPart (IsPerformed m picks c words) old new
+Performs c m picks (Err Memory) old new = CanBeDone c × (new ≡ old)
+Performs c m picks (Err (Run fault)) old new = CanFail c fault × (new ≡ old)
 Performs c m picks (Err (Refused r)) old new = ⊥
 Performs c m picks (Err (Unreadable name)) old new = ⊥

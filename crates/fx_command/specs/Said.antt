@@ -1,15 +1,14 @@
 -- What the program says on standard error.
-use Rattle.std.specs.Prelude.{Option, List, ℕ, ◌++◌, codes, decimal}
-use Rattle.std.specs.Io.KnownBytes.{Appends}
-use Rattle.fx_report.specs.Output.{WritesPrefix}
+use Rattle.std.specs.Prelude.{List, ℕ, ◌++◌, codes, decimal}
 use Rattle.fx_report.specs.Text.{line_end}
 use Rattle.fx_run.specs.declared.run_fault.RunFault.{RunFault}
 use Rattle.fx_run.specs.declared.run_fault.RunFault.TheVariants.{Workers, Memory, Lost, Unsettled}
+use Rattle.fx_command.specs.Stream.{StreamView, TakesWhole, TakesPart}
 
--- this was written whole, or as much of it as was taken
-pub data Says (text : List ℕ) (old new : Option (List ℕ)) : Type 0 where
-  whole : Appends old new text → Says text old new
-  cut_short : WritesPrefix text old new → Says text old new
+-- this was written whole; or as much of it as was taken, and only where a write of it was refused
+pub data Says (text : List ℕ) (old new : StreamView) : Type 0 where
+  whole : TakesWhole text old new → Says text old new
+  cut_short : TakesPart text old new → Says text old new
 
 -- the lines that are said there
 abbrev pub usage_line : List ℕ

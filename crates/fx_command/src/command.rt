@@ -4,18 +4,19 @@ ghost use Rattle.fx_text.specs.View.{meaning};
 ghost use Rattle.fx_command.specs.CommandFault.{IsUnread};
 ghost use Rattle.fx_command.specs.Fetched.{IsPrefixOf, FetchesScript, FetchesNoScript};
 ghost use Rattle.fx_command.specs.Fetched.{FetchesSchedule, FetchesNoSchedule, KeepsFiles};
-ghost use Rattle.fx_report.specs.Written.{WritesAnswer};
 ghost use Rattle.fx_command.specs.Call.{view_call};
 ghost use Rattle.fx_command.specs.CommandAnswer.{known_schedule, AnswersToCall, Leaves};
 ghost use Rattle.fx_command.specs.CommandAnswer.{TellsRefusal, TellsUnreadable, TellsRunFault, Runs};
 ghost use Rattle.fx_command.specs.Said.{Says, run_fault_line};
+ghost use Rattle.fx_command.specs.Stream.{PrintsAnswer};
 
 use crate::call::Call;
 use crate::command_fault::{CommandFault, Refusal};
 use crate::files::{FetchFault, Files};
 use crate::perform::{Performed, perform};
+use crate::stream::{CutShort, Stream};
 use crate::texts::{picks_in, script_in};
-use fx_report::{AnswerFault, MOST_OF_SCRIPT, REFUSED, read_text, write_text};
+use fx_report::{AnswerFault, MOST_OF_SCRIPT, REFUSED, read_text};
 pub use fx_report::{FAULT, OTHER_WORDS, UNREADABLE};
 use fx_run::RunFault;
 use fx_text::{MOST_SCHEDULE_BYTES, Pick, Script};
@@ -103,40 +104,42 @@ fn answer<'a, R: Wait + Threads + Sync + RandomSource + AllocGlobal, F: Files, W
     alloc: Global,
     call: Call<'a>,
     files: &mut F,
-    out: &mut W,
+    out: &mut Stream<W>,
 ) -> Result<Performed, CommandFault<'a>>
     requires { IfSome call.schedule (λ name. name.now ≢ codes "-") }
-    ensures answered { IfOk result (λ performed. WritesAnswer
+    ensures answered { IfOk result (λ performed. PrintsAnswer
         (AnswersToCall (F.holds files.old) (view_call call.entry) (string_bytes performed.words))
-        performed.status (W.contents out.old) (W.contents out.new)) }
+        performed.status out.old out.new) }
     ensures fault { IfErr result
-        (λ fault. Leaves (F.holds files.old) (view_call call.entry) fault
-        (W.contents out.old) (W.contents out.new)) }
+        (λ fault. Leaves (F.holds files.old) (view_call call.entry) fault out.old out.new) }
 {
     let script = script_of(alloc, files, call.script)?;
     let picks = schedule_of(alloc, files, call.schedule)?;
     perform(rt, alloc, call.command, &script, &picks, out)
 }
 
-/// Says this on standard error. Nobody is left to tell where that takes nothing.
-fn say<E: Write>(text: &str, err: &mut E)
-    ensures { Says text.now (E.contents err.old) (E.contents err.new) }
+/// Says this on standard error. Nobody is left to tell where that refuses it.
+fn say<E: Write>(text: &str, err: &mut Stream<E>)
+    ensures { Says text.now err.old err.new }
 {
-    let _ = write_text(err, text.as_bytes());
+    let _ = err.write(text);
 }
 
 /// Prints the line of a refusal, with words for people on standard error.
-fn tell_refusal<W: Write, E: Write>(refusal: &Refusal, out: &mut W, err: &mut E) -> u8
+fn tell_refusal<W: Write, E: Write>(
+    refusal: &Refusal,
+    out: &mut Stream<W>,
+    err: &mut Stream<E>,
+) -> u8
     ensures { TellsRefusal (string_bytes refusal.now.line) (string_bytes refusal.now.words)
-        (W.contents out.old) (W.contents out.new) (E.contents err.old) (E.contents err.new)
-        result }
+        out.old out.new err.old err.new result }
 {
-    match write_text(out, refusal.line.as_bytes()) {
+    match out.write(&refusal.line) {
         Ok(()) => {
             say(&refusal.words, err);
             REFUSED
         }
-        Err(_) => {
+        Err(CutShort) => {
             say(WRITE, err);
             FAULT
         }
@@ -144,8 +147,8 @@ fn tell_refusal<W: Write, E: Write>(refusal: &Refusal, out: &mut W, err: &mut E)
 }
 
 /// Says that the text of this name cannot be read.
-fn tell_unreadable<E: Write>(alloc: Global, name: &str, err: &mut E) -> u8
-    ensures { TellsUnreadable name.now (E.contents err.old) (E.contents err.new) result }
+fn tell_unreadable<E: Write>(alloc: Global, name: &str, err: &mut Stream<E>) -> u8
+    ensures { TellsUnreadable name.now err.old err.new result }
 {
     match format!(in alloc; "cannot read {name}\n") {
         Ok(line) => {
@@ -172,8 +175,8 @@ fn format_run_fault(alloc: Global, fault: RunFault) -> Result<String, AllocError
 }
 
 /// Says why there is no report of a run.
-fn tell_run_fault<E: Write>(alloc: Global, fault: RunFault, err: &mut E) -> u8
-    ensures { TellsRunFault fault (E.contents err.old) (E.contents err.new) result }
+fn tell_run_fault<E: Write>(alloc: Global, fault: RunFault, err: &mut Stream<E>) -> u8
+    ensures { TellsRunFault fault err.old err.new result }
 {
     match format_run_fault(alloc, fault) {
         Ok(line) => say(&line, err),
@@ -191,20 +194,21 @@ fn tell_run_fault<E: Write>(alloc: Global, fault: RunFault, err: &mut E) -> u8
 /// | 2 | other words | the words that there are, on `err` |
 /// | 3 | a script or schedule is refused | one line on `out`, and why in words on `err` |
 /// | 4 | a text cannot be read | its name, on `err` |
-/// | 5 | want of memory, a run that gives no report, or `out` took not all | the fault, on `err` |
+/// | 5 | want of memory, a run that gives no report, or `out` refused a write | the fault, on `err` |
 ///
 /// The texts for `out` and for `err` are whole before the first write, so at want of memory nothing is
-/// written on `out`.
+/// written on `out`. What a stream refused before this call is not told apart from what it refuses in
+/// it, so a caller hands in streams that have refused nothing.
 pub fn command<R: Wait + Threads + Sync + RandomSource + AllocGlobal, F: Files, W: Write, E: Write>(
     rt: &R,
     alloc: Global,
     words: &[String],
     files: &mut F,
-    out: &mut W,
-    err: &mut E,
+    out: &mut Stream<W>,
+    err: &mut Stream<E>,
 ) -> u8
-    ensures { Runs (map string_bytes words.now) (F.holds files.old) (W.contents out.old)
-        (W.contents out.new) (E.contents err.old) (E.contents err.new) result }
+    ensures { Runs (map string_bytes words.now) (F.holds files.old) out.old out.new err.old err.new
+        result }
 {
     let Some(call) = Call::of(words) else {
         say(USAGE, err);

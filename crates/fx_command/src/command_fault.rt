@@ -1,7 +1,7 @@
 //! Why a command does not print what it was asked for.
 ghost use Rattle.std.specs.Prelude.{◌≡◌};
 
-use fx_report::OutFault;
+use crate::stream::CutShort;
 use fx_run::RunFault;
 use fx_term::Memory;
 use std::alloc::AllocError;
@@ -24,7 +24,7 @@ pub(crate) enum CommandFault<'a> {
     Memory,
     /// There is no report of the run. Nothing was printed.
     Run(RunFault),
-    /// What is printed was not taken whole.
+    /// What is printed was not taken whole: a write was refused.
     Write,
 }
 
@@ -48,17 +48,13 @@ impl From<Memory> for CommandFault<'_> {
     }
 }
 
-impl From<OutFault> for CommandFault<'_> {
-    ghost use Rattle.fx_report.specs.Output.{fault_of_writing};
-    ghost use Rattle.fx_command.specs.declared.command_fault.CommandFault.TheVariants.{Memory, Write};
+impl From<CutShort> for CommandFault<'_> {
+    ghost use Rattle.fx_command.specs.declared.command_fault.CommandFault.TheVariants.{Write};
 
-    ghost from_gives = { λ fault made. made ≡ fault_of_writing Write Memory fault };
+    ghost from_gives = { λ _ fault. fault ≡ Write };
 
-    fn from(fault: OutFault) -> Self {
-        match fault {
-            OutFault::Write => CommandFault::Write,
-            OutFault::Memory => CommandFault::Memory,
-        }
+    fn from(_refused: CutShort) -> Self {
+        CommandFault::Write
     }
 }
 

@@ -8,13 +8,14 @@
 //!    `schedule_words` say what is wrong.
 //! 4. `perform` checks the script, or replays it and writes its report or its traces, or runs it on
 //!    threads and writes the report. It has words for people about each fiber that is blocked.
-//! 5. `command` goes through these in that order, gives the status, and says on standard error those
+//! 5. `stream` is what is written to: a writer, of which contracts know whether it has refused a write.
+//! 6. `command` goes through these in that order, gives the status, and says on standard error those
 //!    words, or why nothing was printed.
 //!
 //! What is written on standard output is always a prefix of one text, which was whole before the
 //! first write. What never happens: a schedule that is read before its script is; a byte on standard
-//! output where a text cannot be read or memory runs out; a status that is not in the table of
-//! `command`.
+//! output where a text cannot be read or memory runs out; a text that is cut short by a stream which
+//! has refused nothing; a status that is not in the table of `command`.
 #![tactic(auto)]
 
 mod call;
@@ -28,5 +29,6 @@ mod perform;
 mod position;
 mod schedule_words;
 mod script_words;
+pub mod stream;
 mod texts;
 mod workers;

@@ -7,8 +7,9 @@ ghost use Rattle.fx_command.specs.Performed.{counts_text, check_text, Performs};
 
 use crate::call::Command;
 use crate::command_fault::CommandFault;
+use crate::stream::Stream;
 use fx_plain::replay_to_halt;
-use fx_report::{ENDED, format_waits, status_after, write_report, write_text, write_trace};
+use fx_report::{ENDED, format_report, format_traces, format_waits, status_after};
 use fx_run::run_to_halt;
 use fx_sched::Free;
 use fx_text::{Pick, Script};
@@ -42,13 +43,13 @@ fn check<'a, W: Write>(
     alloc: Global,
     script: &Script,
     picks: &[Pick],
-    out: &mut W,
+    out: &mut Stream<W>,
 ) -> Result<Performed, CommandFault<'a>>
     ensures { Performs command.Check (meaning script.now) picks.now result
-        (W.contents out.old) (W.contents out.new) }
+        out.old out.new }
 {
     let line = format_check(alloc, script)?;
-    write_text(out, line.as_bytes())?;
+    out.write(&line)?;
     Ok(Performed {
         status: ENDED,
         words: String::new(alloc),
@@ -59,15 +60,16 @@ fn report<'a, W: Write>(
     alloc: Global,
     script: &Script,
     picks: &[Pick],
-    out: &mut W,
+    out: &mut Stream<W>,
 ) -> Result<Performed, CommandFault<'a>>
     requires { script.now.code.queues ≤ length script.now.queues.items }
     ensures { Performs command.Replay (meaning script.now) picks.now result
-        (W.contents out.old) (W.contents out.new) }
+        out.old out.new }
 {
     let halt = replay_to_halt(alloc, script, picks)?;
     let words = format_waits(alloc, script, &halt.waits)?;
-    write_report(alloc, script, &halt.report, out)?;
+    let text = format_report(alloc, script, &halt.report)?;
+    out.write(&text)?;
     Ok(Performed {
         status: status_after(&halt.report),
         words,
@@ -78,15 +80,16 @@ fn trace<'a, W: Write>(
     alloc: Global,
     script: &Script,
     picks: &[Pick],
-    out: &mut W,
+    out: &mut Stream<W>,
 ) -> Result<Performed, CommandFault<'a>>
     requires { script.now.code.queues ≤ length script.now.queues.items }
     ensures { Performs command.Trace (meaning script.now) picks.now result
-        (W.contents out.old) (W.contents out.new) }
+        out.old out.new }
 {
     let halt = replay_to_halt(alloc, script, picks)?;
     let words = format_waits(alloc, script, &halt.waits)?;
-    write_trace(alloc, script, &halt.report, out)?;
+    let text = format_traces(alloc, script, &halt.report)?;
+    out.write(&text)?;
     Ok(Performed {
         status: status_after(&halt.report),
         words,
@@ -99,15 +102,16 @@ fn run<'a, R: Wait + Threads + Sync + RandomSource + AllocGlobal, W: Write>(
     alloc: Global,
     script: &Script,
     workers: u32,
-    out: &mut W,
+    out: &mut Stream<W>,
 ) -> Result<Performed, CommandFault<'a>>
     requires { script.now.code.queues ≤ length script.now.queues.items }
     ensures { (picks : List pick.Pick) → Performs (command.Run workers) (meaning script.now) picks
-        result (W.contents out.old) (W.contents out.new) }
+        result out.old out.new }
 {
     let ran = run_to_halt(rt, alloc, script, workers, &Free)?;
     let words = format_waits(alloc, script, &ran.waits)?;
-    write_report(alloc, script, &ran.report, out)?;
+    let text = format_report(alloc, script, &ran.report)?;
+    out.write(&text)?;
     Ok(Performed {
         status: status_after(&ran.report),
         words,
@@ -123,11 +127,11 @@ pub(crate) fn perform<'a, R: Wait + Threads + Sync + RandomSource + AllocGlobal,
     command: Command,
     script: &Script,
     picks: &[Pick],
-    out: &mut W,
+    out: &mut Stream<W>,
 ) -> Result<Performed, CommandFault<'a>>
     requires { script.now.code.queues ≤ length script.now.queues.items }
     ensures { Performs command (meaning script.now) picks.now result
-        (W.contents out.old) (W.contents out.new) }
+        out.old out.new }
 {
     match command {
         Command::Check => check(alloc, script, picks, out),

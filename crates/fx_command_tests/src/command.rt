@@ -1,6 +1,7 @@
 //! Runs of the program over texts in memory.
 use fx_command::command::{FAULT, UNREADABLE, command};
 use fx_command::files::{FetchFault, Files};
+use fx_command::stream::Stream;
 use fx_plain::{ENDED, REFUSED};
 use std::alloc::{AllocError, AllocGlobal, Global};
 use std::io::{self, Read, Write};
@@ -92,8 +93,12 @@ fn words_of(alloc: Global, line: &str) -> Result<Vec<String>, AllocError> {
 fn run_of(rt: &impl Machine, line: &str, texts: &[(&str, Text<'_>)]) -> Result<Ran, AllocError> {
     let alloc = rt.alloc();
     let words = words_of(alloc, line)?;
-    let mut out = Vec::new(alloc);
-    let mut err = Vec::new(alloc);
+    let mut out = Stream::new(Vec::new(alloc));
+    let mut err = Stream::new(Vec::new(alloc));
     let status = command(rt, alloc, &words, &mut Texts { texts }, &mut out, &mut err);
-    Ok(Ran { status, out, err })
+    Ok(Ran {
+        status,
+        out: out.into_writer(),
+        err: err.into_writer(),
+    })
 }

@@ -54,4 +54,4 @@ pub use refusal::format_refusal;
 pub use status::{BLOCKED, ENDED, FAULT, OTHER_WORDS, REFUSED, UNREADABLE, status_after};
 pub use wait::Wait;
 pub use waits::format_waits;
-pub use write::{write_report, write_trace};
+pub use write::{format_report, format_traces, write_report, write_trace};

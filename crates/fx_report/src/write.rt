@@ -86,11 +86,8 @@ fn push_traces(
     Ok(())
 }
 
-pub(crate) fn format_report(
-    alloc: Global,
-    script: &Script,
-    report: &Report,
-) -> Result<String, AllocError>
+/// How each fiber is at the end, and what is left in each queue.
+pub fn format_report(alloc: Global, script: &Script, report: &Report) -> Result<String, AllocError>
     requires { IsWritable (queue_names (meaning script.now)) report.now }
     ensures { IfOk result
         (λ text. string_bytes text ≡ report_text (queue_names (meaning script.now)) report.now) }
@@ -101,7 +98,8 @@ pub(crate) fn format_report(
     Ok(text)
 }
 
-fn format_traces(alloc: Global, script: &Script, report: &Report) -> Result<String, AllocError>
+/// Each fiber's trace, a line an event.
+pub fn format_traces(alloc: Global, script: &Script, report: &Report) -> Result<String, AllocError>
     requires { IsWritable (queue_names (meaning script.now)) report.now }
     ensures { IfOk result
         (λ text. string_bytes text ≡ trace_text (queue_names (meaning script.now)) report.now) }

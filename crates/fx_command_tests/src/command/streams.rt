@@ -1,4 +1,4 @@
-//! A standard output that fails, is interrupted or takes nothing once it is full.
+//! A standard output, or a standard error, that fails, is interrupted or takes nothing once it is full.
 use super::*;
 
 /// What a full output does with the next byte.
@@ -71,29 +71,28 @@ static PRINTED: [Row; 3] = [
     },
 ];
 
-/// The run of the program with these words, over this script F, into an output with so much room.
-fn run_into(
-    rt: &impl Machine,
-    line: &str,
-    script: &str,
-    room: usize,
-    when_full: WhenFull,
-) -> Result<Ran, AllocError> {
-    let alloc = rt.alloc();
-    let words = words_of(alloc, line)?;
-    let texts = [("F", whole(script.as_bytes()))];
-    let mut texts = Texts { texts: &texts };
-    let mut out = Full {
+/// An output with so much room.
+fn output(alloc: Global, room: usize, when_full: WhenFull) -> Full {
+    Full {
         taken: Vec::new(alloc),
         room,
         when_full,
-    };
-    let mut err = Vec::new(alloc);
+    }
+}
+
+/// The run of the program that a row calls, into these outputs.
+fn run_into(rt: &impl Machine, row: &Row, out: Full, err: Full) -> Result<Ran, AllocError> {
+    let alloc = rt.alloc();
+    let words = words_of(alloc, row.words)?;
+    let texts = [("F", whole(row.script.as_bytes()))];
+    let mut texts = Texts { texts: &texts };
+    let mut out = Stream::new(out);
+    let mut err = Stream::new(err);
     let status = command(rt, alloc, &words, &mut texts, &mut out, &mut err);
     Ok(Ran {
         status,
-        out: out.taken,
-        err,
+        out: out.into_writer().taken,
+        err: err.into_writer().taken,
     })
 }
 
@@ -107,9 +106,13 @@ fn is_cut(ran: &Ran, row: &Row, room: usize) -> bool {
     }
 }
 
+/// Room for all that is printed or said.
+const AMPLE: usize = 4096;
+
 /// Sees that of an output with so much room.
 fn assert_cut(rt: &impl Machine, row: &Row, room: usize, when_full: WhenFull) -> Result<(), Fail> {
-    let ran = run_into(rt, row.words, row.script, room, when_full)?;
+    let out = output(rt.alloc(), room, when_full);
+    let ran = run_into(rt, row, out, output(rt.alloc(), AMPLE, when_full))?;
     assert!(rt; is_cut(&ran, row, room), "{}, room for {room}", row.script);
     Ok(())
 }
@@ -121,6 +124,27 @@ fn output_that_is_full_has_a_prefix_of_the_text(rt: HostRuntime) -> Result<(), F
             assert_cut(&rt, row, room, WhenFull::Fails)?;
             assert_cut(&rt, row, room, WhenFull::IsInterrupted)?;
             assert_cut(&rt, row, room, WhenFull::TakesNothing)?;
+        }
+    }
+    Ok(())
+}
+
+/// Sees that with so much room for what is said a prefix of that is, and all else is as ever.
+fn assert_said(rt: &impl Machine, row: &Row, room: usize, when_full: WhenFull) -> Result<(), Fail> {
+    let err = output(rt.alloc(), room, when_full);
+    let ran = run_into(rt, row, output(rt.alloc(), AMPLE, when_full), err)?;
+    let said = row.said.as_bytes();
+    let said = &said[..room.min(said.len())];
+    assert!(rt; ran.has(row.status, row.printed.as_bytes(), said), "{}, room for {room}", row.script);
+    Ok(())
+}
+
+#[test]
+fn standard_error_that_is_full_has_a_prefix_of_the_words(rt: HostRuntime) -> Result<(), Fail> {
+    for row in &PRINTED {
+        for room in 0..=row.said.len() {
+            assert_said(&rt, row, room, WhenFull::Fails)?;
+            assert_said(&rt, row, room, WhenFull::TakesNothing)?;
         }
     }
     Ok(())

@@ -6,6 +6,7 @@ use crate::scripts::{Printed, Worked};
 use crate::shown::room;
 use fx_command::command::{FAULT, command};
 use fx_command::files::{FetchFault, Files};
+use fx_command::stream::Stream;
 use std::alloc::{AllocGlobal, Global};
 use std::io;
 use std::io::Read;
@@ -219,12 +220,13 @@ pub fn commands<R: Wait + Threads + Sync + RandomSource + AllocGlobal>(
     let Some(words) = words_of(alloc, said.words) else {
         return UNSET;
     };
-    let (Ok(mut out), Ok(mut err)) = (room(alloc), room(alloc)) else {
+    let (Ok(out), Ok(err)) = (room(alloc), room(alloc)) else {
         return UNSET;
     };
+    let (mut out, mut err) = (Stream::new(out), Stream::new(err));
     let mut texts = Texts { script: on.text };
     refuser.go_on();
     let status = command(rt, alloc, &words, &mut texts, &mut out, &mut err);
     refuser.hold();
-    answer_of(said, on, status, &out, &err)
+    answer_of(said, on, status, &out.into_writer(), &err.into_writer())
 }

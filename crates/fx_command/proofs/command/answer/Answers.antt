@@ -21,12 +21,12 @@ pub returns-clause-fault : goal.returns-clause-fault
 returns-clause-fault g c =
     let kept = schedule_kept _ _ c.args.call.schedule c.script_of.ensures.kept c.requires in
     let found = rw (kept, ← c.deref.ensures.value) at c.in_ok-picks.ensures.found in
-    leaves_unwritten (g.F.Files.holds c.args.files.now) (view_call c.args.call) _ _ c.perform.result (g.W.Write.contents c.args.out.now)
-    (g.W.Write.contents c.perform.new.out) c.in_ok-script.ensures.found found c.perform.ensures
+    leaves_unwritten (g.F.Files.holds c.args.files.now) (view_call c.args.call) _ _ c.perform.result c.args.out.now
+    c.perform.new.out c.in_ok-script.ensures.found found c.perform.ensures
 
 pub returns-clause-answered : goal.returns-clause-answered
 returns-clause-answered g c =
     let kept = schedule_kept _ _ c.args.call.schedule c.script_of.ensures.kept c.requires in
     let found = rw (kept, ← c.deref.ensures.value) at c.in_ok-picks.ensures.found in
-    writes_answer (g.F.Files.holds c.args.files.now) (view_call c.args.call) _ _ c.perform.result (g.W.Write.contents c.args.out.now)
-    (g.W.Write.contents c.perform.new.out) c.in_ok-script.ensures.found found c.perform.ensures
+    writes_answer (g.F.Files.holds c.args.files.now) (view_call c.args.call) _ _ c.perform.result c.args.out.now
+    c.perform.new.out c.in_ok-script.ensures.found found c.perform.ensures

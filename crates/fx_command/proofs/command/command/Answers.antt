@@ -1,12 +1,11 @@
-use Rattle.std.proofs.Common.{sym, ◌∙◌, ap, map, option_map, string_bytes}
-use Rattle.fx_report.proofs.Written.{keeps_same}
+use Rattle.std.proofs.Common.{refl, sym, ◌∙◌, ap, map, option_map, string_bytes}
 use Rattle.fx_command.specs.Call.{view_call}
 use Rattle.fx_command.specs.CommandAnswer.Runs.{other_words, answered, no_memory, not_taken}
 use Rattle.fx_command.proofs.CommandAnswer.{call_is, refusal_runs, unread_runs, run_fault_runs}
 use Rattle.fx_command.proofs.command.command.Goals as goal
 
 pub returns-in_default : goal.returns-in_default
-returns-in_default g c = other_words (sym c.of.ensures.call ∙ ap (option_map view_call) c.in_default.is) (keeps_same _) c.say.ensures
+returns-in_default g c = other_words (sym c.of.ensures.call ∙ ap (option_map view_call) c.in_default.is) refl c.say.ensures
 
 pub returns-in-Ok : goal.returns-in-Ok
 returns-in-Ok g c =
@@ -50,4 +49,4 @@ returns g c =
     let call = c.in-Some.call in
     let is = call_is (map string_bytes c.args.words.now) _ call c.of.ensures.call c.in-Some.is in
     let part = rw c.in-Write.is at c.in-Err.ensures.fault in
-    not_taken (view_call call) is part.1 c.say-in-Write.ensures
+    not_taken {remark = part.0} (view_call call) is part.1 c.say-in-Write.ensures
