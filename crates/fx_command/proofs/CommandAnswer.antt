@@ -111,17 +111,12 @@ writes_answer holds call m ps (Err fault) old new has picks none = tt
 pub refusal_runs : (words : List (List ℕ)) (holds : List ℕ → Option (List ℕ)) (call : CallView) (r : Refusal) (old mid new said says : StreamView)
     (status : ℕ) → call_of words ≡ Some call → Leaves holds call (Refused r) old mid
     → TellsRefusal (string_bytes r.line) (string_bytes r.words) mid new said says status → Runs words holds old new said says status
-refusal_runs words holds call r old mid new said says status is left (told taken remark) = subst (λ o. Runs words holds o new said says status) left.1 (answered call is (record {
-  text = string_bytes r.line;
-  answer = left.0;
-  taken = taken;
-}) remark)
-refusal_runs words holds call r old mid new said says status is left (line_not_taken part line) = subst (λ o. Runs words holds o new said says status) left.1 (not_taken call is (record {
-  status = REFUSED;
-  text = string_bytes r.line;
-  answer = left.0;
-  taken = part;
-}) line)
+refusal_runs words holds call r old mid new said says status is left (told taken remark) =
+    subst (λ o. Runs words holds o new said says status) left.1
+    (answered call is (record { text = string_bytes r.line; answer = left.0; taken = taken }) remark)
+refusal_runs words holds call r old mid new said says status is left (line_not_taken part line) =
+    subst (λ o. Runs words holds o new said says status) left.1
+    (not_taken call is (record { status = REFUSED; text = string_bytes r.line; answer = left.0; taken = part }) line)
 
 -- it was said that a text cannot be read
 pub unread_runs : (words : List (List ℕ)) (holds : List ℕ → Option (List ℕ)) (call : CallView) (name : List ℕ) (old new said says : StreamView)
