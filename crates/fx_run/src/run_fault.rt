@@ -11,7 +11,7 @@ pub enum RunFault {
     /// The number of workers is not from 1 to 64.
     #[error("the number of workers is not from 1 to 64")]
     Workers,
-    /// Memory ran out.
+    /// Memory ran out, or the thread of a worker could not be started.
     #[error("out of memory")]
     Memory,
     /// This fiber is missing: it is the main one, or another one started it.

@@ -157,9 +157,10 @@ pub fn run_to_halt<R: Wait + Threads + Sync + RandomSource + AllocGlobal, G: Gat
     run_by(rt, alloc, script, workers, gate)
 }
 
-/// The report of a run of the script's fibers by so many workers, each on a thread of its own, with what
-/// the gate may ask for. The workers share the fibers and go on until none can step: one that has not
-/// ended by then is blocked, and waits for good. How the fibers interleave is up to the threads; the
+/// The report of a run of the script's fibers by so many workers, with what the gate may ask for. One of
+/// them is the thread that calls, and each other has a thread of its own: where one of these cannot be
+/// started, it answers `Memory`. The workers share the fibers and go on until none can step: one that has
+/// not ended by then is blocked, and waits for good. How the fibers interleave is up to the threads; the
 /// report is lawful however they do.
 pub fn run<R: Wait + Threads + Sync + RandomSource + AllocGlobal, G: Gate + Sync>(
     rt: &R,

@@ -19,7 +19,10 @@ struct Row {
 /// The release tells by the queue that it ran.
 const HELD: &str = "(queue q 4) (main (bracket x (pure 7) (never) (offer q x)))";
 
-static ROWS: [Row; 4] = [
+/// The fiber has a turn up to its yield, and one in which it begins to wait for good.
+const YIELDS: &str = "(main (seq (cede) (never)))";
+
+static ROWS: [Row; 6] = [
     Row {
         script: "(main (never))",
         turn: 0,
@@ -48,6 +51,20 @@ static ROWS: [Row; 4] = [
         turn: 1,
         id: 0,
         report: "fiber 0 blocked\nqueue q left\n",
+        outside: &[],
+    },
+    Row {
+        script: YIELDS,
+        turn: 1,
+        id: 0,
+        report: "fiber 0 canceled\n",
+        outside: &[0],
+    },
+    Row {
+        script: YIELDS,
+        turn: 2,
+        id: 0,
+        report: "fiber 0 blocked\n",
         outside: &[],
     },
 ];

@@ -1,4 +1,4 @@
-//! Gates that hold a turn until others have come.
+//! Gates that note each turn, or hold one until others have come.
 ghost use Rattle.std.specs.Prelude.{false};
 
 use crate::rows::{PAIRS, assert_comes_to, run_text};
@@ -6,6 +6,43 @@ use fx_sched::Gate;
 use std::sync::atomic::{AtomicU64, Ordering};
 use std::test::Fail;
 use std::thread;
+
+/// It notes whose turn begins, a decimal digit each: the fiber's number and one more.
+#[derive(Drop)]
+struct Noted {
+    turns: AtomicU64,
+}
+
+impl Gate for Noted {
+    ghost may = { λ gate id. false };
+
+    ghost answers = { λ gate worker fiber named. Unit {0} };
+
+    /// (one worker asks alone)
+    fn turn(&self, _worker: u32, fiber: u32) -> Option<u32> {
+        let turns = self.turns.load(Ordering::SeqCst);
+        let digit = u64::from(fiber).wrapping_add(1);
+        self.turns
+            .store(turns.wrapping_mul(10).wrapping_add(digit), Ordering::SeqCst);
+        None
+    }
+}
+
+/// The main fiber starts 1 in its first turn, and each of its yields ends a turn, as that of 1 does.
+const YIELDS: &str =
+    "(main (start g (seq (cede) (pure 1)) (seq (cede) (seq (cede) (pure 2)))))";
+
+#[test]
+fn one_worker_asks_once_before_each_turn_in_their_order(rt: HostRuntime) -> Result<(), Fail> {
+    let gate = Noted {
+        turns: AtomicU64::new(0),
+    };
+    let report = "fiber 0 succeeded 2\nfiber 1 succeeded 1\n";
+    assert_comes_to(&rt, YIELDS, 1, &gate, report)?;
+    // (main starts 1, which comes before it; the last two turns are of main, which is alone then)
+    assert_eq!(rt; gate.turns.load(Ordering::SeqCst), 121_211);
+    Ok(())
+}
 
 /// How often a held turn looks for what it waits for before it gives up.
 const TRIES: u32 = 1_000_000;
