@@ -4,10 +4,8 @@ mod alone;
 mod closed;
 mod commands;
 mod fibers;
-mod marks;
 mod numbers;
 mod opened;
-mod outside;
 mod parts;
 mod places;
 mod plain;
@@ -18,19 +16,22 @@ mod texts;
 mod tried;
 mod worlds;
 
-use crate::scripts::{LOOP, NONE, ONE, Printed, TWO, WORKED, Worked};
+use crate::scripts::{NONE, ONE, Printed, TWO, WORKED, Worked};
 use crate::steps::Part;
 use crate::tally::Tally;
 use commands::{FAULTS, WORDS};
-use outside::By;
 use std::alloc::AllocGlobal;
 use std::random::RandomSource;
 use std::sync::Wait;
 use std::thread::Threads;
 use tried::{OnScript, Row, requests};
 
-/// Those of one thread that are made on no script: the call, on what, and the row.
-static SINGLE: [(&str, &str, Row); 8] = [
+/// A row in a table: the call, on what, which is left out where it is the script, and the row.
+type Line = (&'static str, &'static str, Row);
+
+/// Those that are made on no script: of one thread; of what threads share, of what the ports of fibers have, and of what
+/// workers have; and of a call of the kit that does without the memory that it is refused.
+static OF_NONE: [Line; 19] = [
     ("Masks::enter", "13 regions", Row::Places(places::Of::Enter)),
     ("Masks::seal", "12 seals", Row::Places(places::Of::Seal)),
     ("Frames::push", "12 contexts", Row::Places(places::Of::Push)),
@@ -51,10 +52,6 @@ static SINGLE: [(&str, &str, Row); 8] = [
     ),
     ("Code::build", "a join", Row::Text(texts::Of::Build)),
     ("schedule", "7 picks", Row::Text(texts::Of::Schedule)),
-];
-
-/// Those of what threads share, of what the ports of fibers have, and of what workers have.
-static SHARED: [(&str, &str, Row); 13] = [
     ("Words::new", "100 fibers", Row::Part(parts::Of::Words)),
     ("FiberQueue::new", "3 fibers", Row::Part(parts::Of::Queue)),
     (
@@ -66,27 +63,28 @@ static SHARED: [(&str, &str, Row); 13] = [
     ("close_queues", "2 queues", Row::Closed(closed::Of::Queues)),
     ("Sources::new", "3 fibers", Row::Part(parts::Of::Sources)),
     ("Notes::new", "3 fibers", Row::Part(parts::Of::Notes)),
-    ("Marks::mark", "3 numbers", Row::Marks(marks::Of::Mark)),
-    ("Marks::join", "3 numbers", Row::Marks(marks::Of::Join)),
     ("Tasks::new", "4 workers", Row::Part(parts::Of::Tasks)),
-    ("Owner::push", "100 tasks", Row::Put(tasks::Target::Hand)),
-    (
-        "Tasks::inject",
-        "100 tasks",
-        Row::Put(tasks::Target::Injector),
-    ),
+    ("Owner::push", "100 tasks", Row::Put),
     ("solo", "a worker", Row::Part(parts::Of::Solo)),
+    ("Owner::next", "a steal, which does without", Row::Steal),
 ];
 
-/// That of a main fiber.
-static OF_ONE: [(&str, &str, Row); 1] = [(
-    "Fiber::new",
-    "a main fiber",
-    Row::OnScript(OnScript::Plain(fibers::Of::New)),
-)];
+/// Those of a main fiber.
+static OF_ONE: [Line; 2] = [
+    (
+        "Fiber::new",
+        "a main fiber",
+        Row::OnScript(OnScript::Plain(fibers::Of::New)),
+    ),
+    (
+        "ThreadPort::new",
+        "a main fiber",
+        Row::OnScript(OnScript::Threads(fibers::Of::Port)),
+    ),
+];
 
 /// Those of the places of fibers that wait or have ended.
-static OF_TWO: [(&str, &str, Row); 2] = [
+static OF_TWO: [Line; 2] = [
     (
         "Lot::new",
         "2 fibers",
@@ -99,146 +97,117 @@ static OF_TWO: [(&str, &str, Row); 2] = [
     ),
 ];
 
-/// Those that request a fiber from outside.
-static OF_LOOP: [(&str, &str, Row); 2] = [
-    (
-        "Fiber::outside over ThreadPort",
-        "a loop",
-        Row::OnScript(OnScript::Threads(fibers::Of::Outside(By::Fiber))),
-    ),
-    (
-        "gated_turn over ThreadPort",
-        "a loop",
-        Row::OnScript(OnScript::Threads(fibers::Of::Outside(By::Gate))),
-    ),
-];
-
-/// Those of one thread of each worked script.
-static OF_ONE_THREAD: [(&str, Row); 8] = [
-    ("parse", Row::Text(texts::Of::Parse)),
+/// Those of each worked script.
+static OF_WORKED: [Line; 15] = [
+    ("parse", "", Row::Text(texts::Of::Parse)),
     (
         "PlainWorld::new",
+        "",
         Row::OnScript(OnScript::Plain(fibers::Of::World)),
     ),
-    ("replay", Row::OnScript(OnScript::Text(plain::Of::Replay))),
+    (
+        "replay",
+        "",
+        Row::OnScript(OnScript::Text(plain::Of::Replay)),
+    ),
     (
         "write_report",
+        "",
         Row::OnScript(OnScript::Text(plain::Of::Write(Printed::Report))),
     ),
     (
         "write_trace",
+        "",
         Row::OnScript(OnScript::Text(plain::Of::Write(Printed::Traces))),
     ),
-    ("replay_text", Row::Text(texts::Of::ReplayText)),
+    ("replay_text", "", Row::Text(texts::Of::ReplayText)),
     (
         "Fiber::step over PlainPort",
+        "",
         Row::OnScript(OnScript::Plain(fibers::Of::Steps(Part::Step))),
     ),
     (
-        "poll of Turn over PlainPort",
+        "gated_turn over PlainPort",
+        "",
         Row::OnScript(OnScript::Plain(fibers::Of::Steps(Part::Turn))),
     ),
+    (
+        "Fiber::step over ThreadPort",
+        "",
+        Row::OnScript(OnScript::Threads(fibers::Of::Steps(Part::Step))),
+    ),
+    (
+        "gated_turn over ThreadPort",
+        "",
+        Row::OnScript(OnScript::Threads(fibers::Of::Steps(Part::Turn))),
+    ),
+    (
+        "work",
+        "",
+        Row::OnScript(OnScript::Threads(fibers::Of::Work)),
+    ),
+    (
+        "report",
+        "",
+        Row::OnScript(OnScript::Plain(fibers::Of::Report(reports::Of::Report))),
+    ),
+    (
+        "test_for_lost",
+        "",
+        Row::OnScript(OnScript::Plain(fibers::Of::Report(reports::Of::Lost))),
+    ),
+    ("run by 1", "", Row::OnScript(OnScript::Run(1))),
+    ("run by 4", "", Row::OnScript(OnScript::Run(4))),
 ];
 
 /// That of the bursts of its fibers.
-static OF_BURSTS: [(&str, Row); 1] = [(
+static OF_BURSTS: [Line; 1] = [(
     "Fiber::burst over PlainPort",
+    "",
     Row::OnScript(OnScript::Plain(fibers::Of::Steps(Part::Burst))),
 )];
 
 /// The script of which no burst makes a request.
 const WITHOUT_BURST: &str = "mask";
 
-/// Those of several threads of each worked script.
-static OF_THREADS: [(&str, Row); 7] = [
-    (
-        "Fiber::step over ThreadPort",
-        Row::OnScript(OnScript::Threads(fibers::Of::Steps(Part::Step))),
-    ),
-    (
-        "poll of Turn over ThreadPort",
-        Row::OnScript(OnScript::Threads(fibers::Of::Steps(Part::Turn))),
-    ),
-    ("work", Row::OnScript(OnScript::Threads(fibers::Of::Work))),
-    (
-        "report",
-        Row::OnScript(OnScript::Plain(fibers::Of::Report(reports::Of::Report))),
-    ),
-    (
-        "test_for_lost",
-        Row::OnScript(OnScript::Plain(fibers::Of::Report(reports::Of::Lost))),
-    ),
-    ("run by 1", Row::OnScript(OnScript::Run(1))),
-    ("run by 4", Row::OnScript(OnScript::Run(4))),
-];
-
 /// Tries all rows.
 pub fn all<R: Print + Wait + Threads + Sync + RandomSource + AllocGlobal + Drop>(
     tally: &mut Tally<R>,
 ) {
-    of_one_thread(tally);
-    of_several(tally);
+    listed(tally, &OF_NONE, &NONE);
+    listed(tally, &OF_ONE, &ONE);
+    listed(tally, &OF_TWO, &TWO);
+    for worked in &WORKED {
+        of_worked(tally, worked);
+    }
     for (said, on) in &FAULTS {
         row(tally, said.words, on.name, Row::Command(said), on);
     }
 }
 
-/// Tries those of one thread.
-fn of_one_thread<R: Print + Wait + Threads + Sync + RandomSource + AllocGlobal + Drop>(
+/// Tries those of a worked script.
+fn of_worked<R: Print + Wait + Threads + Sync + RandomSource + AllocGlobal + Drop>(
     tally: &mut Tally<R>,
+    worked: &Worked,
 ) {
-    listed(tally, &SINGLE, &NONE);
-    listed(tally, &OF_ONE, &ONE);
-    for worked in &WORKED {
-        of_worked(tally, &OF_ONE_THREAD, worked);
-        if worked.name != WITHOUT_BURST {
-            of_worked(tally, &OF_BURSTS, worked);
-        }
+    listed(tally, &OF_WORKED, worked);
+    if worked.name != WITHOUT_BURST {
+        listed(tally, &OF_BURSTS, worked);
     }
-}
-
-/// Tries those of several threads, and calls of the program.
-fn of_several<R: Print + Wait + Threads + Sync + RandomSource + AllocGlobal + Drop>(
-    tally: &mut Tally<R>,
-) {
-    listed(tally, &SHARED, &NONE);
-    listed(tally, &OF_TWO, &TWO);
-    listed(tally, &OF_LOOP, &LOOP);
-    for worked in &WORKED {
-        of_worked(tally, &OF_THREADS, worked);
-        of_words(tally, worked);
+    for said in &WORDS {
+        row(tally, said.words, worked.name, Row::Command(said), worked);
     }
 }
 
 /// Tries these rows on this script.
 fn listed<R: Print + Wait + Threads + Sync + RandomSource + AllocGlobal + Drop>(
     tally: &mut Tally<R>,
-    rows: &[(&str, &str, Row)],
+    rows: &[Line],
     on: &Worked,
 ) {
     for (call, of, it) in rows {
+        let of = if of.is_empty() { on.name } else { *of };
         row(tally, call, of, *it, on);
-    }
-}
-
-/// Tries these rows of a worked script.
-fn of_worked<R: Print + Wait + Threads + Sync + RandomSource + AllocGlobal + Drop>(
-    tally: &mut Tally<R>,
-    rows: &[(&str, Row)],
-    worked: &Worked,
-) {
-    for (call, it) in rows {
-        row(tally, call, worked.name, *it, worked);
-    }
-}
-
-/// Tries those of calls of the program of a worked script.
-fn of_words<R: Print + Wait + Threads + Sync + RandomSource + AllocGlobal + Drop>(
-    tally: &mut Tally<R>,
-    worked: &Worked,
-) {
-    for said in &WORDS {
-        row(tally, said.words, worked.name, Row::Command(said), worked);
     }
 }
 

@@ -54,15 +54,6 @@ pub static TWO: Worked = Worked {
     traces: "",
 };
 
-/// Its first steps show nothing, so that a request shows.
-pub static LOOP: Worked = Worked {
-    name: "a loop",
-    text: "(main (for i 9 (pure i)))",
-    counts: "",
-    report: "",
-    traces: "",
-};
-
 pub static WORKED: [Worked; 10] = [
     Worked {
         name: "queue",

@@ -6,9 +6,9 @@ ghost use Rattle.fx_fiber.specs.Fiber.{progress};
 use crate::given::Given;
 use crate::harness::{Answer, Call, OTHER};
 use crate::refuser::Refuser;
-use futures::Future;
 use futures::task::{Poll, Solo};
-use fx_fiber::{Fiber, Port, Report, Stepped, Turn, Turned};
+use fx_fiber::{Fiber, Port, Report, Stepped, Turned};
+use fx_sched::{Free, gated_turn, leave};
 use fx_term::{Code, Memory};
 use std::alloc::Global;
 
@@ -156,7 +156,7 @@ fn bursts<P: Port + Drop>(
     }
 }
 
-/// A turn, which may make several steps before its fiber waits.
+/// A turn at a gate that names nobody, which may make several steps before its fiber waits.
 fn turns<P: Port + Drop>(
     solo: &Solo,
     fiber: &mut Fiber<P>,
@@ -188,10 +188,9 @@ fn polled<P: Port>(
 {
     let mut cx = solo.begin();
     refuser.go_on();
-    let turned = Turn::new(fiber, code, shared).poll(&mut cx);
+    let turned = gated_turn(&mut cx, &Free, 0, fiber, code, shared);
     refuser.hold();
-    let _: Poll<()> = cx.yield_now();
-    cx.park();
+    leave(cx);
     turned
 }
 

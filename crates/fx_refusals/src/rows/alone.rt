@@ -12,7 +12,7 @@ use std::alloc::{AllocGlobal, Global};
 use std::random::RandomSource;
 use std::sync::Wait;
 
-/// What a worker alone answers that has this fiber before it in the injector, and to what the fibers come.
+/// What a worker alone answers that has this fiber in its deque, and to what the fibers come.
 pub fn works<R: Wait + RandomSource + AllocGlobal, P: Port + Drop>(
     rt: &R,
     alloc: Global,
@@ -28,13 +28,13 @@ pub fn works<R: Wait + RandomSource + AllocGlobal, P: Port + Drop>(
 {
     match Work::new(alloc, 1) {
         Ok((all, mut hands)) => {
-            if all.inject(rt, main).is_err() {
+            let Some(mut hand) = hands.pop() else {
+                return UNSET;
+            };
+            if hand.push(main).is_err() {
                 return UNSET;
             }
-            match hands.pop() {
-                Some(hand) => goes_on(rt, alloc, total, given, &all, hand, shared, refuser),
-                None => UNSET,
-            }
+            goes_on(rt, alloc, total, given, &all, &mut hand, shared, refuser)
         }
         Err(Memory) => UNSET,
     }
@@ -47,7 +47,7 @@ fn goes_on<R: Wait + RandomSource + AllocGlobal, P: Port + Drop>(
     total: u32,
     given: &Given,
     all: &Work<P>,
-    hand: Hand<P>,
+    hand: &mut Hand<P>,
     shared: &mut P::Shared,
     refuser: &Refuser,
 ) -> Answer

@@ -14,13 +14,12 @@ use std::random::RandomSource;
 use std::sync::Wait;
 use std::thread::Threads;
 
-/// The words after the program's name, by how many workers fibers run, and what is answered: the status, which text of
-/// the script is printed on standard output, and what is printed on standard error. The words name a script F, and a
-/// schedule S that picks fiber 0, fiber 0 and fiber 1.
+/// The words after the program's name, and what is answered: the status, which text of the script is printed on
+/// standard output, and what is printed on standard error. The words name a script F, and a schedule S that picks
+/// fiber 0, fiber 0 and fiber 1.
 #[derive(Clone, Copy)]
 pub struct Said {
     pub words: &'static str,
-    pub workers: u32,
     status: u8,
     out: Printed,
     err: &'static str,
@@ -30,35 +29,30 @@ pub struct Said {
 pub static WORDS: [Said; 5] = [
     Said {
         words: "check F",
-        workers: 1,
         status: 0,
         out: Printed::Counts,
         err: "",
     },
     Said {
         words: "replay F S",
-        workers: 1,
         status: 0,
         out: Printed::Report,
         err: "",
     },
     Said {
         words: "trace F",
-        workers: 1,
         status: 0,
         out: Printed::Traces,
         err: "",
     },
     Said {
         words: "run F 1",
-        workers: 1,
         status: 0,
         out: Printed::Report,
         err: "",
     },
     Said {
         words: "run F 4",
-        workers: 4,
         status: 0,
         out: Printed::Report,
         err: "",
@@ -83,7 +77,6 @@ pub static FAULTS: [(Said, Worked); 5] = [
     (
         Said {
             words: "replay F",
-            workers: 1,
             status: 1,
             out: Printed::Report,
             err: WAITS,
@@ -93,7 +86,6 @@ pub static FAULTS: [(Said, Worked); 5] = [
     (
         Said {
             words: "run F 4",
-            workers: 4,
             status: 1,
             out: Printed::Report,
             err: WAITS,
@@ -103,7 +95,6 @@ pub static FAULTS: [(Said, Worked); 5] = [
     (
         Said {
             words: "check F",
-            workers: 1,
             status: 3,
             out: Printed::Counts,
             err: "F:1:8: `foo` is no word of a form\n(main (foo))\n       ^\n",
@@ -119,7 +110,6 @@ pub static FAULTS: [(Said, Worked); 5] = [
     (
         Said {
             words: "check G",
-            workers: 1,
             status: 4,
             out: Printed::Counts,
             err: "cannot read G\n",
@@ -135,7 +125,6 @@ pub static FAULTS: [(Said, Worked); 5] = [
     (
         Said {
             words: "run F 0",
-            workers: 1,
             status: 5,
             out: Printed::Report,
             err: "fault workers\n",

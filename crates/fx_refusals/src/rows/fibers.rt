@@ -8,7 +8,6 @@ use crate::given::Given;
 use crate::harness::{Answer, Trial, UNSET, whole_where};
 use crate::refuser::Refuser;
 use crate::rows::alone::works;
-use crate::rows::outside::{By, Noting, asked};
 use crate::rows::reports;
 use crate::steps::{Part, Steps};
 use fx_fiber::{Fiber, Port, main_begin};
@@ -21,8 +20,9 @@ use std::sync::Wait;
 /// What is done, and refused memory.
 #[derive(Clone, Copy)]
 pub enum Of {
-    /// The world of one thread is made.
+    /// The world of one thread is made, or the port of a fiber on threads.
     World,
+    Port,
     /// The main fiber is made.
     New,
     /// A lot is made for such fibers.
@@ -35,8 +35,6 @@ pub enum Of {
     Work,
     /// They are reported.
     Report(reports::Of),
-    /// The main one is requested from outside.
-    Outside(By),
 }
 
 /// What a lot answers as it is emptied, in which there is one fiber.
@@ -70,7 +68,9 @@ fn lots<R: Wait, P: Port + Drop>(
     refuser.hold();
     match lot {
         Ok(lot) => {
-            lot.settle(rt, main);
+            if lot.settle(rt, main).is_some() {
+                return UNSET;
+            }
             emptied(alloc, lot, of, refuser)
         }
         Err(Memory) => Answer::Memory,
@@ -95,7 +95,7 @@ fn steps<P: Port + Drop>(
 }
 
 /// What the main fiber comes to with which this is done. One that is new has no event.
-fn come_of_main<R: Wait + RandomSource + AllocGlobal, P: Port + Noting + Drop>(
+fn come_of_main<R: Wait + RandomSource + AllocGlobal, P: Port + Drop>(
     rt: &R,
     alloc: Global,
     given: &Given,
@@ -110,17 +110,16 @@ fn come_of_main<R: Wait + RandomSource + AllocGlobal, P: Port + Noting + Drop>(
 {
     let total = main_begin(alloc, &given.script.code).end;
     match of {
-        Of::World | Of::New => whole_where(main.trace().is_empty() && main.id() == 0),
+        Of::World | Of::Port | Of::New => whole_where(main.trace().is_empty() && main.id() == 0),
         Of::NewLot | Of::EmptyLot => lots(rt, alloc, total, main, of, &trial.refuser),
         Of::Steps(part) => steps(alloc, given, part, main, shared, trial),
         Of::Work => works(rt, alloc, total, given, main, shared, &trial.refuser),
         Of::Report(of) => reports::made(alloc, given, main, shared, of, trial),
-        Of::Outside(by) => asked(given, by, main, shared, trial),
     }
 }
 
 /// What a port comes to, of a main fiber that has not begun, with which this is done.
-pub fn come_of<R: Wait + RandomSource + AllocGlobal, P: Port + Noting + Drop>(
+pub fn come_of<R: Wait + RandomSource + AllocGlobal, P: Port + Drop>(
     rt: &R,
     alloc: Global,
     given: &Given,

@@ -108,8 +108,15 @@ fn made_as<N: RunBrand, R: Wait + RandomSource + AllocGlobal>(
     } = opened;
     match Notes::<N>::new(alloc, words.fibers()) {
         Ok(mut notes) => {
+            if let Of::Port = of {
+                trial.refuser.go_on();
+            }
             let port = ThreadPort::<R, N>::new(rt, alloc, &words, &queues, &sources, seat, passes);
-            come_of(rt, alloc, given, port, &mut notes, of, trial)
+            trial.refuser.hold();
+            match port {
+                Ok(port) => come_of(rt, alloc, given, port, &mut notes, of, trial),
+                Err(Memory) => Answer::Memory,
+            }
         }
         Err(Memory) => UNSET,
     }

@@ -6,27 +6,19 @@ use fx_sched::{Owner, Tasks};
 use std::alloc::Global;
 use std::sync::Wait;
 
-/// More tasks than a deque begins with, and than a block of the injector has.
+/// More tasks than a deque begins with.
 const MANY: u64 = 100;
-
-/// Where a task is put.
-#[derive(Clone, Copy)]
-pub enum Target {
-    Hand,
-    Injector,
-}
 
 #[derive(Drop)]
 struct Putting<'a, R> {
     rt: &'a R,
-    target: Target,
     tasks: Tasks<u64>,
     hand: Owner<u64>,
     put: u64,
 }
 
-/// Has the calls tried that put tasks there.
-pub fn tried<R: Wait + Drop>(rt: &R, alloc: Global, target: Target, trial: &Trial) -> Answer {
+/// Has the calls tried that put tasks into a deque.
+pub fn put<R: Wait + Drop>(rt: &R, alloc: Global, trial: &Trial) -> Answer {
     let Ok((tasks, mut hands)) = Tasks::new(alloc, 1) else {
         return UNSET;
     };
@@ -35,16 +27,15 @@ pub fn tried<R: Wait + Drop>(rt: &R, alloc: Global, target: Target, trial: &Tria
     };
     trial.of(&mut Putting {
         rt,
-        target,
         tasks,
         hand,
         put: 0,
     })
 }
 
-/// Whether the tasks come out as they went in.
-fn come_out<R: Wait>(rt: &R, hand: &mut Owner<u64>, tasks: &Tasks<u64>) -> bool {
-    for number in 0..MANY {
+/// Whether the tasks from this one on come out as they went in.
+fn come_out<R: Wait>(rt: &R, hand: &mut Owner<u64>, tasks: &Tasks<u64>, first: u64) -> bool {
+    for number in first..MANY {
         if hand.next(rt, tasks) != Some(number) {
             return false;
         }
@@ -55,10 +46,7 @@ fn come_out<R: Wait>(rt: &R, hand: &mut Owner<u64>, tasks: &Tasks<u64>) -> bool 
 impl<'a, R: Wait> Call for Putting<'a, R> {
     fn make(&mut self, refuser: &Refuser) -> Answer {
         refuser.go_on();
-        let put = match self.target {
-            Target::Hand => self.hand.push(self.put),
-            Target::Injector => self.tasks.inject(self.rt, self.put),
-        };
+        let put = self.hand.push(self.put);
         refuser.hold();
         match put {
             Err(back) if back == self.put => return Answer::Memory,
@@ -69,6 +57,26 @@ impl<'a, R: Wait> Call for Putting<'a, R> {
         if self.put < MANY {
             return Answer::Goes;
         }
-        whole_where(come_out(self.rt, &mut self.hand, &self.tasks))
+        whole_where(come_out(self.rt, &mut self.hand, &self.tasks, 0))
     }
+}
+
+/// What a worker comes to that steals from another one, with more tasks than its own deque has room for. Where that
+/// is refused more, it steals fewer.
+pub fn stolen<R: Wait>(rt: &R, alloc: Global, refuser: &Refuser) -> Answer {
+    let Ok((tasks, mut hands)) = Tasks::new(alloc, 2) else {
+        return UNSET;
+    };
+    let [other, hand] = hands.as_mut_slice() else {
+        return UNSET;
+    };
+    for number in 0..MANY {
+        if other.push(number).is_err() {
+            return UNSET;
+        }
+    }
+    refuser.go_on();
+    let first = hand.next(rt, &tasks);
+    refuser.hold();
+    whole_where(first == Some(0) && come_out(rt, hand, &tasks, 1))
 }

@@ -5,9 +5,7 @@ use crate::harness::{Answer, OTHER, Trial, UNSET, Wrong};
 use crate::refuser::Reach;
 use crate::rows::commands::{Said, commands};
 use crate::rows::runs::runs;
-use crate::rows::{
-    closed, fibers, marks, numbers, opened, parts, places, plain, tasks, texts, worlds,
-};
+use crate::rows::{closed, fibers, numbers, opened, parts, places, plain, tasks, texts, worlds};
 use crate::scripts::Worked;
 use std::alloc::{AllocGlobal, Global};
 use std::random::RandomSource;
@@ -21,8 +19,10 @@ const MOST_REQUESTS: u32 = 4000;
 #[derive(Clone, Copy)]
 pub enum Row {
     Places(places::Of),
-    Marks(marks::Of),
-    Put(tasks::Target),
+    /// Tasks are put into a deque.
+    Put,
+    /// A task is stolen, with as many others as there is room for.
+    Steal,
     Numbers(numbers::Of),
     Part(parts::Of),
     Closed(closed::Of),
@@ -46,13 +46,9 @@ pub enum OnScript {
 }
 
 impl Row {
-    /// Whether it runs fibers by several workers, each on a thread of its own.
-    fn has_threads(self) -> bool {
-        match self {
-            Row::OnScript(OnScript::Run(workers)) => workers > 1,
-            Row::Command(said) => said.workers > 1,
-            _ => false,
-        }
+    /// Whether it is a call of the kit that does without the memory that it is refused, and so cannot tell.
+    fn does_without(self) -> bool {
+        matches!(self, Row::Steal)
     }
 }
 
@@ -66,8 +62,8 @@ fn made<R: Wait + Threads + Sync + RandomSource + AllocGlobal + Drop>(
 ) -> Answer {
     match row {
         Row::Places(of) => places::tried(alloc, of, trial),
-        Row::Marks(of) => marks::tried(alloc, of, trial),
-        Row::Put(target) => tasks::tried(rt, alloc, target, trial),
+        Row::Put => tasks::put(rt, alloc, trial),
+        Row::Steal => tasks::stolen(rt, alloc, &trial.refuser),
         Row::Numbers(of) => numbers::made(alloc, of, &trial.refuser),
         Row::Part(of) => parts::made(rt, alloc, of, &trial.refuser),
         Row::Closed(of) => closed::made(rt, alloc, of, &trial.refuser),
@@ -132,33 +128,21 @@ fn tried<R: Wait + Threads + Sync + RandomSource + AllocGlobal + Drop>(
     }
 }
 
-/// How many requests were met before the first one that was not made, and there must be some. Some must be told too:
-/// where each was spared, want of memory is hidden.
-fn counted(count: u32, has_told: bool) -> Result<u32, Wrong> {
-    if count == 0 {
-        Err(Wrong::NoRequest)
-    } else if has_told {
-        Ok(count)
-    } else {
-        Err(Wrong::Hidden)
-    }
-}
-
-/// Refuses the first request, the second and so on, and with that reach all after it, until none is met: how many were.
+/// Refuses the first request, the second and so on, and with that reach all after it, until none is met: how many were,
+/// and there must be some.
 fn requests_at<R: Wait + Threads + Sync + RandomSource + AllocGlobal + Drop>(
     rt: &R,
     row: Row,
     on: &Worked,
     reach: Reach,
 ) -> Result<u32, Wrong> {
-    let mut has_told = false;
     for count in 0..MOST_REQUESTS {
         let trial = Trial::begin(rt.alloc(), reach, count + 1);
         match trial.end(tried(rt, rt.alloc(), row, on, &trial)) {
-            Answer::Whole => return counted(count, has_told),
-            Answer::Told => has_told = true,
-            // one for a thread was spared, and the others did its work
-            Answer::Wrong(Wrong::Hidden) if row.has_threads() => {}
+            Answer::Whole if count == 0 => return Err(Wrong::NoRequest),
+            Answer::Whole => return Ok(count),
+            Answer::Told => {}
+            Answer::Wrong(Wrong::Hidden) if row.does_without() => {}
             Answer::Wrong(wrong) => return Err(wrong),
             Answer::Memory | Answer::Goes => return Err(Wrong::Other),
         }
