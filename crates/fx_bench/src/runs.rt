@@ -58,12 +58,7 @@ fn late_of<R: Wait + Threads + Sync + RandomSource + AllocGlobal, G: Gate + Sync
 pub(crate) fn measure<
     R: Wait + Threads + Sync + RandomSource + AllocGlobal + Print,
     G: Gate + Sync,
->(
-    rt: &R,
-    alloc: Global,
-    asked: Asked,
-    gate: &G,
-) -> ExitCode {
+>(rt: &R, alloc: Global, asked: Asked, gate: &G) -> ExitCode {
     let Ok(script) = parse(alloc, asked.script.as_bytes()) else {
         return ExitCode::from(1);
     };

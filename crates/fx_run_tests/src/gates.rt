@@ -22,15 +22,13 @@ impl Gate for Noted {
     fn turn(&self, _worker: u32, fiber: u32) -> Option<u32> {
         let turns = self.turns.load(Ordering::SeqCst);
         let digit = u64::from(fiber).wrapping_add(1);
-        self.turns
-            .store(turns.wrapping_mul(10).wrapping_add(digit), Ordering::SeqCst);
+        self.turns.store(turns.wrapping_mul(10).wrapping_add(digit), Ordering::SeqCst);
         None
     }
 }
 
 /// The main fiber starts 1 in its first turn, and each of its yields ends a turn, as that of 1 does.
-const YIELDS: &str =
-    "(main (start g (seq (cede) (pure 1)) (seq (cede) (seq (cede) (pure 2)))))";
+const YIELDS: &str = "(main (start g (seq (cede) (pure 1)) (seq (cede) (seq (cede) (pure 2)))))";
 
 #[test]
 fn one_worker_asks_once_before_each_turn_in_their_order(rt: HostRuntime) -> Result<(), Fail> {

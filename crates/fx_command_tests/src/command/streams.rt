@@ -135,7 +135,11 @@ fn assert_said(rt: &impl Machine, row: &Row, room: usize, when_full: WhenFull) -
     let ran = run_into(rt, row, output(rt.alloc(), AMPLE, when_full), err)?;
     let said = row.said.as_bytes();
     let said = &said[..room.min(said.len())];
-    assert!(rt; ran.has(row.status, row.printed.as_bytes(), said), "{}, room for {room}", row.script);
+    assert!(rt;
+        ran.has(row.status, row.printed.as_bytes(), said),
+        "{}, room for {room}",
+        row.script
+    );
     Ok(())
 }
 

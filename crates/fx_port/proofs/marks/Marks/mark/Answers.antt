@@ -12,8 +12,7 @@ invariant_of-self c =
     let inv = c.self.invariant in
     let enough = inv.0 in
     let word = with_bit c.index_mut.result.now (c.args.id % 64) in
-    let long = length-set ws (c.args.id / 64) word in
-    (
+    let long = length-set ws (c.args.id / 64) word in (
       omega (arith, enough, long),
       subst (λ (end : ℕ). IsEndOf end (marks_of n (set ws (c.args.id / 64) word))) (sym c.max-self-inside.ensures)
           (end_added n ws c.args.id c.index_mut.result.now c.if-id-self.true enough c.index_mut.ensures.value c.self.inside.end inv.1),
