@@ -219,8 +219,7 @@ fn traces_of<P: Port + Drop>(
     fibers: Vec<Fiber<P>>,
 ) -> Result<Vec<Vec<Event>>, Memory> {
     let mut traces = Vec::new(alloc);
-    let mut fibers = fibers.into_iter();
-    while let Some(fiber) = fibers.next() {
+    for fiber in fibers {
         traces.push(fiber.into_trace())?;
     }
     Ok(traces)
