@@ -11,7 +11,7 @@ use Rattle.fx_model.specs.Run.{first_counts, IsRun, events}
 use Rattle.fx_model.specs.Outside.{outcome_at}
 use Rattle.fx_model.proofs.BalancedRuns.{ended_run_is_balanced}
 use Rattle.fx_model.proofs.CancelledSteps.{cancels_where_opened}
-use Rattle.fx_term.specs.declared.item.Item.{Item}
+use Rattle.fx_term.specs.Element.{Element}
 use Rattle.fx_term.specs.Script.{ScriptView}
 use Rattle.fx_term.specs.Queue.{items_of, items_taken, accepted_offers}
 use Rattle.fx_model.specs.Report.{FiberReportView, ReportView, fiber_in, parent_in, trace_in, capacity_of}
@@ -113,7 +113,7 @@ offers_told r q capacity h = record {
   rest_is = h.leaves.rest_is;
   orders = h.cuts;
   offers = λ f.
-      subst (λ (left : List Item). items_of f (items_taken h.leaves.last ++ left) ≡ accepted_offers q f (trace_in r f)) h.leaves.rest_is
+      subst (λ (left : List Element). items_of f (items_taken h.leaves.last ++ left) ≡ accepted_offers q f (trace_in r f)) h.leaves.rest_is
       (takes_then_rest capacity q f h.history h.leaves.last (trace_in r f) h.leaves.legal (h.cuts f));
 }
 

@@ -53,3 +53,10 @@ pub mod Takes
 pub mod OneOrder
 pub mod EventLabels
 pub mod CausesFound
+pub mod StampOrder
+pub mod StampedReports
+pub mod ErasedValues
+pub mod TakenStamps
+pub mod ToldStamps
+pub mod KeptStamps
+pub mod CountedStamps

@@ -269,3 +269,11 @@ module _ (trace trace' : ℕ → List Event) (history history' : ℕ → List Qu
       requested = λ a i e none. requested_after a i (requests a i e none);
     };
   }
+
+  -- by these moments
+  pub grown_moments : (causes : (a i b j : ℕ) → i < length (trace' a) → j < length (trace' b) → Needs trace' labels' IsLeft' a i b j
+      → StoodBefore trace labels IsLeft f a i b j)
+      (requests : (a i : ℕ) → slice_get (trace' a) i ≡ Some event.Seen → (IsFromOutside' a → ⊥) → SeenAfter trace IsFromOutside f a i)
+      → (order_grows causes requests).moment ≡ moment'
+  unfolding order_grows
+  grown_moments causes requests = refl

@@ -9,7 +9,7 @@ use Rattle.std.proofs.lemmas.List.{map-append, length-map}
 use Rattle.std.proofs.lemmas.List.Elements.{filter-append, filter_map-append}
 use Rattle.fx_term.specs.declared.event.Event.{Event}
 use Rattle.fx_term.specs.declared.event.Event.TheVariants as event
-use Rattle.fx_term.specs.declared.item.Item.{Item}
+use Rattle.fx_term.specs.Element.{Element}
 use Rattle.fx_term.specs.declared.queue_event.QueueEvent.{QueueEvent}
 use Rattle.fx_term.specs.declared.queue_event.QueueEvent.TheVariants.{Put, Got}
 use Rattle.fx_term.specs.Queue.{cut, Taking, QueueState, empty_queue, after_event, replayed_from, replayed, items_taken, queue_events}
@@ -30,7 +30,7 @@ gots_by f h = filter_map (got_by f) h
 abbrev values_of : List Taking → List ℕ
 values_of ts = map (λ (t : Taking). t.item.value) ts
 
-one_taken : (f g n : ℕ) (x : Item) → x.value ≡ n
+one_taken : (f g n : ℕ) (x : Element) → x.value ≡ n
     → values_of (filter (λ (t : Taking). t.taker == f) (record { taker = g; item = x } ∷ [])) ≡ gots_by f (Got g n ∷ [])
 one_taken f g n x is = elim (cases_eq g f) [
   | inl e ↦ rw (eq-eqb g f e) (ap (λ (k : ℕ). k ∷ []) is)
@@ -186,11 +186,11 @@ taken_has_value c q f n h last t trace i r e got at =
     (sym taken ∙ ap (λ (ns : List ℕ). slice_get ns k) (takes_are_got c q f h last trace r e) ∙ value_at_get q n trace i got)
 
 -- an element of numbered values has the value of its number
-numbered_at : (f k : ℕ) (ns : List ℕ) (i : ℕ) (x : Item) → slice_get (numbered f k ns) i ≡ Some x → (x.nth ≡ k + i) × (slice_get ns i ≡ Some x.value)
+numbered_at : (f k : ℕ) (ns : List ℕ) (i : ℕ) (x : Element) → slice_get (numbered f k ns) i ≡ Some x → (x.nth ≡ k + i) × (slice_get ns i ≡ Some x.value)
 numbered_at f k [] i x e = absurd (none-some x e)
 numbered_at f k (n ∷ ns) zero x e =
     let same = same_Some _ x e in
-    (let p : k ≡ x.nth = ap (λ (y : Item). y.nth) same in omega arith, ap (λ (y : Item). Some y.value) same)
+    (let p : k ≡ x.nth = ap (λ (y : Element). y.nth) same in omega arith, ap (λ (y : Element). Some y.value) same)
 numbered_at f k (n ∷ ns) (suc i) x e = let later = numbered_at f (k + 1) ns i x e in (let p = later.0 in omega arith, later.1)
 
 -- what is taken is one of what its fiber put: among the values of that fiber's puts the one of its number is its own
@@ -203,10 +203,10 @@ taken_was_put c q f nth h last t trace r e at =
     let item : slice_get (items_taken last) own.place ≡ Some t.item =
     slice_get-map (λ (u : Taking). u.item) last.taken own.place ∙ ap (option_map (λ (u : Taking). u.item)) own.at in
     let put : slice_get last.put own.place ≡ Some t.item =
-    subst (λ (xs : List Item). slice_get xs own.place ≡ Some t.item) (replay_accounts c empty_queue h last r refl)
+    subst (λ (xs : List Element). slice_get xs own.place ≡ Some t.item) (replay_accounts c empty_queue h last r refl)
     (still_at (items_taken last) last.items own.place t.item item) in
-    let among = filter_keeps (λ (x : Item). x.fiber == g) last.put own.place t.item put (eq-eqb g g refl) in
+    let among = filter_keeps (λ (x : Element). x.fiber == g) last.put own.place t.item put (eq-eqb g g refl) in
     let found = numbered_at g 0 (values_put q trace) among.place t.item
-    (subst (λ (xs : List Item). slice_get xs among.place ≡ Some t.item) (elements_are_offers c q g h last trace r e) among.at) in
+    (subst (λ (xs : List Element). slice_get xs among.place ≡ Some t.item) (elements_are_offers c q g h last trace r e) among.at) in
     let number : t.item.nth ≡ among.place = (let p = found.0 in omega arith) in
     ap (λ (k : ℕ). slice_get (values_put q trace) k) number ∙ found.1

@@ -19,4 +19,10 @@ pub mod Report
 pub mod LawfulReport
 pub mod Headline
 pub mod Causes
+pub mod Stamps
+pub mod StampedQueue
+pub mod ToldStamps
+pub mod KeptStamps
+pub mod ReportStamps
+pub mod CountedStamps
 pub mod Happenings

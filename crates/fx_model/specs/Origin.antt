@@ -27,4 +27,4 @@ origin_of nodes b = record { term = fill (length b.slots) b.slots (term_of nodes
 
 -- what the main fiber of a code is given: the root, no number for a name, and the range from 1 on
 abbrev pub main_begin_of : List Node → Begin
-main_begin_of nodes = record { node = record { 0 = length nodes - 1 }; slots = []; next = 1; end = 1 + need (root_term nodes) }
+main_begin_of nodes = record { node = record { 0 = length nodes - 1 }; slots = []; next = 1; end = 1 + need (root_term nodes); stamp = 0 }

@@ -4,7 +4,7 @@ use Rattle.std.specs.List.{find, list_any}
 use Rattle.fx_term.specs.declared.outcome.Outcome.{Outcome}
 use Rattle.fx_term.specs.declared.event.Event.{Event}
 use Rattle.fx_term.specs.declared.event.Event.TheVariants as event
-use Rattle.fx_term.specs.declared.item.Item.{Item}
+use Rattle.fx_term.specs.Element.{Element}
 use Rattle.fx_term.specs.Script.{ScriptView}
 use Rattle.fx_model.specs.Outside.{Outside}
 
@@ -14,12 +14,13 @@ pub record FiberReportView : Type 0 where
   pub parent : Option ℕ
   pub has_ended : Bool
   pub trace : List Event
+  pub stamps : List ℕ
 
 -- a report: its fibers; what is left in each queue, from front to back; the numbers that were requested from outside; and how many waiting fibers only a sweep
 -- put back
 pub record ReportView : Type 0 where
   pub fibers : List FiberReportView
-  pub left : List (List Item)
+  pub left : List (List Element)
   pub outside : List ℕ
   pub late : ℕ
 
@@ -46,7 +47,7 @@ abbrev pub trace_in : ReportView → ℕ → List Event
 trace_in r f = trace_of_report (fiber_in r f)
 
 -- what is left in the queue of that number
-abbrev pub left_in : ReportView → ℕ → List Item
+abbrev pub left_in : ReportView → ℕ → List Element
 left_in r q = slice_index_or r.left q []
 
 -- how many elements the queue of that number can hold; none where the script declares no such queue

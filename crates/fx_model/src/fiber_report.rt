@@ -1,6 +1,6 @@
 //! What is reported of one fiber.
 
-use fx_term::Event;
+use fx_term::Stamped;
 use std::marker::Model;
 
 /// How a fiber is at the end of a run.
@@ -34,12 +34,13 @@ pub struct FiberReport {
     pub id: u32,
     pub parent: Option<u32>,
     pub state: State,
-    pub trace: Vec<Event>,
+    pub trace: Vec<Stamped>,
 }
 
 impl Model for FiberReport {
     ghost use Rattle.fx_model.specs.FiberReport.{is_ended};
     ghost use Rattle.fx_model.specs.Report.{FiberReportView};
+    ghost use Rattle.fx_term.specs.Stamped.{events_in, stamps_in};
 
     ghost Value = { FiberReportView };
 
@@ -47,6 +48,7 @@ impl Model for FiberReport {
       id = f.id;
       parent = f.parent;
       has_ended = is_ended f.state;
-      trace = f.trace.items;
+      trace = events_in f.trace.items;
+      stamps = stamps_in f.trace.items;
     } };
 }

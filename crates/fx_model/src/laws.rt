@@ -8,4 +8,5 @@ pub mod ranges;
 pub mod reports;
 pub mod resources;
 pub mod scopes;
+pub mod stamps;
 pub mod waits;

@@ -20,6 +20,9 @@
 //! | `FiberReport`, `Report` | what is reported of a script's fibers ([`Report`]) |
 //! | `LawfulReport` | the reports that such fibers can have |
 //! | `Headline`, `Causes` | what a lawful report says once all its fibers have ended; and what each event of it stands on |
+//! | `Stamps`, `KeptStamps` | the stamps of events, above those of their causes; and what one fiber keeps of them |
+//! | `StampedQueue`, `ToldStamps` | how stamps go through a queue with its elements; what fibers, words and queues tell of them |
+//! | `CountedStamps` | the traces of two scripts, with stamps that were counted by hand |
 //!
 //! The rules, of which a step makes one:
 //!
@@ -49,6 +52,7 @@
 //! | [`laws::ranges`], [`laws::puts`] | starts take their numbers in the fiber's range; puts are bounded by the term |
 //! | [`laws::waits`] | a fiber that waits can step exactly where what it waits for has come |
 //! | [`laws::reports`] | a lawful report has what is promised; what an event stands on is there |
+//! | [`laws::stamps`] | stamps put the events in one order in which causes come first; what is told of them makes them so |
 #![tactic(auto)]
 
 mod closed;

@@ -18,12 +18,13 @@ pub struct Report {
 impl Model for Report {
     ghost use Rattle.std.specs.Prelude.{map};
     ghost use Rattle.fx_model.specs.Report.{ReportView};
+    ghost use Rattle.fx_term.specs.Element.{elements_of};
 
     ghost Value = { ReportView };
 
     ghost view = { λ r. record {
       fibers = r.fibers.items;
-      left = map (λ items. items.items) r.left.items;
+      left = map (λ items. elements_of items.items) r.left.items;
       outside = r.outside.items;
       late = r.late;
     } };

@@ -9,7 +9,7 @@ use Rattle.std.proofs.lemmas.List.{length-append, map-append}
 use Rattle.std.proofs.lemmas.List.Elements.{filter-append, filter_map-append}
 use Rattle.fx_term.specs.declared.event.Event.{Event}
 use Rattle.fx_term.specs.declared.event.Event.TheVariants as event
-use Rattle.fx_term.specs.declared.item.Item.{Item}
+use Rattle.fx_term.specs.Element.{Element}
 use Rattle.fx_term.specs.declared.queue_event.QueueEvent.{QueueEvent}
 use Rattle.fx_term.specs.declared.queue_event.QueueEvent.TheVariants.{Put, Got}
 use Rattle.fx_term.specs.Queue.{cut, Taking, QueueState, empty_queue, items_of, next_item, with_put, with_taken, after_got, after_event, replayed_from}
@@ -25,14 +25,14 @@ replayed_append c s [] k = refl
 replayed_append c s (e ∷ h) k = replayed_append c (after_event c s e) h k
 
 -- a get that is legal
-pub record IsGet (s : QueueState) (f n : ℕ) (xs : List Item) (s' : QueueState) : Type 0 where
-  pub front : Item
-  pub rest : List Item
+pub record IsGet (s : QueueState) (f n : ℕ) (xs : List Element) (s' : QueueState) : Type 0 where
+  pub front : Element
+  pub rest : List Element
   pub items : xs ≡ front ∷ rest
   pub value : front.value ≡ n
   pub after : with_taken s f front rest ≡ s'
 
-pub get_parts : (s : QueueState) (f n : ℕ) (xs : List Item) (s' : QueueState) → after_got s f n xs ≡ Some s' → IsGet s f n xs s'
+pub get_parts : (s : QueueState) (f n : ℕ) (xs : List Element) (s' : QueueState) → after_got s f n xs ≡ Some s' → IsGet s f n xs s'
 get_parts s f n [] s' e = absurd (none-some s' e)
 get_parts s f n (x ∷ rest) s' e =
     let p = cond_some (x.value == n) (with_taken s f x rest) s' e in
@@ -45,14 +45,14 @@ put_is c s f n s' e = (cond_some (nat_lt (length s.items) c) (with_put s (next_i
 abbrev pub Accounts : QueueState → Type 0
 Accounts s = items_taken s ++ s.items ≡ s.put
 
-put_accounts : (s : QueueState) (x : Item) → Accounts s → Accounts (with_put s x)
-put_accounts s x h = sym (append_assoc (items_taken s) s.items (x ∷ [])) ∙ ap (λ (xs : List Item). xs ++ x ∷ []) h
+put_accounts : (s : QueueState) (x : Element) → Accounts s → Accounts (with_put s x)
+put_accounts s x h = sym (append_assoc (items_taken s) s.items (x ∷ [])) ∙ ap (λ (xs : List Element). xs ++ x ∷ []) h
 
-get_accounts : (s : QueueState) (f : ℕ) (x : Item) (rest : List Item) → s.items ≡ x ∷ rest → Accounts s → Accounts (with_taken s f x rest)
+get_accounts : (s : QueueState) (f : ℕ) (x : Element) (rest : List Element) → s.items ≡ x ∷ rest → Accounts s → Accounts (with_taken s f x rest)
 get_accounts s f x rest e h =
-    ap (λ (xs : List Item). xs ++ rest) (map-append (λ (t : Taking). t.item) s.taken (record { taker = f; item = x } ∷ []))
+    ap (λ (xs : List Element). xs ++ rest) (map-append (λ (t : Taking). t.item) s.taken (record { taker = f; item = x } ∷ []))
     ∙ append_assoc (items_taken s) (x ∷ []) rest
-    ∙ ap (λ (xs : List Item). items_taken s ++ xs) (sym e) ∙ h
+    ∙ ap (λ (xs : List Element). items_taken s ++ xs) (sym e) ∙ h
 
 event_accounts : (c : ℕ) (s : QueueState) (e : QueueEvent) (s' : QueueState) → after_event c (Some s) e ≡ Some s' → Accounts s → Accounts s'
 event_accounts c s (Put f n) s' e h = subst Accounts (put_is c s f n s' e) (put_accounts s (next_item s f n) h)
@@ -90,7 +90,8 @@ length-numbered f k (n ∷ ns) = ap suc (length-numbered f (k + 1) ns)
 
 pub numbered_append : (f k : ℕ) (ns ms : List ℕ) (j : ℕ) → j ≡ k + length ns → numbered f k (ns ++ ms) ≡ numbered f k ns ++ numbered f j ms
 numbered_append f k [] ms j e = ap (λ (i : ℕ). numbered f i ms) (let p : k ≡ j = omega arith in p)
-numbered_append f k (n ∷ ns) ms j e = ap (λ (xs : List Item). record { fiber = f; nth = k; value = n } ∷ xs) (numbered_append f (k + 1) ns ms j (omega arith))
+numbered_append f k (n ∷ ns) ms j e =
+    ap (λ (xs : List Element). record { fiber = f; nth = k; value = n } ∷ xs) (numbered_append f (k + 1) ns ms j (omega arith))
 
 -- one element more of a fiber, by that fiber or another
 one_put : (s : QueueState) (f g n : ℕ) → items_of f (next_item s g n ∷ []) ≡ numbered f (length (items_of f s.put)) (values_by f (Put g n ∷ []))
@@ -106,7 +107,7 @@ GrowsBy f s s' ns = items_of f s'.put ≡ items_of f s.put ++ numbered f (length
 event_grows : (c f : ℕ) (s : QueueState) (e : QueueEvent) (s' : QueueState) → after_event c (Some s) e ≡ Some s' → GrowsBy f s s' (values_by f (e ∷ []))
 event_grows c f s (Put g n) s' e =
     subst (λ (t : QueueState). GrowsBy f s t (values_by f (Put g n ∷ []))) (put_is c s g n s' e)
-    (filter-append (λ (x : Item). x.fiber == f) s.put (next_item s g n ∷ []) ∙ ap (λ (xs : List Item). items_of f s.put ++ xs) (one_put s f g n))
+    (filter-append (λ (x : Element). x.fiber == f) s.put (next_item s g n ∷ []) ∙ ap (λ (xs : List Element). items_of f s.put ++ xs) (one_put s f g n))
 event_grows c f s (Got g n) s' e =
     let p = get_parts s g n s.items s' e in
     subst (λ (t : QueueState). GrowsBy f s t []) p.after (sym (append-nil (items_of f s.put)))
@@ -126,8 +127,8 @@ replay_grows c f s (e ∷ h) last r =
     ap length one ∙ length-append (items_of f s.put) (numbered f k now) ∙ ap (λ (i : ℕ). k + i) (length-numbered f k now) in
     let all : numbered f k now ++ numbered f j later ≡ numbered f k (values_by f (e ∷ h)) =
     sym (numbered_append f k now later j count) ∙ ap (numbered f k) (sym (filter_map-append (value_by f) (e ∷ []) h)) in
-    replay_grows c f p.next h last p.rest ∙ ap (λ (xs : List Item). xs ++ numbered f j later) one
-    ∙ append_assoc (items_of f s.put) (numbered f k now) (numbered f j later) ∙ ap (λ (xs : List Item). items_of f s.put ++ xs) all
+    replay_grows c f p.next h last p.rest ∙ ap (λ (xs : List Element). xs ++ numbered f j later) one
+    ∙ append_assoc (items_of f s.put) (numbered f k now) (numbered f j later) ∙ ap (λ (xs : List Element). items_of f s.put ++ xs) all
 
 -- the value of a put
 abbrev pub value_of : QueueEvent → Option ℕ

@@ -1,5 +1,7 @@
 pub mod Term
 pub mod Signature
+pub mod Stamped
+pub mod Element
 pub mod Need
 pub mod Scope
 pub mod Forms

@@ -3,7 +3,7 @@ use Rattle.std.specs.Prelude.{◌≡◌, ℕ, ◌+◌, ◌==◌, nat_lt, if◌th
 use Rattle.std.specs.List.{filter, filter_map}
 use Rattle.fx_term.specs.declared.event.Event.{Event}
 use Rattle.fx_term.specs.declared.event.Event.TheVariants as event
-use Rattle.fx_term.specs.declared.item.Item.{Item}
+use Rattle.fx_term.specs.Element.{Element}
 use Rattle.fx_term.specs.declared.queue_event.QueueEvent.{QueueEvent}
 use Rattle.fx_term.specs.declared.queue_event.QueueEvent.TheVariants.{Put, Got}
 
@@ -24,35 +24,35 @@ puts (Got f n ∷ h) = puts h
 -- an element that was taken, and the fiber that took it
 pub record Taking : Type 0 where
   pub taker : ℕ
-  pub item : Item
+  pub item : Element
 
 -- a queue as its history leaves it: what was put and what was taken, each in order, and what it holds, from front to back
 pub record QueueState : Type 0 where
-  pub put : List Item
+  pub put : List Element
   pub taken : List Taking
-  pub items : List Item
+  pub items : List Element
 
 abbrev pub empty_queue : QueueState
 empty_queue = record { put = []; taken = []; items = [] }
 
 -- the elements that one fiber put
-abbrev pub items_of : ℕ → List Item → List Item
-items_of f xs = filter (λ (x : Item). x.fiber == f) xs
+abbrev pub items_of : ℕ → List Element → List Element
+items_of f xs = filter (λ (x : Element). x.fiber == f) xs
 
 -- what a fiber puts next: its nth is the number of its earlier puts
-abbrev pub next_item : QueueState → ℕ → ℕ → Item
+abbrev pub next_item : QueueState → ℕ → ℕ → Element
 next_item s f n = record { fiber = f; nth = length (items_of f s.put); value = n }
 
 -- the queue with this element at the back
-abbrev pub with_put : QueueState → Item → QueueState
+abbrev pub with_put : QueueState → Element → QueueState
 with_put s x = record s { put = s.put ++ x ∷ []; items = s.items ++ x ∷ [] }
 
 -- the queue without this front, which that fiber took, and with this rest
-abbrev pub with_taken : QueueState → ℕ → Item → List Item → QueueState
+abbrev pub with_taken : QueueState → ℕ → Element → List Element → QueueState
 with_taken s f x rest = record s { taken = s.taken ++ record { taker = f; item = x } ∷ []; items = rest }
 
 -- a fiber takes the front of this list, if it has this value
-abbrev pub after_got : QueueState → ℕ → ℕ → List Item → Option QueueState
+abbrev pub after_got : QueueState → ℕ → ℕ → List Element → Option QueueState
 after_got s f n [] = None
 after_got s f n (x ∷ rest) = if x.value == n then Some (with_taken s f x rest) else None
 
@@ -71,13 +71,13 @@ abbrev pub replayed : ℕ → List QueueEvent → Option QueueState
 replayed capacity h = replayed_from capacity (Some empty_queue) h
 
 -- the history is legal, and this is its rest
-pub record Leaves (capacity : ℕ) (h : List QueueEvent) (rest : List Item) : Type 0 where
+pub record Leaves (capacity : ℕ) (h : List QueueEvent) (rest : List Element) : Type 0 where
   pub last : QueueState
   pub legal : replayed capacity h ≡ Some last
   pub rest_is : last.items ≡ rest
 
 -- the elements that were taken, in order
-abbrev pub items_taken : QueueState → List Item
+abbrev pub items_taken : QueueState → List Element
 items_taken s = map (λ (t : Taking). t.item) s.taken
 
 -- what an event of fiber f is to queue q
@@ -99,10 +99,19 @@ abbrev pub values_put : ℕ → List Event → List ℕ
 values_put q es = filter_map (value_put q) es
 
 -- values as elements of fiber f, whose nth count from here on
-abbrev pub numbered : ℕ → ℕ → List ℕ → List Item
+abbrev pub numbered : ℕ → ℕ → List ℕ → List Element
 numbered f nth [] = []
 numbered f nth (n ∷ ns) = record { fiber = f; nth = nth; value = n } ∷ numbered f (nth + 1) ns
 
 -- the accepted offers of fiber f on queue q: what its trace puts there, in order
-abbrev pub accepted_offers : ℕ → ℕ → List Event → List Item
+abbrev pub accepted_offers : ℕ → ℕ → List Event → List Element
 accepted_offers q f trace = numbered f 0 (values_put q trace)
+
+-- who did what, without the value
+abbrev pub erase_event : QueueEvent → QueueEvent
+erase_event (Put f n) = Put f 0
+erase_event (Got f n) = Got f 0
+
+-- the same fibers did the same in both, with other values
+abbrev pub AreAlike : List QueueEvent → List QueueEvent → Type 0
+AreAlike h k = map erase_event h ≡ map erase_event k

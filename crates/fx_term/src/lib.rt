@@ -30,6 +30,7 @@ mod offered;
 mod outcome;
 mod queue_event;
 mod registers;
+mod stamped;
 
 pub use begin::Begin;
 pub use code::{Code, CodeBrand, CodeFault, MOST_NEED, MOST_TURNS, need_of_node, turns_of_loop};
@@ -43,3 +44,4 @@ pub use offered::Offered;
 pub use outcome::Outcome;
 pub use queue_event::QueueEvent;
 pub use registers::Registers;
+pub use stamped::Stamped;
