@@ -17,8 +17,8 @@ puts-snoc_got [] f v = refl
 puts-snoc_got (Put g w ∷ l) f v = ap (λ (k : ℕ). k + 1) (puts-snoc_got l f v)
 puts-snoc_got (Got g w ∷ l) f v = puts-snoc_got l f v
 
-pub put_count : (v : PassView) (value : ℕ) (w : PassView) → DidPut v value w → puts w.own.acts ≡ puts v.own.acts + 1
-put_count v value w m = ap (λ (u : PassView). puts u.own.acts) m.is ∙ puts-snoc_put v.own.acts v.own.id value
+pub put_count : (v : PassView) (value stamp : ℕ) (w : PassView) → DidPut v value stamp w → puts w.own.acts ≡ puts v.own.acts + 1
+put_count v value stamp w m = ap (λ (u : PassView). puts u.own.acts) m.is ∙ puts-snoc_put v.own.acts v.own.id value
 
 pub got_count : (v : PassView) (x : Item) (w : PassView) → DidGet v x w → puts w.own.acts ≡ puts v.own.acts
 got_count v x w m = ap (λ (u : PassView). puts u.own.acts) m.is ∙ puts-snoc_got v.own.acts v.own.id x.value

@@ -1,10 +1,12 @@
 -- Cuts of histories, and histories that go on.
-use Rattle.std.proofs.Common.{◌≡◌, ◌≢◌, ℕ, ◌==◌, Bool, true, false, List, [], ◌∷◌, ◌++◌, cond, refl, sym, ◌∙◌, ap, eq-eqb, ne_eqb, append_assoc, append-nil}
-use Rattle.std.proofs.lemmas.List.{append_cancel_left}
+use Rattle.std.proofs.Common.{◌≡◌, ◌≢◌, ℕ, ◌+◌, ◌==◌, Bool, true, false, List, [], ◌∷◌, ◌++◌, map, cond, refl, sym, ◌∙◌, ap, subst}
+use Rattle.std.proofs.Common.{eq-eqb, ne_eqb, append_assoc, append-nil}
+use Rattle.std.proofs.lemmas.List.{append_cancel_left, map-append}
 use mathlib.Core.Logic.{dite}
 use native.Mathlib.Decide.{ℕ_discrete}
 use Rattle.fx_term.specs.declared.queue_event.QueueEvent.{QueueEvent}
-use Rattle.fx_term.specs.Queue.{cut, fiber_of}
+use Rattle.fx_term.specs.declared.queue_event.QueueEvent.TheVariants.{Put, Got}
+use Rattle.fx_term.specs.Queue.{cut, puts, fiber_of, erase_event, AreAlike}
 use Rattle.fx_queue.specs.History.{Begins}
 
 -- the first event of a history, at its own fiber and at another
@@ -65,3 +67,80 @@ all_own f (x ∷ h) none = dite (ℕ_discrete (fiber_of x) f)
     let rest = all_own f h (λ g n. sym (cut-first_other g x h (λ z. n (sym y ∙ z))) ∙ none g n) in
     ap (λ l. x ∷ l) rest ∙ sym (cut-first f x h y))
     (λ n. absurd (no_cons x (cut (fiber_of x) h) (sym (cut-first (fiber_of x) x h refl) ∙ none (fiber_of x) (λ z. n (sym z)))))
+
+-- histories that are alike count the same puts, each fiber's too
+pub puts_alike : (f : ℕ) (h k : List QueueEvent) → AreAlike h k → puts (cut f h) ≡ puts (cut f k)
+puts_alike f [] [] e = refl
+puts_alike f [] (y ∷ k) e = absurd cc
+puts_alike f (x ∷ h) [] e = absurd cc
+puts_alike f (x ∷ h) (y ∷ k) e =
+    let one : erase_event x ≡ erase_event y = cc in
+    let rest : map erase_event h ≡ map erase_event k = cc in
+    one_alike f x y (cut f h) (cut f k) one (puts_alike f h k rest)
+  where
+    one_alike : (f : ℕ) (x y : QueueEvent) (h k : List QueueEvent) → erase_event x ≡ erase_event y → puts h ≡ puts k
+        → puts (cond (fiber_of x == f) (x ∷ h) h) ≡ puts (cond (fiber_of y == f) (y ∷ k) k)
+    one_alike f (Put a m) (Put b n) h k e p =
+        let same : a ≡ b = ap fiber_of e in
+        ap (λ (c : ℕ). puts (cond (c == f) (Put a m ∷ h) h)) same ∙ by_test (b == f) p
+      where
+        by_test : (t : Bool) → puts h ≡ puts k → puts (cond t (Put a m ∷ h) h) ≡ puts (cond t (Put b n ∷ k) k)
+        by_test true p = ap (λ (c : ℕ). c + 1) p
+        by_test false p = p
+    one_alike f (Got a m) (Got b n) h k e p =
+        let same : a ≡ b = ap fiber_of e in
+        ap (λ (c : ℕ). puts (cond (c == f) (Got a m ∷ h) h)) same ∙ by_test (b == f) p
+      where
+        by_test : (t : Bool) → puts h ≡ puts k → puts (cond t (Got a m ∷ h) h) ≡ puts (cond t (Got b n ∷ k) k)
+        by_test true p = p
+        by_test false p = p
+    one_alike f (Put a m) (Got b n) h k e p = absurd (let no : Put a 0 ≡ Got b 0 = e in cc)
+    one_alike f (Got a m) (Put b n) h k e p = absurd (let no : Got a 0 ≡ Put b 0 = e in cc)
+
+pub alike_more : (h k : List QueueEvent) (x y : QueueEvent) → AreAlike h k → erase_event x ≡ erase_event y → AreAlike (h ++ x ∷ []) (k ++ y ∷ [])
+alike_more h k x y same one =
+    map-append erase_event h (x ∷ []) ∙ both same one ∙ sym (map-append erase_event k (y ∷ []))
+  where
+    both : {a b : List QueueEvent} {c d : QueueEvent} → a ≡ b → c ≡ d → a ++ c ∷ [] ≡ b ++ d ∷ []
+    both p q = cc
+
+-- histories that are alike and have the same cuts are the same
+pub alike_same : (h k : List QueueEvent) → AreAlike h k → ((f : ℕ) → cut f h ≡ cut f k) → h ≡ k
+alike_same [] [] e same = refl
+alike_same [] (y ∷ k) e same = absurd cc
+alike_same (x ∷ h) [] e same = absurd cc
+alike_same (x ∷ h) (y ∷ k) e same =
+    let one : erase_event x ≡ erase_event y = cc in
+    let rest : map erase_event h ≡ map erase_event k = cc in
+    let owner : fiber_of x ≡ fiber_of y = sym (erased_fiber x) ∙ ap fiber_of one ∙ erased_fiber y in
+    let firsts : x ∷ cut (fiber_of x) h ≡ y ∷ cut (fiber_of x) k =
+    sym (cut-first (fiber_of x) x h refl) ∙ (same (fiber_of x) ∙ cut-first (fiber_of x) y k (sym owner)) in
+    let first : x ≡ y = cc in
+    let later : h ≡ k =
+    alike_same h k rest (λ f. dite (ℕ_discrete (fiber_of x) f)
+    (λ yes. subst (λ (g : ℕ). cut g h ≡ cut g k) yes (let r : cut (fiber_of x) h ≡ cut (fiber_of x) k = cc in r))
+    (λ no. sym (cut-first_other f x h no) ∙ (same f ∙ cut-first_other f y k (λ z. no (owner ∙ z))))) in
+    cc
+  where
+    erased_fiber : (x : QueueEvent) → fiber_of (erase_event x) ≡ fiber_of x
+    erased_fiber (Put g n) = refl
+    erased_fiber (Got g n) = refl
+
+-- a fiber that did nothing in a history did nothing in one that is alike
+pub cut_none : (f : ℕ) (h k : List QueueEvent) → AreAlike h k → cut f h ≡ [] → cut f k ≡ []
+cut_none f [] [] e none = refl
+cut_none f [] (y ∷ k) e none = absurd cc
+cut_none f (x ∷ h) [] e none = absurd cc
+cut_none f (x ∷ h) (y ∷ k) e none =
+    let one : erase_event x ≡ erase_event y = cc in
+    let rest : map erase_event h ≡ map erase_event k = cc in
+    let owner : fiber_of x ≡ fiber_of y = erased_owner x y one in
+    dite (ℕ_discrete (fiber_of x) f)
+    (λ yes. absurd (no_cons x (cut f h) (sym (cut-first f x h yes) ∙ none)))
+    (λ no. cut-first_other f y k (λ z. no (owner ∙ z)) ∙ cut_none f h k rest (sym (cut-first_other f x h no) ∙ none))
+  where
+    erased_owner : (x y : QueueEvent) → erase_event x ≡ erase_event y → fiber_of x ≡ fiber_of y
+    erased_owner (Put a m) (Put b n) e = ap fiber_of e
+    erased_owner (Got a m) (Got b n) e = ap fiber_of e
+    erased_owner (Put a m) (Got b n) e = ap fiber_of e
+    erased_owner (Got a m) (Put b n) e = ap fiber_of e

@@ -79,8 +79,12 @@ joins p q v w lv lw items views h hv ne hw' =
       book = r.book;
       keeper = r.keeper;
       seat = moved r.cap r.book r.seat p q v w ne;
+      stamps = r.stamps;
       legal = r.legal;
+      legal_stamps = r.legal_stamps;
+      alike = r.alike;
       kept = r.kept;
+      cuts_stamps = r.cuts_stamps;
       set_up = λ k u y. ⊎_elim
           (λ t. subst (λ (x : PassView). x.stage ≢ Blank) t.1 (spent_blank (λ z. z)))
           (λ t. still_set_up views p v (joined v w) hv refl r.set_up k u t.1)

@@ -13,11 +13,12 @@ use Rattle.fx_queue.specs.declared.stage.Stage.TheVariants.{Blank, Live, Spent}
 use Rattle.fx_queue.specs.declared.pass_view.PassView.{PassView}
 use Rattle.fx_term.specs.Lists.{Among}
 use Rattle.fx_term.specs.Maps.{with_at}
+use Rattle.fx_term.specs.Element.{elements_of, stamps_of}
 use Rattle.fx_term.specs.Queue.{cut, Leaves}
 use Rattle.fx_queue.specs.Entry.{new_entry}
 use Rattle.fx_queue.specs.History.{Begins}
 use Rattle.fx_queue.specs.PassView.{blank_view, first_view, nobody_view}
-use Rattle.fx_queue.specs.Rule.{Book, acts_in, Kept, Dealt, Ringed}
+use Rattle.fx_queue.specs.Rule.{Book, acts_in, stamps_in, Kept, Dealt, Ringed}
 use Rattle.fx_term.proofs.MapLaws.{at_that, at_other, at_cases, pick, pick_yes, pick_no}
 use Rattle.fx_term.proofs.LeavesLaws.{leaves_nothing}
 use Rattle.fx_queue.proofs.Views.{spent_live, only_blank}
@@ -52,6 +53,9 @@ module _ (cap n : ℕ) where
 
   no_acts : (i : ℕ) → acts_in (opens_book i) ≡ []
   no_acts i = dite (ℕ_discrete i 0) (λ y. ap acts_in (at_that 0 (Some first) nobody i y)) (λ m. ap acts_in (at_other 0 (Some first) nobody i m))
+
+  no_stamps : (i : ℕ) → stamps_in (opens_book i) ≡ []
+  no_stamps i = dite (ℕ_discrete i 0) (λ y. ap stamps_in (at_that 0 (Some first) nobody i y)) (λ m. ap stamps_in (at_other 0 (Some first) nobody i m))
 
   opens_kept : Kept [] opens_book opens_keeper
   opens_kept = record {
@@ -103,8 +107,12 @@ sets_up p cap n some_fiber items views h here = ⊎_elim
       book = opens_book cap n;
       keeper = opens_keeper cap n;
       seat = λ _. p;
-      legal = subst (λ (l : List Item). Leaves cap [] l) (sym t.0) (leaves_nothing cap);
+      stamps = [];
+      legal = subst (λ (l : List Item). Leaves cap [] (elements_of l)) (sym t.0) (leaves_nothing cap);
+      legal_stamps = subst (λ (l : List Item). Leaves cap [] (stamps_of l)) (sym t.0) (leaves_nothing cap);
+      alike = refl;
       kept = opens_kept cap n;
+      cuts_stamps = λ i. sym (no_stamps cap n i);
       set_up =
           λ q u k. ⊎_elim (λ s. subst (λ (w : PassView). w.stage ≢ Blank) s.1 (first_blank cap n)) (λ s. subst (λ (w : PassView). w.stage ≢ Blank) s
           (none_blank n)) (cases q u k);

@@ -19,7 +19,7 @@ use Rattle.fx_term.specs.Queue.{cut}
 use Rattle.fx_queue.specs.Entry.{new_entry}
 use Rattle.fx_queue.specs.History.{Begins}
 use Rattle.fx_queue.specs.PassView.{kept_part, given_part}
-use Rattle.fx_queue.specs.Rule.{Book, acts_in, IsHanded, Kept, IsBelow, Dealt, Ringed}
+use Rattle.fx_queue.specs.Rule.{Book, acts_in, stamps_in, IsHanded, Kept, IsBelow, Dealt, Ringed}
 use Rattle.fx_term.proofs.ListLaws.{at_end, Among-append, Among-append_left, Among-append_right}
 use Rattle.fx_term.proofs.MapLaws.{at_that, at_other, at_cases, pick, pick_yes, pick_no}
 use Rattle.fx_queue.proofs.Histories.{cut-begins_none, Begins-all}
@@ -121,6 +121,13 @@ module _ (log : List QueueEvent) (book : Book) (keeper : ℕ → Option ℕ) (ke
       (λ m. dite (ℕ_discrete i e.id)
       (λ y. ap acts_in (ap book y ∙ at) ∙ sym (ap acts_in (ap book2 y ∙ left2)))
       (λ k. sym (ap acts_in (else2 i m k))))
+
+  stamps2 : (i : ℕ) → stamps_in (book i) ≡ stamps_in (book2 i)
+  stamps2 i = dite (ℕ_discrete i e.next)
+      (λ y. ap stamps_in (ap book y ∙ unborn) ∙ sym (ap stamps_in (at_that e.next (Some right) book1 i y)))
+      (λ m. dite (ℕ_discrete i e.id)
+      (λ y. ap stamps_in (ap book y ∙ at) ∙ sym (ap stamps_in (ap book2 y ∙ left2)))
+      (λ k. sym (ap stamps_in (else2 i m k))))
 
   -- what others keep
   others2 : (i f : ℕ) → f ≢ e.id → keeper i ≡ Some f → keeper2 i ≡ Some f
@@ -239,8 +246,12 @@ splits p v end live some_number inside items views h here =
       book = book2 r.log r.book r.keeper r.kept v.own at end some_number inside;
       keeper = keeper2 r.log r.book r.keeper r.kept v.own at end some_number inside;
       seat = with_at v.own.next (length (set views p (kept_part end v))) r.seat;
+      stamps = r.stamps;
       legal = r.legal;
+      legal_stamps = r.legal_stamps;
+      alike = r.alike;
       kept = kept2 r.log r.book r.keeper r.kept v.own at end some_number inside;
+      cuts_stamps = λ i. r.cuts_stamps i ∙ stamps2 r.log r.book r.keeper r.kept v.own at end some_number inside i;
       set_up = λ q u k. ⊎_elim (λ t. still_set_up views p v (kept_part end v) here refl r.set_up q u t)
           (λ t. subst (λ (w : PassView). w.stage ≢ Blank) t (live_blank (given_part end v) refl))
           (at_snoc (set views p (kept_part end v)) (given_part end v) u q k);

@@ -13,10 +13,11 @@ use Rattle.fx_queue.specs.declared.stage.Stage.TheVariants.{Blank, Live, Spent}
 use Rattle.fx_queue.specs.declared.pass_view.PassView.{PassView}
 use Rattle.fx_term.specs.Lists.{Among}
 use Rattle.fx_term.specs.Maps.{with_at}
+use Rattle.fx_term.specs.Element.{elements_of, stamps_of}
 use Rattle.fx_term.specs.Queue.{cut, Leaves}
 use Rattle.fx_queue.specs.PassView.{blank_view, In, IsWhole, IsOnlyOf}
 use Rattle.fx_queue.specs.History.{Begins}
-use Rattle.fx_queue.specs.Rule.{Book, acts_in, Root, IsHanded, Kept, IsBelow, Dealt, Running, Ringed}
+use Rattle.fx_queue.specs.Rule.{Book, acts_in, stamps_in, Root, IsHanded, Kept, IsBelow, Dealt, Running, Ringed}
 use Rattle.fx_queue.specs.Told.{IsHandedOn, Tells}
 use Rattle.fx_term.proofs.MapLaws.{at_that, at_other, at_cases}
 use Rattle.fx_queue.proofs.Histories.{all_own}
@@ -138,7 +139,7 @@ module _ (log : List QueueEvent) (cap : ℕ) (book : Book) (keeper : ℕ → Opt
   only f n = kept.cuts f ∙ none_there f (book f) refl n
 
 -- no number but that of a fiber in the book has events
-none_above : (n f : ℕ) (log : List QueueEvent) (book : Book) (keeper : ℕ → Option ℕ) → Kept log book keeper → IsBelow n book → n ≤ f → cut f log ≡ []
+pub none_above : (n f : ℕ) (log : List QueueEvent) (book : Book) (keeper : ℕ → Option ℕ) → Kept log book keeper → IsBelow n book → n ≤ f → cut f log ≡ []
 none_above n f log book keeper kept below le = kept.cuts f ∙ by_entry (book f) refl
   where
     by_entry : (m : Option Entry) → book f ≡ m → acts_in m ≡ []
@@ -146,25 +147,29 @@ none_above n f log book keeper kept below le = kept.cuts f ∙ by_entry (book f)
     by_entry (Some d) at = (let lt = (below f d at).0 in let named = kept.named f d at in absurd (omega (arith, lt, named, le)))
 
 -- nor has one of a fiber that was not started
-none_unborn : (log : List QueueEvent) (book : Book) (keeper : ℕ → Option ℕ) → Kept log book keeper → (e : Entry) → book e.id ≡ Some e
+pub none_unborn : (log : List QueueEvent) (book : Book) (keeper : ℕ → Option ℕ) → Kept log book keeper → (e : Entry) → book e.id ≡ Some e
     → (f : ℕ) → e.next ≤ f → f < e.end → cut f log ≡ []
 none_unborn log book keeper kept e at f le lt = kept.cuts f ∙ ap acts_in (kept.free f e.id (kept.range e.id e at f le lt))
 
 -- what a pass in the book was handed
-handed_on : (log : List QueueEvent) (book : Book) (keeper : ℕ → Option ℕ) → Kept log book keeper → (d e : Entry) → book d.id ≡ Some d → book e.id ≡ Some e
+pub handed_on : (log : List QueueEvent) (book : Book) (keeper : ℕ → Option ℕ) → Kept log book keeper → (d e : Entry) → book d.id ≡ Some d → book e.id ≡ Some e
     → IsHandedOn d e
 handed_on log book keeper kept d e at there h m same =
     let t = kept.handed d.id d at h m in
     (subst (λ (x : Entry). x.began ≡ h.seen) (same_Some t.0 e (sym t.1 ∙ (ap book same ∙ there))) t.2, t.3)
 
-pub tells : (items : List Item) (views : List PassView) (r : Running items views) (p : ℕ) (v : PassView) → get_elem? views p ≡ some v → v.stage ≡ Live
-    → Tells v r.log items
+unfoldable pub tells : (items : List Item) (views : List PassView) (r : Running items views) (p : ℕ) (v : PassView) → get_elem? views p ≡ some v
+    → v.stage ≡ Live → Tells v r.log items
 tells items views r p v at live =
     let d = r.dealt p v at live in
     record {
-      legal = subst (λ (k : ℕ). Leaves k r.log items) (sym d.ready) r.legal;
+      stamps = r.stamps;
+      legal = subst (λ (k : ℕ). Leaves k r.log (elements_of items)) (sym d.ready) r.legal;
+      legal_stamps = subst (λ (k : ℕ). Leaves k r.stamps (stamps_of items)) (sym d.ready) r.legal_stamps;
+      alike = r.alike;
       begins = λ e k. r.kept.begins e.id e (d.here e k).0;
       cuts = λ e k. r.kept.cuts e.id ∙ ap acts_in (d.here e k).0;
+      cuts_stamps = λ e k. r.cuts_stamps e.id ∙ ap stamps_in (d.here e k).0;
       aware = λ e k. r.kept.aware e.id e (d.here e k).0;
       apart = d.others;
       only = λ whole. only r.log r.cap r.book r.keeper r.kept r.seat p v d whole;

@@ -5,8 +5,8 @@ use Rattle.fx_queue.specs.declared.entry.Entry.{Entry}
 
 -- of a fiber that has done nothing, with this range, which has seen this history
 abbrev pub new_entry : ℕ → ℕ → ℕ → List QueueEvent → Entry
-new_entry id next end seen = record { id = id; next = next; end = end; parts = []; handed = []; acts = []; began = seen; seen = seen }
+new_entry id next end seen = record { id = id; next = next; end = end; parts = []; handed = []; acts = []; stamps = []; began = seen; seen = seen }
 
--- after that history it did this
-abbrev pub acting : List QueueEvent → QueueEvent → Entry → Entry
-acting log a e = record e { acts = e.acts ++ a ∷ []; seen = log ++ a ∷ [] }
+-- after that history it did this; the second one is the same with its stamp
+abbrev pub acting : List QueueEvent → QueueEvent → QueueEvent → Entry → Entry
+acting log a b e = record e { acts = e.acts ++ a ∷ []; stamps = e.stamps ++ b ∷ []; seen = log ++ a ∷ [] }

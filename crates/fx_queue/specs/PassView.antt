@@ -40,9 +40,9 @@ given_part end v = record {
   taken = [];
 }
 
--- the view after an event of its own fiber, before which that was the history
-abbrev pub with_act : PassView → List QueueEvent → QueueEvent → PassView
-with_act v log a = record v { own = acting log a v.own }
+-- the view after an event of its own fiber, before which that was the history; the second one is the same with its stamp
+abbrev pub with_act : PassView → List QueueEvent → QueueEvent → QueueEvent → PassView
+with_act v log a b = record v { own = acting log a b v.own }
 
 -- the entry is the view's own, or one that it took in
 abbrev pub In : Entry → PassView → Type 0

@@ -3,7 +3,8 @@ use Rattle.std.specs.Prelude.{◌≡◌, ◌≢◌, ℕ, ◌<◌, ◌≤◌, Lis
 use mathlib.Core.Option.{some}
 use lib.ListN.{get_elem?}
 use Rattle.fx_term.specs.Lists.{Among}
-use Rattle.fx_term.specs.Queue.{cut, Leaves}
+use Rattle.fx_term.specs.Element.{elements_of, stamps_of}
+use Rattle.fx_term.specs.Queue.{cut, Leaves, AreAlike}
 use Rattle.fx_term.specs.declared.item.Item.{Item}
 use Rattle.fx_term.specs.declared.queue_event.QueueEvent.{QueueEvent}
 use Rattle.fx_queue.specs.declared.entry.Entry.{Entry}
@@ -20,6 +21,10 @@ Book = ℕ → Option Entry
 abbrev pub acts_in : Option Entry → List QueueEvent
 acts_in None = []
 acts_in (Some e) = e.acts
+
+abbrev pub stamps_in : Option Entry → List QueueEvent
+stamps_in None = []
+stamps_in (Some e) = e.stamps
 
 -- the fiber i is 0, or a fiber of a lower number split it off
 abbrev pub Root : Book → ℕ → Type 0
@@ -54,14 +59,19 @@ pub record Dealt (cap : ℕ) (book : Book) (seat : ℕ → ℕ) (p : ℕ) (v : P
   pub here : (e : Entry) → In e v → (book e.id ≡ Some e) × (seat e.id ≡ p)
   pub others : (e : Entry) → Among e v.taken → e.id ≢ v.own.id
 
+-- the history of the ring, and in `stamps` the same with stamps in place of values, which leaves the stamps of what the ring holds
 pub record Running (items : List Item) (views : List PassView) : Type 0 where
   pub log : List QueueEvent
   pub cap : ℕ
   pub book : Book
   pub keeper : ℕ → Option ℕ
   pub seat : ℕ → ℕ
-  pub legal : Leaves cap log items
+  pub stamps : List QueueEvent
+  pub legal : Leaves cap log (elements_of items)
+  pub legal_stamps : Leaves cap stamps (stamps_of items)
+  pub alike : AreAlike log stamps
   pub kept : Kept log book keeper
+  pub cuts_stamps : (i : ℕ) → cut i stamps ≡ stamps_in (book i)
   pub set_up : (p : ℕ) (v : PassView) → get_elem? views p ≡ some v → v.stage ≢ Blank
   pub dealt : (p : ℕ) (v : PassView) → get_elem? views p ≡ some v → v.stage ≡ Live → Dealt cap book seat p v
 

@@ -15,6 +15,8 @@ pub struct Entry {
     pub handed: LinkedList<Handed>,
     /// Its own events, the oldest first.
     pub acts: LinkedList<QueueEvent>,
+    /// The same with the stamps of the puts, its own or of what it took, in place of the values.
+    pub stamps: LinkedList<QueueEvent>,
     /// What its starter had seen when it split this pass off.
     pub began: LinkedList<QueueEvent>,
     /// All events up to its latest one, or, where it has none yet, what it began with.

@@ -99,10 +99,11 @@ impl FiberQueue {
         QueuePass { pass: other }
     }
 
-    /// Puts the item at the back (`tryOffer`). Its `nth` is how often its fiber has put here before. It
-    /// comes back only where a legal history leaves the queue full, and then nothing has changed. That
-    /// history is told by itself, behind this one refusal: what other passes do in it is not told to be
-    /// what they did. That one history has the puts and gets of all passes is what `close` says.
+    /// Puts the item at the back (`tryOffer`). Its `nth` is how often its fiber has put here before, and
+    /// its `stamp` that of this put, which comes out with it. It comes back only where a legal history
+    /// leaves the queue full, and then nothing has changed. That history is told by itself, behind this
+    /// one refusal: what other passes do in it is not told to be what they did. That one history has the
+    /// puts and gets of all passes is what `close` says.
     #[inline(always)]
     pub fn offer_as<R: Wait>(&self, rt: &R, pass: &mut QueuePass, item: Item) -> Result<(), Item>
         requires queue { IsOf pass.old self.now }
@@ -110,7 +111,7 @@ impl FiberQueue {
             × (item.nth ≡ puts pass.old.view.own.acts) }
         ensures same { IsSameFiber pass.old pass.new }
         ensures rule { MatchResult result
-            (λ _. DidPut pass.old.view item.value pass.new.view)
+            (λ _. DidPut pass.old.view item.value item.stamp pass.new.view)
             (λ x. (x ≡ item) × (pass.new ≡ pass.old)
             × Held pass.old.view.cap (stands pass.old.view)) }
     {

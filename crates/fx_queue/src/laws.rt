@@ -1,6 +1,7 @@
 //! Laws of histories and of what passes know. The functions do nothing: their contracts are the laws.
 ghost use Rattle.std.specs.Prelude.{◌≡◌, ◌+◌, ℕ, List, []};
 ghost use Rattle.fx_term.specs.declared.item.Item.{Item};
+ghost use Rattle.fx_term.specs.Element.{Element};
 ghost use Rattle.fx_term.specs.declared.queue_event.QueueEvent.{QueueEvent};
 ghost use Rattle.fx_term.specs.Queue.{Leaves, puts};
 ghost use Rattle.fx_queue.specs.declared.pass_view.PassView.{PassView};
@@ -8,7 +9,7 @@ ghost use Rattle.fx_queue.specs.Told.{Tells, DidPut, DidGet};
 
 /// A legal history leaves one list.
 pub fn one_rest()
-    ensures { (cap : ℕ) (h : List QueueEvent) (xs ys : List Item)
+    ensures { (cap : ℕ) (h : List QueueEvent) (xs ys : List Element)
         → Leaves cap h xs → Leaves cap h ys → xs ≡ ys }
 {}
 
@@ -22,7 +23,7 @@ pub fn alone()
 
 /// A put counts one, and a get none, among the puts of its fiber.
 pub fn puts_are_counted()
-    ensures put { (v : PassView) (value : ℕ) (w : PassView) → DidPut v value w
+    ensures put { (v : PassView) (value stamp : ℕ) (w : PassView) → DidPut v value stamp w
         → puts w.own.acts ≡ puts v.own.acts + 1 }
     ensures got { (v : PassView) (x : Item) (w : PassView) → DidGet v x w
         → puts w.own.acts ≡ puts v.own.acts }

@@ -33,10 +33,12 @@
 //! 4. `close` gives the rest of a history whose cuts are the lists of the gathered passes, as they were
 //!    when it was called, and which has no event of anybody else. It begins with all that each pass had
 //!    seen, so that all puts and gets are told by one history.
-//! 5. Those who wait at a side stand in a ring behind a small lock, each once. That the one listed
+//! 5. An element has the stamp of its put. The history is legal with stamps in place of values too, by
+//!    the same fibers in the same order: so an element comes out with the stamp that it went in with.
+//! 6. Those who wait at a side stand in a ring behind a small lock, each once. That the one listed
 //!    longest is next is proved of that ring, and of the queue it is tested, since a contract says
 //!    nothing of what is behind a lock. Where nobody waits `next_waiter` takes no lock.
-//! 6. `new` and `close` alone take memory.
+//! 7. `new` and `close` alone take memory.
 #![tactic(auto)]
 
 mod entry;

@@ -60,7 +60,7 @@ impl<B: Range> Split<PassView> for SplitOff<B> {
 pub struct Put;
 
 impl Outcome<Item, PassView> for Put {
-    ghost then = { λ v x w. DidPut v x.value w };
+    ghost then = { λ v x w. DidPut v x.value x.stamp w };
 }
 
 impl Lesson<Item, PassView> for Put {

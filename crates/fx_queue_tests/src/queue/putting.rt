@@ -15,7 +15,8 @@ pub(crate) struct Tally {
     pub(crate) sum: u64,
 }
 
-/// Offers these values, each once, and counts those that were put.
+/// Offers these values, each once, and counts those that were put. The first that is put has the stamp 1,
+/// and each one after it the next.
 pub(crate) fn put<R: Wait>(
     rt: &R,
     queue: &FiberQueue,
@@ -30,14 +31,19 @@ pub(crate) fn put<R: Wait>(
     let mut nth = 0u64;
     let mut sum = 0u64;
     'putting: for value in values {
-        let item = Item { fiber, nth, value };
+        let Some(stamp) = nth.checked_add(1) else {
+            break;
+        };
+        let item = Item {
+            fiber,
+            nth,
+            value,
+            stamp,
+        };
         match queue.offer_as(rt, &mut pass, item) {
             Ok(()) => {
                 sum = sum.wrapping_add(value);
-                let Some(next) = nth.checked_add(1) else {
-                    break;
-                };
-                nth = next;
+                nth = stamp;
             }
             Err(_full) => {}
         }

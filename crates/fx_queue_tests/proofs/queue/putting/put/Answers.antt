@@ -7,7 +7,7 @@ pub putting-preserved-in-Ok : goal.putting-preserved-in-Ok
 putting-preserved-in-Ok g c =
     let inv = c.putting.invariant in
     let same = c.offer_as.ensures.same in
-    let counted = put_count c.putting.pass.view _ c.offer_as.new.pass.view c.in-Ok.ensures.rule in
+    let counted = put_count c.putting.pass.view _ _ c.offer_as.new.pass.view c.in-Ok.ensures.rule in
     record {
       of = (same.table ∙ inv.of.0, same.cap ∙ inv.of.1);
       same = same_then _ _ _ inv.same same;
