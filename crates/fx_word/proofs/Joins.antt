@@ -18,6 +18,7 @@ use Rattle.fx_word.specs.declared.seat_view.SeatView.{SeatView}
 use Rattle.fx_word.specs.Entry.{splits_of}
 use Rattle.fx_word.specs.SeatView.{spent_view, In, entries, all_parts, joined, IsWhole, IsSettled, AreSplitOffOnce}
 use Rattle.fx_word.specs.Rule.{Book, outcome_in, begin_in, facts, Fits, Kept, Dealt, Held, Ruled}
+use Rattle.fx_word.specs.Stamps.{HasEndedWith, KeepsStamps}
 use Rattle.fx_word.proofs.SplitCounts.{Apart-append, splits_never, splits_by_one}
 use Rattle.fx_word.proofs.OwnSteps.{at_below}
 
@@ -110,7 +111,7 @@ pub joins : (n p q : ℕ) (v w : SeatView) → v.spent ≡ false → w.spent ≡
     → Joins (λ (s : State (Unit {0}) SeatView). Ruled n s.words s.views) p v q w (joined v w) spent_view
 joins n p q v w fv fw s h hv ne hw' =
     let hw : get_elem? s.views q ≡ some w = ⊎_elim (λ t. absurd (ne t.0)) (λ t. t.1) (at_set s.views p q (joined v w) w hw') in
-    (h.0, h.1, h.2, _, h.4, all_dealt h.0 h.3 p q v w ne s.views fv fw hv hw h.5, all_held h.0 h.3 p q v w ne s.views fv hv hw h.6)
+    (h.0, h.1, h.2, _, h.4, all_dealt h.0 h.3 p q v w ne s.views fv fw hv hw h.5, all_held h.0 h.3 p q v w ne s.views fv hv hw h.6, h.7)
 
 -- each entry of the book is in the view of a first seat that has taken in all
 module _ (n : ℕ) (words : List ℕ) (book : Book) (bit : ℕ → Bool) (keeper : ℕ → Option ℕ) (kept : Kept n words book bit keeper)
@@ -155,11 +156,17 @@ module _ (n : ℕ) (words : List ℕ) (book : Book) (bit : ℕ → Bool) (keeper
   by_starter e d b k m = splits_by_one e.id b d (entries v) dealt.apart k m ((fit d k).once e.id)
       (λ x c n h. ap (λ (s : ℕ × Begin). s.0) (same_Some (x.id, c) (d.id, b) (sym ((fit x n).splits e.id c h) ∙ (fit d k).splits e.id b m)))
 
-  settled : IsSettled v
-  settled = record {
+  -- whose entry of the book ended with that stamp
+  ended_so : (i t : ℕ) → HasEndedWith book i t → (d : Entry) × In d v × (d.id ≡ i) × (d.stored_stamp ≡ Some t)
+  ended_so i t h = (h.0, every i h.0 h.2, (kept.named i h.0 h.2).0, h.4)
+
+  settled : KeepsStamps words book bit → IsSettled v
+  settled stamps = record {
     one = λ d e k m y. same_Some d e (sym (at_book d k) ∙ (ap book y ∙ at_book e m));
     requested = λ e k s. let t = kept.asked e.id ((fit e k).sees s) in (t.1, every t.0 t.1 t.2, t.3);
+    requested_with = λ e k t l. let a = stamps.loads e.id t e (at_book e k) l in (a.1, every a.0 a.1 a.2, a.3);
     ended = λ e k i o m. out_entry i o (book i) refl ((fit e k).learns i o m);
+    ended_with = λ e k i t l. ended_so i t (stamps.learns e.id i t e (at_book e k) l);
     main = main_begin;
     started = starter;
     began = λ e k i b m d h y. sym (ap begin_in (ap book (sym y) ∙ at_book d h)) ∙ (fit e k).splits i b m;
@@ -174,7 +181,7 @@ module _ (n : ℕ) (words : List ℕ) (book : Book) (bit : ℕ → Bool) (keeper
 module _ (n p : ℕ) (v : SeatView) (words : List ℕ) (xs : List (Unit {0})) (fresh : v.spent ≡ false) (whole : IsWhole v)
     (final : Final (Seen (λ (s : State (Unit {0}) SeatView). Ruled n s.words s.views) p v) words xs) where
   pub closes : IsSettled v
-  closes = let s = final.0 in let h = final.1.0 in settled n s.words h.0 h.1 h.2 h.4 h.3 p v (h.5 p v final.1.1 fresh) whole
+  closes = let s = final.0 in let h = final.1.0 in settled n s.words h.0 h.1 h.2 h.4 h.3 p v (h.5 p v final.1.1 fresh) whole h.7
 
   pub closes_once : AreSplitOffOnce v
   closes_once = let s = final.0 in let h = final.1.0 in split_off_once n s.words h.0 h.1 h.2 h.4 h.3 p v (h.5 p v final.1.1 fresh) whole

@@ -1,6 +1,7 @@
 pub mod StateWords
 pub mod SplitCounts
 pub mod OwnSteps
+pub mod Stamps
 pub mod Requests
 pub mod Ends
 pub mod Peeks

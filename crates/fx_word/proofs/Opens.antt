@@ -14,8 +14,9 @@ use Rattle.fx_word.specs.StateWord.{state_word}
 use Rattle.fx_word.specs.Entry.{new_entry}
 use Rattle.fx_word.specs.SeatView.{first_view}
 use Rattle.fx_word.specs.Rule.{Book, outcome_in, facts, Fits, Kept, Dealt, Held, Ruled}
+use Rattle.fx_word.proofs.Stamps.{blank_keeps, new_keeps}
 
-module _ (n : ℕ) (some_fiber : 0 < n) (words : List ℕ) (long : length words ≡ 2 * n) (blank : (i : ℕ) → slice_index words i ≡ 0) where
+module _ (n : ℕ) (some_fiber : 0 < n) (words : List ℕ) (long : length words ≡ 4 * n) (blank : (i : ℕ) → slice_index words i ≡ 0) where
   abbrev first : Entry
   first = new_entry 0 None 1 n
 
@@ -60,7 +61,7 @@ module _ (n : ℕ) (some_fiber : 0 < n) (words : List ℕ) (long : length words 
           above = omega arith;
           range = λ j a c. keeps_in j (omega (arith, a)) c;
         };
-    state = λ i lt. blank (2 * i) ∙ ap (state_word false) (sym (no_out i));
+    state = λ i lt. blank (4 * i) ∙ ap (state_word false) (sym (no_out i));
     value = λ i d x h st. absurd (none-some x (ap (λ (u : Entry). u.stored) (only i d h).1 ∙ st));
     asked = λ i q. let z : ⊥ = cc in absurd z;
     free = λ i f h. let t = keeps_only i f h in (at_other 0 (Some first) nobody i (λ y. let a = t.0 in omega (arith, y, a)), t.1);
@@ -81,7 +82,7 @@ module _ (n : ℕ) (some_fiber : 0 < n) (words : List ℕ) (long : length words 
   pub opens_held : (i : ℕ) (d : Entry) → opens_book i ≡ Some d → Held (λ _. 0) (first_view n ∷ []) i d
   opens_held i d h = (first_view n, refl, refl, inl (sym (only i d h).1))
 
-pub opens : (n : ℕ) → 0 < n → (words : List ℕ) → length words ≡ 2 * n → ((i : ℕ) → slice_index words i ≡ 0) → Ruled n words (first_view n ∷ [])
+pub opens : (n : ℕ) → 0 < n → (words : List ℕ) → length words ≡ 4 * n → ((i : ℕ) → slice_index words i ≡ 0) → Ruled n words (first_view n ∷ [])
 opens n a words long blank = (
   opens_book n a words long blank,
   (λ _. false),
@@ -90,4 +91,5 @@ opens n a words long blank = (
   opens_kept n a words long blank,
   opens_dealt n a words long blank,
   opens_held n a words long blank,
+  new_keeps words (λ _. false) (λ _. None) (blank_keeps words blank) 0 refl None 1 n,
 )

@@ -1,6 +1,7 @@
 -- What a step on the own entry keeps.
 use Rattle.std.proofs.Common.{◌≡◌, ◌≢◌, ℕ, ◌+◌, ◌*◌, ◌<◌, Bool, true, false, List, ◌⊎◌, inl, inr, ⊎_elim}
 use Rattle.std.proofs.Common.{length, slice_index, Option, Some, refl, sym, ◌∙◌, ap, subst, arith, zero, suc, [], ◌∷◌}
+use Rattle.std.proofs.lemmas.List.{length-set, set-get_or, get_or-set_other}
 use Rattle.std.proofs.lemmas.Option.{none-some, same_Some}
 use mathlib.Core.Logic.{dite}
 use mathlib.Core.Option.{some, some-injective, some-ne-none}
@@ -16,7 +17,8 @@ use Rattle.fx_word.specs.declared.entry.Entry.{Entry}
 use Rattle.fx_word.specs.declared.seat_view.SeatView.{SeatView}
 use Rattle.fx_word.specs.StateWord.{state_word}
 use Rattle.fx_word.specs.SeatView.{In, with_own}
-use Rattle.fx_word.specs.Rule.{Book, outcome_in, begin_in, Facts, facts, Fits, Root, Kept, Dealt, Held}
+use Rattle.fx_word.specs.Stamps.{KeepsStamps}
+use Rattle.fx_word.specs.Rule.{Book, outcome_in, begin_in, Facts, facts, Fits, Root, Kept, Dealt, Held, Ruled}
 
 -- z' knows all that z does
 pub record Grows (z z' : Facts) : Type 0 where
@@ -75,8 +77,8 @@ module _ (n : ℕ) (words words' : List ℕ) (book : Book) (bit bit' : ℕ → B
   -- the rule after a step on the own entry
   pub own_kept : length words' ≡ length words
       → Fits (facts (with_at e.id (Some e') book) bit' keeper) e'
-      → ((i : ℕ) → i < n → slice_index words' (2 * i) ≡ state_word (bit' i) (outcome_in (with_at e.id (Some e') book i)))
-      → ((i : ℕ) (d : Entry) (x : ℕ) → with_at e.id (Some e') book i ≡ Some d → d.stored ≡ Some x → slice_index words' (2 * i + 1) ≡ x)
+      → ((i : ℕ) → i < n → slice_index words' (4 * i) ≡ state_word (bit' i) (outcome_in (with_at e.id (Some e') book i)))
+      → ((i : ℕ) (d : Entry) (x : ℕ) → with_at e.id (Some e') book i ≡ Some d → d.stored ≡ Some x → slice_index words' (4 * i + 1) ≡ x)
       → ((i : ℕ) → bit' i ≡ true → (f : ℕ) × (d : Entry) × (with_at e.id (Some e') book f ≡ Some d) × Among i d.asked)
       → Kept n words' (with_at e.id (Some e') book) bit' keeper
   own_kept long fit state value asked = record {
@@ -114,7 +116,7 @@ module _ (n : ℕ) (words words' : List ℕ) (book : Book) (bit bit' : ℕ → B
       (λ m. ap outcome_in (at_other e.id (Some e') book i m))
 
   pub value_same : e'.stored ≡ e.stored → (i : ℕ) (d : Entry) (x : ℕ) → with_at e.id (Some e') book i ≡ Some d → d.stored ≡ Some x
-      → slice_index words (2 * i + 1) ≡ x
+      → slice_index words (4 * i + 1) ≡ x
   value_same k i d x h st = ⊎_elim
       (λ t. kept.value i e x (ap book t.0 ∙ at) (sym k ∙ (ap (λ (u : Entry). u.stored) t.1 ∙ st)))
       (λ t. kept.value i d x t.1 st) (entry_cases i d h)
@@ -138,6 +140,43 @@ calm_kept n words book bit keeper kept e e' at same asked stored ended fit =
     (λ j lt. kept.state j lt ∙ ap (state_word (bit j)) (sym (out_same n words words book bit bit keeper kept e e' at same bits ended j)))
     (value_same n words words book bit bit keeper kept e e' at same bits stored)
     (asked_same n words words book bit bit keeper kept e e' at same bits (λ i q. subst (λ (l : List ℕ). Among i l) (sym asked) q))
+
+-- the entry with other stamps
+abbrev with_stamps : List (ℕ × ℕ) → List ℕ → Option ℕ → List (ℕ × ℕ) → Entry → Entry
+with_stamps asked loaded stored learnt e = record e { asked_with = asked; loaded = loaded; stored_stamp = stored; learnt_stamps = learnt }
+
+-- a step that changes stamps alone, of the own entry and in a word
+module _ (n : ℕ) (words : List ℕ) (book : Book) (bit : ℕ → Bool) (keeper : ℕ → Option ℕ) (kept : Kept n words book bit keeper) (e : Entry)
+    (at : book e.id ≡ Some e) (asked : List (ℕ × ℕ)) (loaded : List ℕ) (stored : Option ℕ) (learnt : List (ℕ × ℕ)) where
+  abbrev stamped : Entry
+  stamped = with_stamps asked loaded stored learnt e
+
+  pub stamped_kept : Kept n words (with_at e.id (Some stamped) book) bit keeper
+  stamped_kept = calm_kept n words book bit keeper kept e stamped at
+      record { id = refl; begin = refl; next = refl; end = refl; parts = refl; ended = λ o h. h } refl refl refl
+      (λ f. record {
+        asks = f.asks;
+        sees = f.sees;
+        ends = f.ends;
+        tells = f.tells;
+        learns = f.learns;
+        splits = f.splits;
+        once = f.once;
+        above = f.above;
+        range = f.range;
+      })
+
+  pub stamped_set : (k x : ℕ) → ((i : ℕ) → (4 * i ≢ k) × (4 * i + 1 ≢ k)) → Kept n (set words k x) (with_at e.id (Some stamped) book) bit keeper
+  stamped_set k x aside = record {
+    long = length-set words k x ∙ kept.long;
+    named = stamped_kept.named;
+    fits = stamped_kept.fits;
+    state = λ i lt. get_or-set_other words k (4 * i) x 0 (aside i).0 ∙ stamped_kept.state i lt;
+    value = λ i d y h st. get_or-set_other words k (4 * i + 1) x 0 (aside i).1 ∙ stamped_kept.value i d y h st;
+    asked = stamped_kept.asked;
+    free = stamped_kept.free;
+    rooted = stamped_kept.rooted;
+  }
 
 pub at_below : {A : Type 0} (l : List A) (j : ℕ) (b : A) → get_elem? l j ≡ some b → j < length l
 at_below [] j b e = absurd (some-ne-none b (sym e))
@@ -207,3 +246,31 @@ module _ (book : Book) (e e' : Entry) (same_id : e'.id ≡ e.id) where
       other n at t = dite (ℕ_discrete (seat i) p)
           (λ y. (w, at_p i y, fresh, kept_in n at (subst (λ (u : SeatView). In d u) (some-injective t.0 v (sym t.1 ∙ (ap (get_elem? views) y ∙ here))) t.3)))
           (λ m. (t.0, set_else views p (seat i) w m ∙ t.1, t.2, t.3))
+
+-- the rule after a step on the own entry of a seat
+module _ (n : ℕ) (words : List ℕ) (views : List SeatView) (h : Ruled n words views) (p : ℕ) (v : SeatView) (fresh : v.spent ≡ false)
+    (here : get_elem? views p ≡ some v) where
+  abbrev entered : Entry → Book
+  entered e = with_at v.own.id (Some e) h.0
+
+  pub own_entry : h.0 v.own.id ≡ Some v.own
+  own_entry = own_at h.0 h.3 p v (h.5 p v here fresh)
+
+  pub own_ruled : (words' : List ℕ) (e : Entry) (bit : ℕ → Bool) → e.id ≡ v.own.id → Kept n words' (entered e) bit h.2
+      → KeepsStamps words' (entered e) bit → Ruled n words' (set views p (with_own v e))
+  own_ruled words' e bit same kept stamps = (
+    entered e,
+    bit,
+    h.2,
+    h.3,
+    kept,
+    own_dealt h.0 v.own e same h.3 p v views refl fresh here h.5,
+    own_held h.0 v.own e same h.3 p v views refl fresh here (h.5 p v here fresh) (λ j d k. (h.4.named j d k).0) h.6,
+    stamps,
+  )
+
+  -- where the step loads the word at k
+  pub own_loaded : (k : ℕ) (e : Entry) → e.id ≡ v.own.id → Kept n words (entered e) h.1 h.2 → KeepsStamps words (entered e) h.1
+      → Ruled n (set words k (slice_index words k)) (set views p (with_own v e))
+  own_loaded k e same kept stamps =
+      subst (λ (l : List ℕ). Ruled n l (set views p (with_own v e))) (sym (set-get_or words k 0)) (own_ruled words e h.1 same kept stamps)

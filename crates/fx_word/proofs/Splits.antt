@@ -20,6 +20,7 @@ use Rattle.fx_word.specs.Entry.{new_entry}
 use Rattle.fx_word.specs.SeatView.{alone, with_own, kept_part, given_part}
 use Rattle.fx_word.specs.Rule.{Book, outcome_in, begin_in, facts, Fits, Root, Kept, Dealt, Held, Ruled}
 use Rattle.fx_word.proofs.SplitCounts.{splits_once}
+use Rattle.fx_word.proofs.Stamps.{calm_stamps, new_keeps}
 use Rattle.fx_word.proofs.OwnSteps.{Grows, Fits-grows, own_at, Root-grows, own_dealt, own_held}
 
 -- the numbers above id, up to end, are id's, and id is nobody's any more
@@ -263,4 +264,8 @@ splits n seat v b fresh follows fits inside s h here =
       kept2 n s.words h.0 h.1 h.2 h.4 v.own at b follows fits inside,
       dealt2 n s.words h.0 h.1 h.2 h.4 v.own at b follows fits inside h.3 seat v s.views refl fresh here h.5,
       held2 n s.words h.0 h.1 h.2 h.4 v.own at b follows fits inside h.3 seat v s.views refl fresh here was h.6,
+      new_keeps s.words h.1 (book1 n s.words h.0 h.1 h.2 h.4 v.own at b follows fits inside)
+          (calm_stamps s.words h.1 h.0 h.7 v.own at s.words (left n s.words h.0 h.1 h.2 h.4 v.own at b follows fits inside) (λ i. refl) (λ i. refl)
+          record { asked_with = refl; loaded = refl; stored_stamp = refl; learnt_stamps = refl } refl)
+          v.own.next (unborn1 n s.words h.0 h.1 h.2 h.4 v.own at b follows fits inside) (Some (v.own.id, b)) b.next b.end,
     )

@@ -1,5 +1,6 @@
 pub mod StateWord
 pub mod Entry
+pub mod Stamps
 pub mod SeatView
 pub mod Rule
 pub mod Steps

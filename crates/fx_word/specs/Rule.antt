@@ -1,5 +1,5 @@
--- The rule of the words: what the words and the views of all seats agree on. A fiber i has the words 2 * i, its state, and 2 * i + 1, the number
--- that it ended with.
+-- The rule of the words: what the words and the views of all seats agree on. A fiber i has the words 4 * i, its state, 4 * i + 1, the number that it ended
+-- with, and two for stamps.
 use Rattle.std.specs.Prelude.{◌≡◌, ◌≢◌, ℕ, ◌+◌, ◌*◌, ◌<◌, ◌≤◌, Bool, true, false, List, [], ◌∷◌, ◌⊎◌, length, slice_index, Option, Some, None}
 use mathlib.Core.Option.{some}
 use lib.ListN.{get_elem?}
@@ -11,6 +11,7 @@ use Rattle.fx_word.specs.declared.seat_view.SeatView.{SeatView}
 use Rattle.fx_word.specs.declared.state_word.EndKind.{EndKind}
 use Rattle.fx_word.specs.StateWord.{end_kind, value_of, state_word}
 use Rattle.fx_word.specs.Entry.{splits_of}
+use Rattle.fx_word.specs.Stamps.{KeepsStamps}
 use Rattle.fx_word.specs.SeatView.{In, entries}
 
 -- the entry of each fiber that was split off, whichever seat has it
@@ -55,11 +56,11 @@ Root book i began = ((i ≡ 0) × (began ≡ None)) ⊎ ((f : ℕ) × (d : Entry
 -- the words against the entries, and each entry against all. A request bit is set exactly where some entry asked, the done bits are those of the
 -- end, and a number in a range was not split off
 pub record Kept (n : ℕ) (words : List ℕ) (book : Book) (bit : ℕ → Bool) (keeper : ℕ → Option ℕ) : Type 0 where
-  pub long : length words ≡ 2 * n
+  pub long : length words ≡ 4 * n
   pub named : (i : ℕ) (e : Entry) → book i ≡ Some e → (e.id ≡ i) × (i < n)
   pub fits : (i : ℕ) (e : Entry) → book i ≡ Some e → Fits (facts book bit keeper) e
-  pub state : (i : ℕ) → i < n → slice_index words (2 * i) ≡ state_word (bit i) (outcome_in (book i))
-  pub value : (i : ℕ) (e : Entry) (x : ℕ) → book i ≡ Some e → e.stored ≡ Some x → slice_index words (2 * i + 1) ≡ x
+  pub state : (i : ℕ) → i < n → slice_index words (4 * i) ≡ state_word (bit i) (outcome_in (book i))
+  pub value : (i : ℕ) (e : Entry) (x : ℕ) → book i ≡ Some e → e.stored ≡ Some x → slice_index words (4 * i + 1) ≡ x
   pub asked : (i : ℕ) → bit i ≡ true → (f : ℕ) × (e : Entry) × (book f ≡ Some e) × Among i e.asked
   pub free : (i f : ℕ) → keeper i ≡ Some f → (book i ≡ None) × (i < n)
   pub rooted : (i : ℕ) (e : Entry) → book i ≡ Some e → Root book i e.begin
@@ -85,3 +86,4 @@ Ruled n words views =
     × Kept n words book bit keeper
     × ((p : ℕ) (v : SeatView) → get_elem? views p ≡ some v → v.spent ≡ false → Dealt book seat p v)
     × ((i : ℕ) (e : Entry) → book i ≡ Some e → Held seat views i e)
+    × KeepsStamps words book bit

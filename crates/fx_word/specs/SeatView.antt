@@ -54,10 +54,21 @@ IsAsked v = (v.own.seen ≡ true) ⊎ ((e : Entry) × In e v × Among v.own.id e
 abbrev pub Knows : SeatView → ℕ → Outcome → Type 0
 Knows v i o = (e : Entry) × In e v × (Among (i, o) e.learnt ⊎ ((e.id ≡ i) × (e.ended ≡ Some o)))
 
+-- the seat has loaded that stamp of a request of its own fiber, or made one with it, itself or as taken in
+abbrev pub KnowsRequestStamp : SeatView → ℕ → Type 0
+KnowsRequestStamp v t = Among t v.own.loaded ⊎ ((e : Entry) × In e v × Among (v.own.id, t) e.asked_with)
+
+-- the seat has learnt that i ended with the stamp t, or did so, itself or as taken in
+abbrev pub KnowsEndStamp : SeatView → ℕ → ℕ → Type 0
+KnowsEndStamp v i t =
+    (e : Entry) × In e v × (Among (i, t) e.learnt_stamps ⊎ ((o : Outcome) × (e.id ≡ i) × (e.ended ≡ Some o) × (e.stored_stamp ≡ Some t)))
+
 -- what the first view knows the second one knows
 pub record Keeps (v w : SeatView) : Type 0 where
   pub asked : IsAsked v → IsAsked w
+  pub asked_with : (t : ℕ) → KnowsRequestStamp v t → KnowsRequestStamp w t
   pub ends : (i : ℕ) (o : Outcome) → Knows v i o → Knows w i o
+  pub end_stamps : (i t : ℕ) → KnowsEndStamp v i t → KnowsEndStamp w i t
 
 -- the seat is the main fiber's, and has taken in all that were split off
 abbrev pub IsWhole : SeatView → Type 0
@@ -69,8 +80,12 @@ pub record IsSettled (v : SeatView) : Type 0 where
   pub one : (d e : Entry) → In d v → In e v → d.id ≡ e.id → d ≡ e
   -- who saw a request was requested
   pub requested : (e : Entry) → In e v → e.seen ≡ true → (d : Entry) × In d v × Among e.id d.asked
+  -- with each stamp that it loaded
+  pub requested_with : (e : Entry) → In e v → (t : ℕ) → Among t e.loaded → (d : Entry) × In d v × Among (e.id, t) d.asked_with
   -- what was learnt of an end is how that fiber ended
   pub ended : (e : Entry) → In e v → (i : ℕ) (o : Outcome) → Among (i, o) e.learnt → (d : Entry) × In d v × (d.id ≡ i) × (d.ended ≡ Some o)
+  -- with the stamp that was learnt
+  pub ended_with : (e : Entry) → In e v → (i t : ℕ) → Among (i, t) e.learnt_stamps → (d : Entry) × In d v × (d.id ≡ i) × (d.stored_stamp ≡ Some t)
   -- the main fiber has no beginning, and some fiber split each other one off
   pub main : (e : Entry) → In e v → e.id ≡ 0 → e.begin ≡ None
   pub started : (e : Entry) → In e v → e.id ≢ 0 → (d : Entry) × (b : Begin) × In d v × Among (e.id, b) d.parts

@@ -1,4 +1,4 @@
--- The two words of a fiber: its state, and the number that it ended with.
+-- Two words of a fiber: its state, and the number that it ended with.
 use Rattle.std.specs.Prelude.{ℕ, ◌+◌, ◌*◌, Bool, true, false, Option, Some, None}
 use Rattle.fx_term.specs.declared.outcome.Outcome.{Outcome}
 use Rattle.fx_term.specs.declared.outcome.Outcome.TheVariants.{Succeeded, Errored, Canceled}

@@ -1,4 +1,4 @@
-//! The two words of a fiber as numbers: its state, and the number that it ended with.
+//! Two words of a fiber as numbers: its state, and the number that it ended with.
 ghost use Rattle.std.specs.Prelude.{◌≡◌, Bool, Option, Some};
 ghost use Rattle.fx_term.specs.declared.outcome.Outcome as outcome;
 ghost use Rattle.fx_word.specs.StateWord.{state_word, kind_in, end_kind, value_of};

@@ -9,6 +9,6 @@ use atomic_table::Seat;
 pub(crate) struct TableSeat {
     pub id: u32,
     pub seat: Seat<(), SeatView>,
-    ghost placed: { (id ≡ seat.me.0.own.id) × (2 * id + 1 < seat.table_id.words) },
+    ghost placed: { (id ≡ seat.me.0.own.id) × (4 * id + 3 < seat.table_id.words) },
     ghost plain: { (seat.me.1 ≡ []) × (seat.me.0.spent ≡ false) },
 }

@@ -3,13 +3,17 @@ ghost use Rattle.std.specs.Prelude.{◌≡◌, ℕ, ◌+◌, ◌*◌, ◌<◌, �
 ghost use Rattle.fx_term.specs.Lists.{Among};
 ghost use Rattle.fx_term.specs.declared.outcome.Outcome as outcome;
 ghost use Rattle.fx_word.specs.StateWord.{kind_in, end_kind};
-ghost use Rattle.fx_word.specs.Entry.{asking, looking, finished, telling, learning, peeked};
+ghost use Rattle.fx_word.specs.Entry.{asking, looking, finished, telling, learning, learning_stamp, peeked};
 ghost use Rattle.fx_word.specs.SeatView.{first_view, with_own, kept_part, given_part, joined};
-ghost use Rattle.fx_word.specs.SeatView.{IsAsked, Knows, IsWhole, IsSettled, AreSplitOffOnce};
+ghost use Rattle.fx_word.specs.SeatView.{IsAsked, Knows, KnowsRequestStamp, KnowsEndStamp};
+ghost use Rattle.fx_word.specs.SeatView.{IsWhole, IsSettled, AreSplitOffOnce};
 
 use crate::seat_view::SeatView;
 use crate::state_word::{EndKind, REQUESTED, StateWord, done_bits, outcome_of, value_word};
-use crate::steps::{Ask, End, Given, Learn, Look, SplitOff, Store, TakeIn, Tell};
+use crate::steps::{
+    Ask, AskFromOutside, End, Given, Learn, LearnStamp, LoadStamp, Look, Raise, SplitOff, Store,
+    StoreStamp, TakeIn, Tell,
+};
 use crate::table_seat::TableSeat;
 use crate::word_rule::WordRule;
 use atomic_table::Table;
@@ -17,13 +21,24 @@ use fx_term::{Begin, Memory, Outcome};
 use std::alloc::Global;
 use std::marker::Brand;
 
-/// The words of so many fibers: of the fiber i the word 2 * i is its state, and 2 * i + 1 the number
-/// that it ended with.
+/// How many words a fiber has. The first one is its state.
+const WORDS: usize = 4;
+
+/// The number that it ended with.
+const VALUE: usize = 1;
+
+/// The greatest stamp of its requests, 0 where it has none.
+const REQUEST_STAMP: usize = 2;
+
+/// The stamp of its end.
+const END_STAMP: usize = 3;
+
+/// The words of so many fibers, of the fiber i those from 4 * i on.
 #[derive(Drop)]
 pub(crate) struct WordTable {
     table: Table<(), SeatView, u32, WordRule, Global>,
     fibers: u32,
-    ghost sized: { (table.shared.key ≡ fibers) × (table.shared.table_id.words ≡ 2 * fibers)
+    ghost sized: { (table.shared.key ≡ fibers) × (table.shared.table_id.words ≡ 4 * fibers)
         × (table.shared.table_id.slots ≡ 0) × (0 < fibers) × (fibers ≤ 4096) },
 }
 
@@ -33,7 +48,7 @@ impl WordTable {
         ensures { IfOk result (λ r. (r.0.fibers ≡ fibers)
             × (r.1.seat.table_id ≡ r.0.table.shared.table_id) × (r.1.seat.me.0 ≡ first_view fibers)) }
     {
-        let Ok(zeros) = vec![in alloc; 0u64; 2 * fibers as usize] else {
+        let Ok(zeros) = vec![in alloc; 0u64; WORDS * fibers as usize] else {
             return Err(Memory);
         };
         let Ok((table, seat)) = Table::of_words(alloc, zeros.as_slice(), &fibers) else {
@@ -76,58 +91,75 @@ impl WordTable {
         TableSeat { id, seat: other }
     }
 
-    pub fn request(&self, seat: &mut TableSeat, id: u32)
+    /// The stamp comes before the bit, so that who finds the bit finds it too. A request from outside
+    /// has the stamp 0, and raises none.
+    pub fn request(&self, seat: &mut TableSeat, id: u32, stamp: u64)
         requires words { seat.old.seat.table_id ≡ self.now.table.shared.table_id }
         requires below { id < self.now.fibers }
         ensures words { seat.new.seat.table_id ≡ seat.old.seat.table_id }
         ensures view { seat.new.seat.me.0
-            ≡ with_own seat.old.seat.me.0 (asking id seat.old.seat.me.0.own) }
+            ≡ with_own seat.old.seat.me.0 (asking id stamp seat.old.seat.me.0.own) }
     {
-        self.table
-            .shared
-            .fetch_or::<Ask>(&mut seat.seat, 2 * id as usize, REQUESTED);
+        let state = WORDS * id as usize;
+        let shared = &self.table.shared;
+        if stamp == 0 {
+            shared.fetch_or::<AskFromOutside>(&mut seat.seat, state, REQUESTED);
+        } else {
+            shared.fetch_max::<Raise>(&mut seat.seat, state + REQUEST_STAMP, stamp);
+            shared.fetch_or::<Ask>(&mut seat.seat, state, REQUESTED);
+        }
     }
 
-    pub fn look(&self, seat: &mut TableSeat) -> bool
+    pub fn look(&self, seat: &mut TableSeat) -> Option<u64>
         requires words { seat.old.seat.table_id ≡ self.now.table.shared.table_id }
         ensures words { seat.new.seat.table_id ≡ seat.old.seat.table_id }
         ensures view { seat.new.seat.me.0
             ≡ with_own seat.old.seat.me.0 (looking result seat.old.seat.me.0.own) }
-        ensures knows { IsAsked seat.old.seat.me.0 → IsTrue result }
+        ensures knows { IsAsked seat.old.seat.me.0 → (t : ℕ) × (result ≡ Some t) }
+        ensures greatest { IfSome result (λ stamp. (t : ℕ)
+            → KnowsRequestStamp seat.old.seat.me.0 t → t ≤ stamp) }
     {
-        let state = 2 * seat.id as usize;
-        StateWord(self.table.shared.load::<Look>(&mut seat.seat, state)).is_requested()
+        let state = WORDS * seat.id as usize;
+        let shared = &self.table.shared;
+        if !StateWord(shared.load::<Look>(&mut seat.seat, state)).is_requested() {
+            return None;
+        }
+        Some(shared.load::<LoadStamp>(&mut seat.seat, state + REQUEST_STAMP))
     }
 
-    /// The value word comes first, so that who finds done bits finds it too.
-    pub fn finish(&self, seat: &mut TableSeat, outcome: Outcome)
+    /// The value and the stamp come first, so that who finds done bits finds them too.
+    pub fn finish(&self, seat: &mut TableSeat, outcome: Outcome, stamp: u64)
         requires words { seat.old.seat.table_id ≡ self.now.table.shared.table_id }
         requires running { seat.old.seat.me.0.own.ended ≡ None }
         ensures words { seat.new.seat.table_id ≡ seat.old.seat.table_id }
         ensures view { seat.new.seat.me.0
-            ≡ with_own seat.old.seat.me.0 (finished outcome seat.old.seat.me.0.own) }
+            ≡ with_own seat.old.seat.me.0 (finished outcome stamp seat.old.seat.me.0.own) }
     {
-        let state = 2 * seat.id as usize;
-        self.table
-            .shared
-            .store::<Store>(&mut seat.seat, state + 1, value_word(outcome));
-        self.table
-            .shared
-            .fetch_or::<End>(&mut seat.seat, state, done_bits(outcome));
+        let state = WORDS * seat.id as usize;
+        let shared = &self.table.shared;
+        shared.store::<Store>(&mut seat.seat, state + VALUE, value_word(outcome));
+        shared.store::<StoreStamp>(&mut seat.seat, state + END_STAMP, stamp);
+        shared.fetch_or::<End>(&mut seat.seat, state, done_bits(outcome));
     }
 
-    pub fn peek(&self, seat: &mut TableSeat, id: u32) -> Option<Outcome>
+    pub fn peek(&self, seat: &mut TableSeat, id: u32) -> Option<(Outcome, u64)>
         requires words { seat.old.seat.table_id ≡ self.now.table.shared.table_id }
         requires below { id < self.now.fibers }
         ensures words { seat.new.seat.table_id ≡ seat.old.seat.table_id }
-        ensures some { IfSome result (λ o. seat.new.seat.me.0
-            ≡ with_own seat.old.seat.me.0 (peeked id o seat.old.seat.me.0.own)) }
+        ensures some { IfSome result (λ r. seat.new.seat.me.0
+            ≡ with_own seat.old.seat.me.0 (peeked id r.0 r.1 seat.old.seat.me.0.own)) }
         ensures none { IfNone result (seat.new.seat.me.0 ≡ seat.old.seat.me.0) }
-        ensures knows { (k : outcome.Outcome) → Knows seat.old.seat.me.0 id k → result ≡ Some k }
+        ensures knows { (k : outcome.Outcome) → Knows seat.old.seat.me.0 id k
+            → (t : ℕ) × (result ≡ Some (k, t)) }
+        ensures stamp { IfSome result (λ r. (t : ℕ)
+            → KnowsEndStamp seat.old.seat.me.0 id t → r.1 ≡ t) }
     {
         match self.tell(seat, id) {
             None => None,
-            Some(kind) => Some(self.learn(seat, id, kind)),
+            Some(kind) => {
+                let outcome = self.learn(seat, id, kind);
+                Some((outcome, self.learn_stamp(seat, id, kind)))
+            }
         }
     }
 
@@ -140,12 +172,8 @@ impl WordTable {
             × (seat.new.seat.me.0 ≡ with_own seat.old.seat.me.0 (telling id o seat.old.seat.me.0.own))
             × ((k : outcome.Outcome) → Knows seat.old.seat.me.0 id k → o ≡ Some k) }
     {
-        StateWord(
-            self.table
-                .shared
-                .load::<Tell>(&mut seat.seat, 2 * id as usize),
-        )
-        .end()
+        let shared = &self.table.shared;
+        StateWord(shared.load::<Tell>(&mut seat.seat, WORDS * id as usize)).end()
     }
 
     /// How a fiber ended of which it was told that it has.
@@ -159,11 +187,23 @@ impl WordTable {
             ≡ with_own seat.old.seat.me.0 (learning id result seat.old.seat.me.0.own) }
         ensures knows { (k : outcome.Outcome) → Knows seat.old.seat.me.0 id k → result ≡ k }
     {
-        let value = self
-            .table
-            .shared
-            .load::<Learn>(&mut seat.seat, 2 * id as usize + 1);
+        let shared = &self.table.shared;
+        let value = shared.load::<Learn>(&mut seat.seat, WORDS * id as usize + VALUE);
         outcome_of(kind, value)
+    }
+
+    /// With which stamp a fiber ended of which it was told that it has.
+    fn learn_stamp(&self, seat: &mut TableSeat, id: u32, kind: EndKind) -> u64
+        requires words { seat.old.seat.table_id ≡ self.now.table.shared.table_id }
+        requires below { id < self.now.fibers }
+        requires told { Among (id, kind) seat.old.seat.me.0.own.told }
+        ensures words { seat.new.seat.table_id ≡ seat.old.seat.table_id }
+        ensures view { seat.new.seat.me.0
+            ≡ with_own seat.old.seat.me.0 (learning_stamp id result seat.old.seat.me.0.own) }
+        ensures knows { (t : ℕ) → KnowsEndStamp seat.old.seat.me.0 id t → result ≡ t }
+    {
+        let shared = &self.table.shared;
+        shared.load::<LearnStamp>(&mut seat.seat, WORDS * id as usize + END_STAMP)
     }
 
     pub fn gather(&self, seat: &mut TableSeat, other: TableSeat)

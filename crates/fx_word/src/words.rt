@@ -1,8 +1,9 @@
 //! The words of all fibers.
-ghost use Rattle.std.specs.Prelude.{◌≡◌, ◌<◌, ◌≤◌, ◌+◌, IfOk, IfSome, IfNone, IsTrue, Some, None};
+ghost use Rattle.std.specs.Prelude.{◌≡◌, ℕ, ◌<◌, ◌≤◌, ◌+◌, IfOk, IfSome, IfNone, Some, None};
 ghost use Rattle.fx_term.specs.declared.outcome.Outcome as outcome;
 ghost use Rattle.fx_word.specs.Entry.{asking, looking, finished, peeked};
-ghost use Rattle.fx_word.specs.SeatView.{first_view, IsAsked, Knows, IsWhole, IsSettled, AreSplitOffOnce};
+ghost use Rattle.fx_word.specs.SeatView.{first_view, IsAsked, Knows, KnowsRequestStamp, KnowsEndStamp};
+ghost use Rattle.fx_word.specs.SeatView.{IsWhole, IsSettled, AreSplitOffOnce};
 ghost use Rattle.fx_word.specs.Words.{IsOf, with_entry, kept_seat, given_seat, joined_seat};
 
 use crate::word_seat::WordSeat;
@@ -11,8 +12,9 @@ use fx_term::{Begin, Memory, Outcome};
 use std::alloc::Global;
 use std::marker::Model;
 
-/// Two words for each fiber number: its state, a request bit and two bits for how it ended, and the
-/// value of its end. Contracts see which words they are, and of how many fibers.
+/// Four words for each fiber number: its state, a request bit and two bits for how it ended, the value
+/// of its end, and the stamps of its requests and of its end. Contracts see which words they are, and
+/// of how many fibers.
 #[derive(Drop)]
 pub struct Words {
     table: WordTable,
@@ -44,20 +46,24 @@ impl Words {
         self.table.fibers()
     }
 
-    /// Requests the cancellation of a fiber.
-    pub fn request(&self, seat: &mut WordSeat, id: u32)
+    /// Requests the cancellation of a fiber, by an event with this stamp. A request from outside has the
+    /// stamp 0.
+    pub fn request(&self, seat: &mut WordSeat, id: u32, stamp: u64)
         requires words { IsOf seat.old self.now }
         requires below { id < self.now.fibers }
-        ensures { seat.new ≡ with_entry seat.old (asking id seat.old.view.own) }
+        ensures { seat.new ≡ with_entry seat.old (asking id stamp seat.old.view.own) }
     {
-        self.table.request(&mut seat.seat, id);
+        self.table.request(&mut seat.seat, id, stamp);
     }
 
-    /// Whether the seat's fiber is requested.
-    pub fn look(&self, seat: &mut WordSeat) -> bool
+    /// Whether the seat's fiber is requested, and the greatest stamp of its requests so far: one of a
+    /// request that was made, though its bit may not be set yet.
+    pub fn look(&self, seat: &mut WordSeat) -> Option<u64>
         requires words { IsOf seat.old self.now }
         ensures view { seat.new ≡ with_entry seat.old (looking result seat.old.view.own) }
-        ensures knows { IsAsked seat.old.view → IsTrue result }
+        ensures knows { IsAsked seat.old.view → (t : ℕ) × (result ≡ Some t) }
+        ensures greatest { IfSome result (λ stamp. (t : ℕ)
+            → KnowsRequestStamp seat.old.view t → t ≤ stamp) }
     {
         self.table.look(&mut seat.seat)
     }
@@ -75,23 +81,25 @@ impl Words {
         WordSeat { seat }
     }
 
-    /// Tells how the seat's fiber ended.
-    pub fn finish(&self, seat: &mut WordSeat, outcome: Outcome)
+    /// Tells how the seat's fiber ended, by an event with this stamp.
+    pub fn finish(&self, seat: &mut WordSeat, outcome: Outcome, stamp: u64)
         requires words { IsOf seat.old self.now }
         requires running { seat.old.view.own.ended ≡ None }
-        ensures { seat.new ≡ with_entry seat.old (finished outcome seat.old.view.own) }
+        ensures { seat.new ≡ with_entry seat.old (finished outcome stamp seat.old.view.own) }
     {
-        self.table.finish(&mut seat.seat, outcome);
+        self.table.finish(&mut seat.seat, outcome, stamp);
     }
 
-    /// How a fiber ended, if it has.
-    pub fn peek(&self, seat: &mut WordSeat, id: u32) -> Option<Outcome>
+    /// How a fiber ended, if it has, and the stamp of its end.
+    pub fn peek(&self, seat: &mut WordSeat, id: u32) -> Option<(Outcome, u64)>
         requires words { IsOf seat.old self.now }
         requires below { id < self.now.fibers }
-        ensures some { IfSome result (λ o. seat.new
-            ≡ with_entry seat.old (peeked id o seat.old.view.own)) }
+        ensures some { IfSome result (λ r. seat.new
+            ≡ with_entry seat.old (peeked id r.0 r.1 seat.old.view.own)) }
         ensures none { IfNone result (seat.new ≡ seat.old) }
-        ensures knows { (k : outcome.Outcome) → Knows seat.old.view id k → result ≡ Some k }
+        ensures knows { (k : outcome.Outcome) → Knows seat.old.view id k
+            → (t : ℕ) × (result ≡ Some (k, t)) }
+        ensures stamp { IfSome result (λ r. (t : ℕ) → KnowsEndStamp seat.old.view id t → r.1 ≡ t) }
     {
         self.table.peek(&mut seat.seat, id)
     }

@@ -18,5 +18,6 @@ fn begin_of(alloc: Global, id: u32) -> Begin
         slots: Registers::new(alloc),
         next: id + 1,
         end: id + 1,
+        stamp: 0,
     }
 }

@@ -23,7 +23,13 @@ fn end_of(id: u32) -> Outcome {
     }
 }
 
-/// Requests a fiber, if it is another one: so who finds a request of its own was requested by others.
+/// The stamp that the fiber of this number ends with.
+fn end_stamp(id: u32) -> u64 {
+    u64::from(id) + 30
+}
+
+/// Requests a fiber, with the stamp 1 more than its own number, if it is another one: so who finds a request
+/// of its own was requested by others.
 fn request_other(words: &Words, seat: &mut WordSeat, id: u32)
     requires words { IsOf seat.old words.now }
     requires below { id < words.now.fibers }
@@ -31,11 +37,13 @@ fn request_other(words: &Words, seat: &mut WordSeat, id: u32)
     ensures running { seat.new.view.own.ended ≡ seat.old.view.own.ended }
 {
     if id != seat.id() {
-        words.request(seat, id);
+        let stamp = u64::from(seat.id()) + 1;
+        words.request(seat, id, stamp);
     }
 }
 
-/// Requests a fiber, looks, and peeks. Whether what was learnt of the fiber's end is right.
+/// Requests a fiber, looks, and peeks. Whether what was learnt of the fiber's end, and the stamps that
+/// were found, are right: a request's is at most the highest that there is.
 fn take_turn(words: &Words, seat: &mut WordSeat, id: u32) -> bool
     requires words { IsOf seat.old words.now }
     requires below { id < words.now.fibers }
@@ -43,10 +51,13 @@ fn take_turn(words: &Words, seat: &mut WordSeat, id: u32) -> bool
     ensures running { seat.new.view.own.ended ≡ seat.old.view.own.ended }
 {
     request_other(words, seat, id);
-    let _seen = words.look(seat);
-    match words.peek(seat, id) {
+    let seen = match words.look(seat) {
         None => true,
-        Some(outcome) => outcome == end_of(id),
+        Some(stamp) => stamp > 0 && stamp <= 4,
+    };
+    match words.peek(seat, id) {
+        None => seen,
+        Some(found) => seen && found == (end_of(id), end_stamp(id)),
     }
 }
 
@@ -63,7 +74,7 @@ fn run(words: &Words, mut seat: WordSeat) -> (WordSeat, bool)
         right = right && told;
     }
     let id = seat.id();
-    words.finish(&mut seat, end_of(id));
+    words.finish(&mut seat, end_of(id), end_stamp(id));
     (seat, right)
 }
 
@@ -120,15 +131,20 @@ fn run_four<R: Threads + Sync>(
     )
 }
 
-/// Whether the seat finds the request of its fiber, and the end of each.
+/// The greatest stamp that this fiber was requested with by another one.
+fn greatest_of_others(id: u32) -> u64 {
+    if id == 3 { 3 } else { 4 }
+}
+
+/// Whether the seat finds the requests of its fiber, with their greatest stamp, and the end of each.
 fn finds_all(words: &Words, seat: &mut WordSeat) -> bool
     requires words { IsOf seat.old words.now }
     requires fibers { words.now.fibers ≡ 4 }
     ensures { IsSameFiber seat.old seat.new }
 {
-    let mut found = words.look(seat);
+    let mut found = words.look(seat) == Some(greatest_of_others(seat.id()));
     'finding: for id in 0..FIBERS {
-        found = found && words.peek(seat, id) == Some(end_of(id));
+        found = found && words.peek(seat, id) == Some((end_of(id), end_stamp(id)));
     }
     found
 }
