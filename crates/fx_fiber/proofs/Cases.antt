@@ -19,7 +19,7 @@ use Rattle.fx_fiber.specs.declared.machine.focus.Focus.TheVariants.{Eval}
 use Rattle.fx_fiber.specs.declared.machine.Machine.{Machine}
 use Rattle.fx_fiber.specs.Machine.{filled, waiting, waiting_inner, acquire_case_in, in_frame, all_but_innermost, within, running}
 use Rattle.fx_fiber.specs.Machine.{progress_at, progress_of, counts_of}
-use Rattle.fx_fiber.specs.Sound.{closed_outside, left_of, AreClosedBy, AreFramesIn, IsNode, IsBound, IsCaseIn, IsUseCaseIn, IsSound}
+use Rattle.fx_fiber.specs.Sound.{closed_outside, left_of, AreClosedBy, AreFramesIn, IsBound, IsCaseIn, IsUseCaseIn, IsSound}
 use Rattle.fx_fiber.specs.Places.{ReturnsInto, IsCaseAt, HasSuccess, HasFailure}
 use Rattle.fx_fiber.proofs.Numbers.{frames_up, part_named, inner_named, running_named, fits_named}
 use Rattle.fx_fiber.proofs.Results.{closed_in, frames_in, given_step}

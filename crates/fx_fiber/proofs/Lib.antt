@@ -13,6 +13,9 @@ pub mod Cases
 pub mod Fibers
 pub mod QueueLeaves
 pub mod Advances
+pub mod StampedRuns
+pub mod StampedPlaces
+pub mod QueueNumbers
 pub mod Keeping
 pub mod Telling
 pub mod Bursts

@@ -74,42 +74,38 @@ module _ {P S : Type 0} (calls : PortCalls P S) where
   none_due true p s e = absurd (let no : true ≡ false = e in cc)
   none_due false p s e = tt
 
-  -- a look that answered false
-  pub in_vain : (due : Bool) (p p' : P) (s s' : S) → p' ≡ p → s' ≡ s → calls.looks p s false p' s' → LooksInVain calls due p s
-  in_vain true p p' s s' e f h = rw (e, f) at h
-  in_vain false p p' s s' e f h = tt
-
   -- before a rule a look was in vain, and nothing is asked but what the rule asks
-  pub asks_by_rule : (due : Bool) (leaf : Option Term) (m : Made) (p p' : P) (s s' : S) → IsRuleMade m → LooksInVain calls due p s
-      → Told calls leaf m p s p' s' → Asks calls due leaf m p s p' s'
-  asks_by_rule due leaf (made.Shows event.Seen) p p' s s' own l t = absurd own
-  asks_by_rule due leaf _ p p' s s' own l t = (l, t)
+  pub asks_by_rule : (own cause : ℕ) (due : Bool) (leaf : Option Term) (m : Made) (p p' : P) (s s' : S) → IsRuleMade m → LooksInVain calls due p s
+      → Told calls own cause leaf m p s p' s' → Asks calls own cause due leaf m p s p' s'
+  asks_by_rule own cause due leaf (made.Shows event.Seen) p p' s s' is l t = absurd is
+  asks_by_rule own cause due leaf _ p p' s s' is l t = (l, t)
 
 module _ {P S : Type 0} (theory : Theory P S) where
   -- the fiber's step makes no other call, unless it is the last
-  pub calls_of_asks : (due : Bool) (leaf : Option Term) (m : Made) (answer : Stepped P S) (p p' : P) (s s' : S) → IsOwnMade m
-      → shows_end (label_of m) ≡ false → Asks theory.calls due leaf m p s p' s' → Calls theory due leaf (label_of m) answer p s p' s'
-  calls_of_asks due leaf (made.Waits w) answer p p' s s' own on a = record { looked = a.0; left_first = tt; told = (a.1.1, a.1.2) }
-  calls_of_asks due leaf (made.Learns f o e) answer p p' s s' own on a = record { looked = a.0; left_first = a.1.0; told = a.1.1 }
-  calls_of_asks due leaf (made.Shows event.Seen) answer p p' s s' own on a = record { looked = tt; left_first = tt; told = a }
-  calls_of_asks due leaf (made.Shows (event.Request f)) answer p p' s s' own on a = record { looked = a.0; left_first = tt; told = a.1 }
-  calls_of_asks due leaf (made.Shows (event.Put q n)) answer p p' s s' own on a = record { looked = a.0; left_first = tt; told = a.1 }
-  calls_of_asks due leaf (made.Shows (event.Got q n)) answer p p' s s' own on a = record { looked = a.0; left_first = tt; told = a.1 }
-  calls_of_asks due leaf (made.Shows (event.Refused q)) answer p p' s s' own on a = record { looked = a.0; left_first = tt; told = a.1 }
-  calls_of_asks due leaf (made.Shows (event.Empty q)) answer p p' s s' own on a = record { looked = a.0; left_first = tt; told = a.1 }
-  calls_of_asks due leaf (made.Shows event.Cancelled) answer p p' s s' own on a = record { looked = a.0; left_first = tt; told = a.1 }
-  calls_of_asks due leaf (made.Shows event.SelfRequest) answer p p' s s' own on a = record { looked = a.0; left_first = tt; told = a.1 }
-  calls_of_asks due leaf (made.Shows (event.Acquired k)) answer p p' s s' own on a = record { looked = a.0; left_first = tt; told = a.1 }
-  calls_of_asks due leaf (made.Shows (event.Begin k)) answer p p' s s' own on a = record { looked = a.0; left_first = tt; told = a.1 }
-  calls_of_asks due leaf (made.Shows (event.End k)) answer p p' s s' own on a = record { looked = a.0; left_first = tt; told = a.1 }
-  calls_of_asks due leaf (made.Shows (event.Ended o)) answer p p' s s' own on a = absurd (let no : true ≡ false = on in cc)
-  calls_of_asks due leaf (made.Shows _) answer p p' s s' own on a = absurd own
-  calls_of_asks due leaf _ answer p p' s s' own on a = record { looked = a.0; left_first = tt; told = a.1 }
+  pub calls_of_asks : (stamp cause : ℕ) (due : Bool) (leaf : Option Term) (m : Made) (answer : Stepped P S) (p p' : P) (s s' : S) → IsOwnMade m
+      → shows_end (label_of m) ≡ false → Asks theory.calls stamp cause due leaf m p s p' s'
+      → Calls theory stamp cause due leaf (label_of m) answer p s p' s'
+  calls_of_asks stamp cause due leaf (made.Waits w) answer p p' s s' own on a = record { looked = a.0; left_first = tt; told = (a.1.1, a.1.2) }
+  calls_of_asks stamp cause due leaf (made.Learns f o e) answer p p' s s' own on a = record { looked = a.0; left_first = a.1.0; told = a.1.1 }
+  calls_of_asks stamp cause due leaf (made.Shows event.Seen) answer p p' s s' own on a = record { looked = tt; left_first = tt; told = a }
+  calls_of_asks stamp cause due leaf (made.Shows (event.Request f)) answer p p' s s' own on a = record { looked = a.0; left_first = tt; told = a.1 }
+  calls_of_asks stamp cause due leaf (made.Shows (event.Put q n)) answer p p' s s' own on a = record { looked = a.0; left_first = tt; told = a.1 }
+  calls_of_asks stamp cause due leaf (made.Shows (event.Got q n)) answer p p' s s' own on a = record { looked = a.0; left_first = tt; told = a.1 }
+  calls_of_asks stamp cause due leaf (made.Shows (event.Refused q)) answer p p' s s' own on a = record { looked = a.0; left_first = tt; told = a.1 }
+  calls_of_asks stamp cause due leaf (made.Shows (event.Empty q)) answer p p' s s' own on a = record { looked = a.0; left_first = tt; told = a.1 }
+  calls_of_asks stamp cause due leaf (made.Shows event.Cancelled) answer p p' s s' own on a = record { looked = a.0; left_first = tt; told = a.1 }
+  calls_of_asks stamp cause due leaf (made.Shows event.SelfRequest) answer p p' s s' own on a = record { looked = a.0; left_first = tt; told = a.1 }
+  calls_of_asks stamp cause due leaf (made.Shows (event.Acquired k)) answer p p' s s' own on a = record { looked = a.0; left_first = tt; told = a.1 }
+  calls_of_asks stamp cause due leaf (made.Shows (event.Begin k)) answer p p' s s' own on a = record { looked = a.0; left_first = tt; told = a.1 }
+  calls_of_asks stamp cause due leaf (made.Shows (event.End k)) answer p p' s s' own on a = record { looked = a.0; left_first = tt; told = a.1 }
+  calls_of_asks stamp cause due leaf (made.Shows (event.Ended o)) answer p p' s s' own on a = absurd (let no : true ≡ false = on in cc)
+  calls_of_asks stamp cause due leaf (made.Shows _) answer p p' s s' own on a = absurd own
+  calls_of_asks stamp cause due leaf _ answer p p' s s' own on a = record { looked = a.0; left_first = tt; told = a.1 }
 
-  pub calls_of_end : (due : Bool) (leaf : Option Term) (answer : Stepped P S) (o : Outcome) (p p' p'' : P) (s s' s'' : S)
-      → Asks theory.calls due leaf (made.Shows (event.Ended o)) p s p' s' → theory.calls.finishes p' s' o p'' s''
-      → Calls theory due leaf (Shows (event.Ended o)) answer p s p'' s''
-  calls_of_end due leaf answer o p p' p'' s s' s'' a f = record { looked = a.0; left_first = tt; told = rw (a.1.0, a.1.1) at f }
+  pub calls_of_end : (stamp cause : ℕ) (due : Bool) (leaf : Option Term) (answer : Stepped P S) (o : Outcome) (p p' p'' : P) (s s' s'' : S)
+      → Asks theory.calls stamp cause due leaf (made.Shows (event.Ended o)) p s p' s' → theory.calls.finishes p' s' o stamp p'' s''
+      → Calls theory stamp cause due leaf (Shows (event.Ended o)) answer p s p'' s''
+  calls_of_end stamp cause due leaf answer o p p' p'' s s' s'' a f = record { looked = a.0; left_first = tt; told = rw (a.1.0, a.1.1) at f }
 
 -- tests at an open place, and where cancellation is the one rule
 pub not_due_after : (a b : Bool) → b ≡ true → (a && not b) ≡ false

@@ -26,10 +26,10 @@ use Rattle.fx_fiber.specs.MakesStep.{value_offered}
 use Rattle.fx_fiber.specs.Machine.{filled, waiting, progress_at, progress_of, counts_of}
 use Rattle.fx_fiber.specs.Sound.{IsNode, IsBound, IsSound, IsSoundMachine}
 use Rattle.fx_fiber.specs.Leaves.{IsLeafNode}
-use Rattle.fx_fiber.specs.Places.{IsSame, IsEvaluating, must_cancel_machine}
+use Rattle.fx_fiber.specs.Places.{IsEvaluating, must_cancel_machine}
 use Rattle.fx_fiber.specs.Makes.{WaitsFor}
 use Rattle.fx_fiber.proofs.Nodes.{child_before, leaf_is_free}
-use Rattle.fx_fiber.proofs.Leaves.{levels, child, arg_within, row_at, leaf_here, name_reaches, register_stays, beside_sound, beside_is, named_sound, named_is}
+use Rattle.fx_fiber.proofs.Leaves.{levels, child, arg_within, row_at, leaf_here, name_reaches, beside_sound, beside_is, named_sound, named_is}
 
 -- a fiber that stands at a leaf
 module _ (nodes : List Node) (s : Machine) (id : NodeId) (n : Node) (at : IsEvaluating nodes s id n) where
@@ -124,10 +124,6 @@ module _ (nodes : List Node) (s : Machine) (id : NodeId) (q x : ℕ) (a b : Node
 
   pub try_take_has_register : x < length (with_number (Some x) 0 s.registers)
   try_take_has_register = let e = length_with x 0 s.registers try_take_reaches in omega arith
-
-  -- the register of the name is had before the port is asked
-  pub try_take_stays : (t : Machine) → t ≡ record s { registers = with_number (Some x) 0 s.registers } → IsSame nodes s t
-  try_take_stays = register_stays nodes s id _ at x try_take_levels.0 0
 
   module _ (free : must_cancel_machine nodes s ≡ false) where
     -- it goes on with the element by the name

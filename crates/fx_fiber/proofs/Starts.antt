@@ -78,8 +78,9 @@ module _ (nodes : List Node) (s : Machine) (id : NodeId) (h : ℕ) (a b : NodeId
   start_reaches = name_reaches nodes s id _ at h start_levels.1
 
   -- what the child begins with has a number for each name in scope
-  pub sound_begin : (ns : List ℕ) (next end : ℕ) → ns ≡ s.registers → IsSoundBegin nodes (record { node = a; slots = ns; next = next; end = end })
-  sound_begin ns next end e = record { tree = at.sound.tree; bound = at.sound.bound; fits = rw e at.sound.fits; node = started_node }
+  pub sound_begin : (ns : List ℕ) (next end stamp : ℕ) → ns ≡ s.registers
+      → IsSoundBegin nodes (record { node = a; slots = ns; next = next; end = end; stamp = stamp })
+  sound_begin ns next end stamp e = record { tree = at.sound.tree; bound = at.sound.bound; fits = rw e at.sound.fits; node = started_node }
 
   -- the register of the name is had before the port is asked
   pub start_stays : (n : ℕ) (t : Machine) → t ≡ record s { registers = with_number (Some h) n s.registers } → IsSame nodes s t
@@ -114,10 +115,11 @@ module _ (nodes : List Node) (s : Machine) (id : NodeId) (h : ℕ) (a b : NodeId
     part_works puts few = let p = step_leaves_less start_step in let q = unknown_small s.known in omega arith
 
     -- so it makes the rule
-    pub start_makes : (m : Machine) (begin : Begin) → m ≡ record s { registers = with_number (Some h) s.next s.registers } → begin ≡ child_begin nodes s a
+    pub start_makes : (m : Machine) (begin : Begin) (stamp : ℕ) → m ≡ record s { registers = with_number (Some h) s.next s.registers }
+        → begin ≡ child_begin nodes s a stamp
         → Steps nodes s (Starts s.next (child_origin s.next part)) (record m { focus = Eval b; next = begin.end })
-    start_makes m begin named is =
-        let counts : numbers_taken (1 + need part) (counts_of s) ≡ record (counts_of s) { next = (child_begin nodes s a).end } =
+    start_makes m begin stamp named is =
+        let counts : numbers_taken (1 + need part) (counts_of s) ≡ record (counts_of s) { next = (child_begin nodes s a stamp).end } =
         ap (λ (k : ℕ). record (counts_of s) { next = k }) (let e = need_is in omega arith) in
         rw (named, is) (subst (λ (d : Counts). Step (counts_of s) (progress_of nodes s) (Starts s.next (child_origin s.next part)) d
         (progress_at nodes (with_number (Some h) s.next s.registers) s.frames s.masks.regions s.cleanups (Eval b))) counts start_step)
@@ -131,5 +133,5 @@ module _ (nodes : List Node) (s : Machine) (id : NodeId) (h : ℕ) (a b : NodeId
   start_range m begin named = rw named refl
 
   -- the child begins with the term of its part
-  pub begins_so : origin_of nodes (child_begin nodes s a) ≡ child_origin s.next part
-  begins_so = rw need_is refl
+  pub begins_so : (stamp : ℕ) → origin_of nodes (child_begin nodes s a stamp) ≡ child_origin s.next part
+  begins_so stamp = rw need_is refl

@@ -111,7 +111,7 @@ module _ {P S : Type 0} (theory : Theory P S) where
           was = false;
           before = h;
           goes = rw short.shared_is (goes_alone n b f g s t r.goes made short.n _ refl h short.goes);
-          unchanged = record { port = refl; trace = refl; counts = refl; progress_is = refl };
+          unchanged = record { port = refl; trace = refl; stamps = refl; counts = refl; progress_is = refl };
         }
 
     -- a fiber that waits again after it was registered is registered for what it waits for

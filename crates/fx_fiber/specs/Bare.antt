@@ -3,6 +3,8 @@ use Rattle.std.specs.Prelude.{◌≡◌, ℕ, List, Option}
 use Rattle.fx_term.specs.declared.node.Node.{Node}
 use Rattle.fx_term.specs.declared.begin.Begin.{Begin}
 use Rattle.fx_term.specs.declared.event.Event.{Event}
+use Rattle.fx_term.specs.declared.stamped.Stamped.{Stamped}
+use Rattle.fx_term.specs.Stamped.{events_in, stamps_in}
 use Rattle.fx_mask.specs.Closing.{Closing}
 use Rattle.fx_frames.specs.declared.frame.Frame.{Frame}
 use Rattle.fx_model.specs.Row.{Counts, Label}
@@ -15,11 +17,12 @@ use Rattle.fx_fiber.specs.declared.machine.Machine.{Machine}
 use Rattle.fx_fiber.specs.Machine.{counts_of, progress_at}
 use Rattle.fx_fiber.specs.Fiber.{FiberView}
 
--- the nodes of its code, its number, its trace, what it keeps beside its term, and where it stands
+-- the nodes of its code, its number, its trace and the stamps of that, what it keeps beside its term, and where it stands
 pub record BareView : Type 0 where
   pub nodes : List Node
   pub id : ℕ
   pub trace : List Event
+  pub stamps : List ℕ
   pub counts : Counts
   pub registers : List ℕ
   pub frames : List Frame
@@ -28,11 +31,12 @@ pub record BareView : Type 0 where
   pub focus : Focus
 
 -- the one with this number, trace and machine
-abbrev pub bare_at : List Node → ℕ → List Event → Machine → BareView
+abbrev pub bare_at : List Node → ℕ → List Stamped → Machine → BareView
 bare_at nodes id trace s = record {
   nodes = nodes;
   id = id;
-  trace = trace;
+  trace = events_in trace;
+  stamps = stamps_in trace;
   counts = counts_of s;
   registers = s.registers;
   frames = s.frames;
@@ -47,6 +51,7 @@ bare_of nodes id f = record {
   nodes = nodes;
   id = id;
   trace = f.trace;
+  stamps = f.stamps;
   counts = f.counts;
   registers = f.registers;
   frames = f.frames;

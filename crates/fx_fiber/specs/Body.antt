@@ -23,9 +23,10 @@ with_registers ns s = record s { registers = ns }
 abbrev pub with_slots : List ℕ → Body → Body
 with_slots ns b = record b { machine = with_registers ns b.machine }
 
--- that of a fiber with this number: it has shown nothing, and registered for nothing
+-- that of a fiber with this number: it has shown nothing, its clock is the stamp that it begins with, and it registered for nothing
 pub record IsFirstBody (nodes : List Node) (id : ℕ) (begin : Begin) (b : Body) : Type 0 where
   pub number : b.id ≡ id
   pub trace : b.trace.items ≡ []
+  pub clock : b.clock ≡ begin.stamp
   pub machine : IsFirstMachine nodes begin b.machine
   pub source : b.source ≡ None

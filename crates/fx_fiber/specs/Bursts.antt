@@ -2,16 +2,15 @@
 use Rattle.std.specs.Prelude.{◌≡◌, ℕ, zero, suc, ◌≤◌, ◌<◌, ◌⊎◌, Bool, true, false, ◌&&◌, ◌||◌, Option, None, List}
 use Rattle.std.specs.Vec.{vec_len, vec_capacity}
 use Rattle.fx_term.specs.declared.node.Node.{Node}
-use Rattle.fx_term.specs.declared.event.Event.{Event}
+use Rattle.fx_term.specs.declared.stamped.Stamped.{Stamped}
 use Rattle.fx_term.specs.declared.event.Event.TheVariants as event
 use Rattle.fx_model.specs.Row.{Label, Silent, Shows}
 use Rattle.fx_model.specs.declared.source.Source.{Source}
 use Rattle.fx_fiber.specs.Calls.{PortCalls}
 use Rattle.fx_fiber.specs.Theory.{Theory}
 use Rattle.fx_fiber.specs.Fiber.{FiberView, fiber_at, IsUnchanged, IsKept}
-use Rattle.fx_fiber.specs.MakesStep.{MakesStep}
+use Rattle.fx_fiber.specs.MakesStep.{MakesStep, LooksInVain}
 use Rattle.fx_fiber.specs.Places.{IsSame, IsInside, is_open_machine}
-use Rattle.fx_fiber.specs.Interruption.{ComesFirst}
 use Rattle.fx_fiber.specs.Advances.{Advances}
 use Rattle.fx_fiber.specs.Made.{IsOfBracket}
 use Rattle.fx_fiber.specs.declared.stepped.Stepped.TheVariants.{Went}
@@ -70,15 +69,15 @@ module _ {P S : Type 0} (theory : Theory P S) where
     pub shared_is : shared' ≡ shared
 
 module _ {P S : Type 0} (calls : PortCalls P S) where
-  -- a look was told false, and nothing was asked since, of a fiber that is not known to be canceled
+  -- a look found nothing, and nothing was asked since, of a fiber that is not known to be canceled
   abbrev pub HasLooked : Looked → Bool → P → S → Type 0
-  HasLooked InVain known p s = (known ≡ false) × calls.looks p s false p s
+  HasLooked InVain known p s = (known ≡ false) × calls.looks p s None p s
   HasLooked NotYet known p s = Unit {0}
 
   -- what comes before the rule of a place other than `canceled`, which is open or not, of a fiber that is known to be canceled or not: nothing, after a
   -- look in vain where the place is open, or a look, or cancellation
   abbrev pub ComesAhead : Bool → Bool → Ahead → P → S → Type 0
-  ComesAhead opened known ahead.Rule p s = ComesFirst calls opened (opened && (known || false)) None p s p s
+  ComesAhead opened known ahead.Rule p s = ((opened && (known || false)) ≡ false) × LooksInVain calls opened p s
   ComesAhead opened known ahead.Look p s = (opened ≡ true) × (known ≡ false)
   ComesAhead opened known ahead.Cancellation p s = Unit {0}
 
@@ -89,10 +88,11 @@ pub record LooksNext (nodes : List Node) (s : Machine) : Type 0 where
   pub unknown : s.known ≡ false
 
 module _ {P S : Type 0} (theory : Theory P S) where
-  -- what one turn of a burst does: a silent rule is made, or one that shows this of a bracket, or none, since a look comes first or the burst ends
+  -- what one turn of a burst does, whatever the clock is: a silent rule is made, or one that shows this of a bracket, or none, since a look comes first or the
+  -- burst ends
   abbrev pub GlidesOnce : Machine → P → S → Glided → Machine → Type 0
-  GlidesOnce s p sh glided.Went s' = Advances theory s p sh made.Silent s' p sh
-  GlidesOnce s p sh (glided.Showed e) s' = Advances theory s p sh (made.Shows e) s' p sh × IsOfBracket e
+  GlidesOnce s p sh glided.Went s' = (k : ℕ) → Advances theory k s p sh made.Silent k s' p sh
+  GlidesOnce s p sh (glided.Showed e) s' = ((k : ℕ) → Advances theory k s p sh (made.Shows e) k s' p sh) × IsOfBracket e
   GlidesOnce s p sh glided.Looks s' = IsSame theory.code s s' × LooksNext theory.code s'
   GlidesOnce s p sh glided.Stops s' = IsSame theory.code s s'
 
@@ -101,29 +101,29 @@ pub record Outset (P S : Type 0) : Type 0 where
   pub port : P
   pub shared : S
   pub machine : Machine
-  pub trace : List Event
+  pub trace : List Stamped
   pub source : Option Source
 
 abbrev pub outset_at : {P S : Type 0} → P → S → Body → Outset P S
 outset_at p s body = record { port = p; shared = s; machine = body.machine; trace = body.trace.items; source = body.source }
 
--- so many steps lead to a machine that the fiber's type allows, and to this trace
-pub record GlidesTo {P S : Type 0} (theory : Theory P S) (trace : List Event) (source : Option Source) (n : ℕ) (s : Machine) (p : P) (sh : S)
-    (s' : Machine) (trace' : List Event) : Type 0 where
+-- so many steps lead to a machine that the fiber's type allows, and to this trace and clock
+pub record GlidesTo {P S : Type 0} (theory : Theory P S) (trace : List Stamped) (source : Option Source) (n : ℕ) (s : Machine) (p : P) (sh : S)
+    (s' : Machine) (trace' : List Stamped) (clock' : ℕ) : Type 0 where
   pub rules : GoesAlone theory n (fiber_at p trace s source) sh (fiber_at p trace' s' source)
-  pub kept : IsKept theory p trace' s'
+  pub kept : IsKept theory p trace' clock' s'
 
 module _ {P S : Type 0} (theory : Theory P S) (outset : Outset P S) where
   -- so many steps lead from there to here
-  abbrev pub LeadsTo : ℕ → Machine → List Event → Type 0
-  LeadsTo n s trace = GlidesTo theory outset.trace outset.source n outset.machine outset.port outset.shared s trace
+  abbrev pub LeadsTo : ℕ → Machine → List Stamped → ℕ → Type 0
+  LeadsTo n s trace clock = GlidesTo theory outset.trace outset.source n outset.machine outset.port outset.shared s trace clock
 
   -- so many steps were made, of at most so many, with room for an event where a look comes next
   abbrev pub Reaches : ℕ → Reached → Body → Type 0
   Reaches most (reached.Looks n) body =
-      (n < most) × LeadsTo n body.machine body.trace.items × LooksNext theory.code body.machine × (vec_len body.trace < vec_capacity body.trace)
-  Reaches most (reached.Stops n) body = (n ≤ most) × LeadsTo n body.machine body.trace.items
+      (n < most) × LeadsTo n body.machine body.trace.items body.clock × LooksNext theory.code body.machine × (vec_len body.trace < vec_capacity body.trace)
+  Reaches most (reached.Stops n) body = (n ≤ most) × LeadsTo n body.machine body.trace.items body.clock
 
   -- memory was refused after fewer than so many
   abbrev pub ReachesShort : ℕ → Body → Type 0
-  ReachesShort most body = (n : ℕ) × (n < most) × LeadsTo n body.machine body.trace.items
+  ReachesShort most body = (n : ℕ) × (n < most) × LeadsTo n body.machine body.trace.items body.clock

@@ -1,5 +1,5 @@
 -- What contracts know of a port: a relation for each call, the numbers that are left for fibers, and how many elements it has put.
-use Rattle.std.specs.Prelude.{◌≡◌, ℕ, suc, ◌+◌, ◌≤◌, Bool, Option}
+use Rattle.std.specs.Prelude.{◌≡◌, ℕ, suc, ◌+◌, ◌≤◌, Option}
 use Rattle.fx_term.specs.declared.begin.Begin.{Begin}
 use Rattle.fx_term.specs.declared.outcome.Outcome.{Outcome}
 use Rattle.fx_term.specs.declared.offered.Offered.{Offered}
@@ -9,13 +9,13 @@ use Rattle.fx_model.specs.declared.source.Source.{Source}
 
 -- for each call the port and the outside before it, what it is given, its answer, and both after it; the answer of a start is the port of the child
 pub record PortCalls (P S : Type 0) : Type 1 where
-  pub looks : P → S → Bool → P → S → Type 0
-  pub requests : P → S → ℕ → P → S → Type 0
-  pub peeks : P → S → ℕ → Option Outcome → P → S → Type 0
-  pub offers : P → S → ℕ → ℕ → Offered → P → S → Type 0
-  pub takes : P → S → ℕ → Option ℕ → P → S → Type 0
+  pub looks : P → S → Option ℕ → P → S → Type 0
+  pub requests : P → S → ℕ → ℕ → P → S → Type 0
+  pub peeks : P → S → ℕ → Option (Outcome × ℕ) → P → S → Type 0
+  pub offers : P → S → ℕ → ℕ → ℕ → Offered → P → S → Type 0
+  pub takes : P → S → ℕ → Option (ℕ × ℕ) → P → S → Type 0
   pub starts : P → S → ℕ → Begin → P → P → S → Type 0
-  pub finishes : P → S → Outcome → P → S → Type 0
+  pub finishes : P → S → Outcome → ℕ → P → S → Type 0
   pub outsides : P → S → ℕ → P → S → Type 0
   pub waits : P → S → Source → P → S → Type 0
   pub wakes : S → Option ℕ → S → Type 0

@@ -1,4 +1,6 @@
 pub mod Deed
+pub mod StampedDeed
+pub mod StampedRun
 pub mod Calls
 pub mod PortFacts
 pub mod Theory

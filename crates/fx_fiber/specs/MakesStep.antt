@@ -10,6 +10,7 @@ use Rattle.fx_model.specs.Step.{leaf_at, must_cancel_at, looks_first, Step}
 use Rattle.fx_model.specs.Run.{events}
 use Rattle.fx_model.specs.Origin.{Origin, origin_of}
 use Rattle.fx_fiber.specs.Calls.{PortCalls}
+use Rattle.fx_fiber.specs.StampedRun.{next_stamp, IsUncaused, stamp_of_event}
 use Rattle.fx_fiber.specs.PortFacts.{first_facts}
 use Rattle.fx_fiber.specs.Theory.{Theory}
 use Rattle.fx_model.specs.declared.source.Source.{Source}
@@ -18,7 +19,7 @@ use Rattle.fx_model.specs.Waiting.{wait_at}
 use Rattle.fx_term.specs.declared.offered.Offered.TheVariants.{Done, Full}
 use Rattle.fx_fiber.specs.declared.stepped.Stepped.{Stepped}
 use Rattle.fx_fiber.specs.declared.stepped.Stepped.TheVariants.{Went, Child, Waits, Gave, Ended}
-use Rattle.fx_fiber.specs.Fiber.{FiberView, progress, IsUnchanged, IsAtFirst}
+use Rattle.fx_fiber.specs.Fiber.{FiberView, clock, progress, IsUnchanged, IsAtFirst}
 
 -- it is `cede`
 abbrev pub is_yielding : Option Term → Bool
@@ -46,9 +47,9 @@ Answers nodes leaf (Starts f b) (Child child) = IsAtFirst nodes b child
 Answers nodes leaf (Starts f b) answer = ⊥
 
 module _ {P S : Type 0} (calls : PortCalls P S) where
-  -- a look answered false, where one is due
+  -- a look found nothing, where one is due
   abbrev pub LooksInVain : Bool → P → S → Type 0
-  LooksInVain true p s = calls.looks p s false p s
+  LooksInVain true p s = calls.looks p s None p s
   LooksInVain false p s = Unit {0}
 
   -- the look before a step with this label: one in vain, but where the step sees a request
@@ -61,13 +62,14 @@ module _ {P S : Type 0} (calls : PortCalls P S) where
   PeeksLeft (Learns f o (event.First (suc n))) (Some (First (Number left) right)) p s = calls.peeks p s left None p s
   PeeksLeft _ leaf p s = Unit {0}
 
-  -- the refusals that a fiber had which waits so and offers this: none of what never comes, no outcome of a fiber that it asked for, no room, no element
-  abbrev pub IsRefused : ℕ → Source → P → S → Type 0
-  IsRefused n Nothing p s = Unit {0}
-  IsRefused n (Outcome f) p s = calls.peeks p s f None p s
-  IsRefused n (Either f g) p s = calls.peeks p s f None p s × calls.peeks p s g None p s
-  IsRefused n (Room q) p s = calls.offers p s q n Full p s
-  IsRefused n (Element q) p s = calls.takes p s q None p s
+  -- the refusals that a fiber had which waits so and offers this with that stamp: none of what never comes, no outcome of a fiber that it asked for,
+  -- no room, no element
+  abbrev pub IsRefused : ℕ → ℕ → Source → P → S → Type 0
+  IsRefused own n Nothing p s = Unit {0}
+  IsRefused own n (Outcome f) p s = calls.peeks p s f None p s
+  IsRefused own n (Either f g) p s = calls.peeks p s f None p s × calls.peeks p s g None p s
+  IsRefused own n (Room q) p s = calls.offers p s q n own Full p s
+  IsRefused own n (Element q) p s = calls.takes p s q None p s
 
 module _ {P S : Type 0} (theory : Theory P S) where
   -- no rule, since the fiber waits for that: a look in vain, where one is due, the refusals that this stands for, and nothing has changed
@@ -75,45 +77,50 @@ module _ {P S : Type 0} (theory : Theory P S) where
     pub waits : option_and_then wait_at (leaf_at (progress theory.code old)) ≡ Some wait
     pub free : must_cancel_at old.counts.known (progress theory.code old) ≡ false
     pub looked : LooksInVain theory.calls (looks_first old.counts.known (progress theory.code old)) old.port shared
-    pub refused : IsRefused theory.calls (value_offered (leaf_at (progress theory.code old))) wait old.port shared
+    pub refused : IsRefused theory.calls (next_stamp (clock theory old) 0) (value_offered (leaf_at (progress theory.code old))) wait old.port shared
     pub unchanged : IsUnchanged theory.code old new
     pub shared_is : shared' ≡ shared
 
-  -- the call that starts fiber f, which begins so, over the port of the child, which is new, of that number and that beginning
-  pub record StartsChild (f : ℕ) (b : Origin) (child p : P) (s : S) (p' : P) (s' : S) : Type 0 where
+  -- the call that starts fiber f, which begins so and with the stamp of its start, over the port of the child, which is new, of that number and that beginning
+  pub record StartsChild (own f : ℕ) (b : Origin) (child p : P) (s : S) (p' : P) (s' : S) : Type 0 where
     pub begin : Begin
     pub begins : origin_of theory.code begin ≡ b
+    pub stamped : begin.stamp ≡ own
     pub told : theory.calls.starts p s f begin child p' s'
     pub facts_are : theory.facts child ≡ first_facts f begin
 
-  -- the call that a step at this leaf with this label and answer tells of
-  abbrev pub Tells : Option Term → Label → Stepped P S → P → S → P → S → Type 0
-  Tells leaf (Shows event.Seen) answer p s p' s' = theory.calls.looks p s true p' s'
-  Tells leaf (Shows (event.Request f)) answer p s p' s' = theory.calls.requests p s f p' s'
-  Tells leaf (Shows (event.Ended o)) answer p s p' s' = theory.calls.finishes p s o p' s'
-  Tells leaf (Learns f o e) answer p s p' s' = theory.calls.peeks p s f (Some o) p' s'
-  Tells leaf (Starts f b) (Child child) p s p' s' = StartsChild f b child.port p s p' s'
-  Tells leaf (Starts f b) answer p s p' s' = ⊥
-  Tells leaf (Shows (event.Put q n)) answer p s p' s' = theory.calls.offers p s q n Done p' s'
-  Tells leaf (Shows (event.Got q n)) answer p s p' s' = theory.calls.takes p s q (Some n) p' s'
-  Tells leaf (Shows (event.Refused q)) answer p s p' s' = theory.calls.offers p s q (value_offered leaf) Full p' s'
-  Tells leaf (Shows (event.Empty q)) answer p s p' s' = theory.calls.takes p s q None p' s'
-  Tells leaf _ answer p s p' s' = (p' ≡ p) × (s' ≡ s)
+  -- the call that a step at this leaf with this label and answer tells of, where its event has this stamp and its cause that one
+  abbrev pub Tells : ℕ → ℕ → Option Term → Label → Stepped P S → P → S → P → S → Type 0
+  Tells own cause leaf (Shows event.Seen) answer p s p' s' = theory.calls.looks p s (Some cause) p' s'
+  Tells own cause leaf (Shows (event.Request f)) answer p s p' s' = theory.calls.requests p s f own p' s'
+  Tells own cause leaf (Shows (event.Ended o)) answer p s p' s' = theory.calls.finishes p s o own p' s'
+  Tells own cause leaf (Learns f o e) answer p s p' s' = theory.calls.peeks p s f (Some (o, cause)) p' s'
+  Tells own cause leaf (Starts f b) (Child child) p s p' s' = StartsChild own f b child.port p s p' s'
+  Tells own cause leaf (Starts f b) answer p s p' s' = ⊥
+  Tells own cause leaf (Shows (event.Put q n)) answer p s p' s' = theory.calls.offers p s q n own Done p' s'
+  Tells own cause leaf (Shows (event.Got q n)) answer p s p' s' = theory.calls.takes p s q (Some (n, cause)) p' s'
+  Tells own cause leaf (Shows (event.Refused q)) answer p s p' s' = theory.calls.offers p s q (value_offered leaf) own Full p' s'
+  Tells own cause leaf (Shows (event.Empty q)) answer p s p' s' = theory.calls.takes p s q None p' s'
+  Tells own cause leaf _ answer p s p' s' = (p' ≡ p) × (s' ≡ s)
 
   -- the calls of a step: the look that is due, what it asked for in vain, and the call that it tells of
-  pub record Calls (due : Bool) (leaf : Option Term) (label : Label) (answer : Stepped P S) (p : P) (s : S) (p' : P) (s' : S) : Type 0 where
+  pub record Calls (own cause : ℕ) (due : Bool) (leaf : Option Term) (label : Label) (answer : Stepped P S) (p : P) (s : S) (p' : P) (s' : S)
+      : Type 0 where
     pub looked : LooksBefore theory.calls due label p s
     pub left_first : PeeksLeft theory.calls label leaf p s
-    pub told : Tells leaf label answer p s p' s'
+    pub told : Tells own cause leaf label answer p s p' s'
 
-  -- exactly one rule, with its event in the trace, its answer, and its calls
+  -- exactly one rule, with its event in the trace and its stamp, which is above that of its cause, its answer, and its calls
   pub record MakesStep (old : FiberView P) (shared : S) (answer : Stepped P S) (new : FiberView P) (shared' : S) : Type 0 where
     pub label : Label
     pub step : Step old.counts (progress theory.code old) label new.counts (progress theory.code new)
     pub trace : new.trace ≡ old.trace ++ events (label ∷ [])
+    pub cause : ℕ
+    pub none : IsUncaused label → cause ≡ 0
+    pub stamps : new.stamps ≡ old.stamps ++ stamp_of_event (next_stamp (clock theory old) cause) label
     pub answers : Answers theory.code (leaf_at (progress theory.code old)) label answer
-    pub calls_are : Calls (looks_first old.counts.known (progress theory.code old)) (leaf_at (progress theory.code old)) label answer
-        old.port shared new.port shared'
+    pub calls_are : Calls (next_stamp (clock theory old) cause) cause (looks_first old.counts.known (progress theory.code old))
+        (leaf_at (progress theory.code old)) label answer old.port shared new.port shared'
 
   -- what a step does that answers so
   abbrev pub DoesStep : FiberView P → S → Stepped P S → FiberView P → S → Type 0

@@ -1,5 +1,5 @@
 -- How what was made in a step is told: its event to the trace, and the end of the fiber to its port.
-use Rattle.std.specs.Prelude.{◌≡◌, true, List, [], ◌∷◌, ◌++◌}
+use Rattle.std.specs.Prelude.{◌≡◌, ℕ, true}
 use Rattle.fx_term.specs.declared.event.Event.TheVariants as event
 use Rattle.fx_term.specs.declared.outcome.Outcome.{Outcome}
 use Rattle.fx_fiber.specs.Deed.{Ended}
@@ -22,13 +22,13 @@ answer_to (made.Shows (event.Ended o)) = stepped.Ended
 answer_to _ = stepped.Went
 
 module _ {P S : Type 0} (theory : Theory P S) where
-  -- the end of the fiber was told to its port
-  pub record TellsEnd (o : Outcome) (p : P) (s : S) (p' : P) (s' : S) : Type 0 where
-    pub told : theory.calls.finishes p s o p' s'
+  -- the end of the fiber was told to its port, with the stamp of its event
+  pub record TellsEnd (own : ℕ) (o : Outcome) (p : P) (s : S) (p' : P) (s' : S) : Type 0 where
+    pub told : theory.calls.finishes p s o own p' s'
     pub facts_are : theory.facts p' ≡ record (theory.facts p) { has_finished = true }
-    pub agreed : HasDone theory (Ended o) p p'
+    pub agreed : HasDone theory (Ended o) own p p'
 
   -- that, where this is the end, and else nothing
-  abbrev pub TellsMade : Made → P → S → P → S → Type 0
-  TellsMade (made.Shows (event.Ended o)) p s p' s' = TellsEnd o p s p' s'
-  TellsMade _ p s p' s' = (p' ≡ p) × (s' ≡ s)
+  abbrev pub TellsMade : ℕ → Made → P → S → P → S → Type 0
+  TellsMade own (made.Shows (event.Ended o)) p s p' s' = TellsEnd own o p s p' s'
+  TellsMade own _ p s p' s' = (p' ≡ p) × (s' ≡ s)

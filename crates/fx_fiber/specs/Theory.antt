@@ -2,6 +2,7 @@
 use Rattle.std.specs.Prelude.{ℕ, Bool, List, ◌∷◌, [], ◌++◌}
 use Rattle.fx_term.specs.declared.node.Node.{Node}
 use Rattle.fx_fiber.specs.Deed.{Deed}
+use Rattle.fx_fiber.specs.StampedDeed.{StampedDeed, stamped_deed}
 use Rattle.fx_fiber.specs.Calls.{PortCalls}
 use Rattle.fx_fiber.specs.PortFacts.{Facts}
 
@@ -13,12 +14,12 @@ pub record Theory (P S : Type 0) : Type 1 where
   pub may : ℕ → Bool
   pub calls : PortCalls P S
   pub facts : P → Facts
-  pub agrees : P → List Deed → Type 0
+  pub agrees : P → List StampedDeed → Type 0
 
--- the port agrees with one more deed
-abbrev pub HasDone : {P S : Type 0} → Theory P S → Deed → P → P → Type 0
-HasDone theory deed old new = (deeds : List Deed) → theory.agrees old deeds → theory.agrees new (deeds ++ deed ∷ [])
+-- the port agrees with one more deed, which has this number
+abbrev pub HasDone : {P S : Type 0} → Theory P S → Deed → ℕ → P → P → Type 0
+HasDone theory deed number old new = (deeds : List StampedDeed) → theory.agrees old deeds → theory.agrees new (deeds ++ stamped_deed deed number ∷ [])
 
 -- the port agrees with the deeds as before
 abbrev pub HasDoneNothing : {P S : Type 0} → Theory P S → P → P → Type 0
-HasDoneNothing theory old new = (deeds : List Deed) → theory.agrees old deeds → theory.agrees new deeds
+HasDoneNothing theory old new = (deeds : List StampedDeed) → theory.agrees old deeds → theory.agrees new deeds

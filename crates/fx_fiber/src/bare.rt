@@ -4,7 +4,7 @@ ghost use Rattle.std.specs.Prelude.{◌≡◌};
 use crate::fiber::body::Body;
 use crate::machine::focus::Focus;
 use fx_model::{Closed, Source};
-use fx_term::{Code, Event};
+use fx_term::{Code, Stamped};
 use std::marker::Model;
 use std::snapshot::Snapshot;
 
@@ -17,6 +17,7 @@ pub struct Bare {
 }
 
 impl Model for Bare {
+    ghost use Rattle.fx_term.specs.Stamped.{events_in};
     ghost use Rattle.fx_fiber.specs.Bare.{BareView, bare_at, HasOwnRun};
     ghost use Rattle.fx_fiber.specs.Fiber.{is_fiber_number};
     ghost use Rattle.fx_fiber.specs.Machine.{counts_of, progress_of};
@@ -31,11 +32,12 @@ impl Model for Bare {
     ghost invariant = { λ b. IsSoundMachine b.code.value.nodes b.body.value.machine
         × IsProgressScopedOver is_fiber_number
         (progress_of b.code.value.nodes b.body.value.machine)
-        × HasOwnRun b.code.value.nodes b.body.value.trace.items (counts_of b.body.value.machine)
+        × HasOwnRun b.code.value.nodes (events_in b.body.value.trace.items) (counts_of b.body.value.machine)
         (progress_of b.code.value.nodes b.body.value.machine) };
 }
 
 impl Bare {
+    ghost use Rattle.fx_term.specs.Stamped.{events_in, stamps_in};
     ghost use Rattle.fx_fiber.specs.Bare.{bare_at, HasOwnRun, reached};
     ghost use Rattle.fx_fiber.specs.Fiber.{is_fiber_number};
     ghost use Rattle.fx_fiber.specs.Machine.{counts_of, progress_of};
@@ -52,7 +54,7 @@ impl Bare {
         requires sound { IsSoundMachine code.now.nodes body.value.machine }
         requires scoped { IsProgressScopedOver is_fiber_number
             (progress_of code.now.nodes body.value.machine) }
-        requires run { HasOwnRun code.now.nodes body.value.trace.items
+        requires run { HasOwnRun code.now.nodes (events_in body.value.trace.items)
             (counts_of body.value.machine) (progress_of code.now.nodes body.value.machine) }
         ensures { result
             ≡ bare_at code.now.nodes body.value.id body.value.trace.items body.value.machine }
@@ -70,18 +72,20 @@ impl Bare {
         self.body.id
     }
 
-    /// The events, the first one first.
-    pub fn trace(&self) -> &[Event]
-        ensures events { result.now ≡ self.now.trace }
+    /// The events with their stamps, the first one first.
+    pub fn trace(&self) -> &[Stamped]
+        ensures events { events_in result.now ≡ self.now.trace }
+        ensures stamps { stamps_in result.now ≡ self.now.stamps }
         ensures run { HasOwnRun self.now.nodes self.now.trace self.now.counts
             (reached self.now) }
     {
         &self.body.trace
     }
 
-    /// The events, the first one first, where the fiber is not needed any more.
-    pub fn into_trace(self) -> Vec<Event>
-        ensures { result.items ≡ self.trace }
+    /// The events with their stamps, the first one first, where the fiber is not needed any more.
+    pub fn into_trace(self) -> Vec<Stamped>
+        ensures events { events_in result.items ≡ self.trace }
+        ensures stamps { stamps_in result.items ≡ self.stamps }
     {
         Box::into_inner(self.body).trace
     }

@@ -21,5 +21,6 @@ pub fn main_begin(alloc: Global, code: &Code) -> Begin
         slots: Registers::new(alloc),
         next: 1,
         end: 1 + code.need(root),
+        stamp: 0,
     }
 }

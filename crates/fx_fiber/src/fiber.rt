@@ -7,7 +7,7 @@ use crate::machine::focus::Focus;
 use crate::port::Port;
 use crate::stepped::Stepped;
 use fx_model::{Closed, Source};
-use fx_term::{Code, Event, Memory};
+use fx_term::{Code, Memory, Stamped};
 use std::alloc::Global;
 use std::marker::Model;
 
@@ -45,13 +45,14 @@ impl<P: Port> Model for Fiber<P> {
         f.body.value.source };
 
     ghost invariant = { λ f. ((P.theory.facts f.port).number ≡ f.body.value.id)
-        × IsKept P.theory f.port f.body.value.trace.items
+        × IsKept P.theory f.port f.body.value.trace.items f.body.value.clock
         f.body.value.machine
         × ((P.theory.facts f.port).number < P.theory.total) };
 }
 
 impl<P: Port> Fiber<P> {
     ghost use Rattle.fx_term.specs.Meaning.{root_term};
+    ghost use Rattle.fx_term.specs.Stamped.{events_in, stamps_in};
     ghost use Rattle.fx_model.specs.Origin.{origin_of, main_origin, main_begin_of};
     ghost use Rattle.fx_model.specs.Run.{first_counts};
     ghost use Rattle.fx_fiber.specs.PortFacts.{first_facts};
@@ -79,6 +80,7 @@ impl<P: Port> Fiber<P> {
         requires fresh { P.theory.agrees port [] }
         ensures port { IfOk result (λ fiber. fiber.port ≡ port) }
         ensures trace { IfOk result (λ fiber. fiber.trace ≡ []) }
+        ensures stamps { IfOk result (λ fiber. fiber.stamps ≡ []) }
         ensures counts { IfOk result
             (λ fiber. fiber.counts ≡ first_counts (main_origin (root_term code.now.nodes))) }
         ensures progress { IfOk result
@@ -123,20 +125,22 @@ impl<P: Port> Fiber<P> {
         &self.port
     }
 
-    /// The events so far, the first one first, where the fiber is not needed any more.
-    pub fn into_trace(self) -> Vec<Event>
+    /// The events so far with their stamps, the first one first, where the fiber is not needed any more.
+    pub fn into_trace(self) -> Vec<Stamped>
     where
         P: Drop,
-        ensures { result.items ≡ self.trace }
+        ensures events { events_in result.items ≡ self.trace }
+        ensures stamps { stamps_in result.items ≡ self.stamps }
     {
         Box::into_inner(self.body).trace
     }
 
-    /// The events so far, the first one first.
-    pub fn trace(&self) -> &[Event]
-        ensures events { result.now ≡ self.now.trace }
+    /// The events so far with their stamps, the first one first.
+    pub fn trace(&self) -> &[Stamped]
+        ensures events { events_in result.now ≡ self.now.trace }
+        ensures stamps { stamps_in result.now ≡ self.now.stamps }
         ensures lawful { IsLawful P.theory.code (P.theory.facts self.now.port).beginning (P.theory.agrees self.now.port)
-            self.now.trace self.now.counts (progress P.theory.code self.now) }
+            self.now.trace self.now.stamps self.now.counts (progress P.theory.code self.now) }
     {
         &self.body.trace
     }
@@ -208,7 +212,7 @@ impl<P: Port> Fiber<P> {
         ensures port { result.1 ≡ self.port }
         ensures bare { result.0 ≡ bare_of P.theory.code (P.theory.facts self.port).number self }
         ensures lawful { IsLawful P.theory.code (P.theory.facts result.1).beginning (P.theory.agrees result.1)
-            result.0.trace result.0.counts (reached result.0) }
+            result.0.trace result.0.stamps result.0.counts (reached result.0) }
         ensures finished { (P.theory.facts result.1).has_finished ≡ has_ended (reached result.0) }
     {
         let Fiber { port, body } = self;

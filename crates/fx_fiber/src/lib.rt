@@ -48,6 +48,10 @@
 //! one. A fiber that waits at an open place looks in each step, so a request is seen there; where
 //! something closes the place only what it waits for lets it go on.
 //!
+//! Each event has a stamp: one more than the fiber's clock, which is the stamp of the event before it, or of the
+//! fiber's start. Where the port finds what another did (a request, an end, an element), it gives the stamp of
+//! that too, to which the clock is raised first. The port is told the stamp of each put, request, start and end.
+//!
 //! [`Fiber::burst`] makes rules in one go that need no other fiber: those that show nothing, and those of a
 //! bracket. A step makes the next one.
 //!
@@ -79,6 +83,7 @@
 
 mod bare;
 mod begin;
+mod clock;
 mod fiber;
 mod machine;
 mod port;

@@ -3,7 +3,9 @@ ghost use Rattle.std.specs.Prelude.{◌≡◌, ◌^◌, true, false, None};
 ghost use Rattle.fx_term.specs.declared.offered.Offered.TheVariants.{Full};
 
 use fx_fiber::{Fiber, Port, Source, Stepped, main_begin};
-use fx_term::{Arg, Begin, Code, CodeBrand, Event, Memory, Node, NodeId, Offered, Outcome};
+use fx_term::{
+    Arg, Begin, Code, CodeBrand, Event, Memory, Node, NodeId, Offered, Outcome, Stamped,
+};
 use std::alloc::Global;
 use std::marker::{Brand, PhantomData};
 use std::test::Fail;
@@ -43,13 +45,13 @@ impl<J: CodeBrand> Port for Alone<J> {
       total = 2 ^ 32;
       may = λ id. true;
       calls = record {
-        looks = λ p s found p' s'. (found ≡ false) × (p' ≡ p) × (s' ≡ s);
-        requests = λ p s id p' s'. (p' ≡ p) × (s' ≡ s);
-        peeks = λ p s id outcome p' s'. (outcome ≡ None) × (p' ≡ p) × (s' ≡ s);
-        offers = λ p s queue value answer p' s'. (answer ≡ Full) × (p' ≡ p) × (s' ≡ s);
-        takes = λ p s queue value p' s'. (value ≡ None) × (p' ≡ p) × (s' ≡ s);
+        looks = λ p s found p' s'. (found ≡ None) × (p' ≡ p) × (s' ≡ s);
+        requests = λ p s id stamp p' s'. (p' ≡ p) × (s' ≡ s);
+        peeks = λ p s id end p' s'. (end ≡ None) × (p' ≡ p) × (s' ≡ s);
+        offers = λ p s queue value stamp answer p' s'. (answer ≡ Full) × (p' ≡ p) × (s' ≡ s);
+        takes = λ p s queue element p' s'. (element ≡ None) × (p' ≡ p) × (s' ≡ s);
         starts = λ p s id begin child p' s'. (p' ≡ record p { next = begin.end }) × (s' ≡ s);
-        finishes = λ p s outcome p' s'. (p' ≡ record p { has_ended = true }) × (s' ≡ s);
+        finishes = λ p s outcome stamp p' s'. (p' ≡ record p { has_ended = true }) × (s' ≡ s);
         outsides = λ p s id p' s'. (p' ≡ p) × (s' ≡ s);
         waits = λ p s source p' s'. (p' ≡ p) × (s' ≡ s);
         wakes = λ s woken s'. (woken ≡ None) × (s' ≡ s);
@@ -64,21 +66,27 @@ impl<J: CodeBrand> Port for Alone<J> {
       agrees = λ p deeds. Unit {0};
     } };
 
-    fn look(&mut self, _alloc: &mut Global) -> bool {
-        false
-    }
-
-    fn request(&mut self, _alloc: &mut Global, _id: u32) {}
-
-    fn peek(&mut self, _alloc: &mut Global, _id: u32) -> Option<Outcome> {
+    fn look(&mut self, _alloc: &mut Global) -> Option<u64> {
         None
     }
 
-    fn offer(&mut self, _alloc: &mut Global, _queue: u8, _value: u64) -> Result<Offered, Memory> {
+    fn request(&mut self, _alloc: &mut Global, _id: u32, _stamp: u64) {}
+
+    fn peek(&mut self, _alloc: &mut Global, _id: u32) -> Option<(Outcome, u64)> {
+        None
+    }
+
+    fn offer(
+        &mut self,
+        _alloc: &mut Global,
+        _queue: u8,
+        _value: u64,
+        _stamp: u64,
+    ) -> Result<Offered, Memory> {
         Ok(Offered::Full)
     }
 
-    fn take(&mut self, _alloc: &mut Global, _queue: u8) -> Option<u64> {
+    fn take(&mut self, _alloc: &mut Global, _queue: u8) -> Option<(u64, u64)> {
         None
     }
 
@@ -88,7 +96,7 @@ impl<J: CodeBrand> Port for Alone<J> {
         Ok(child)
     }
 
-    fn finish(&mut self, _alloc: &mut Global, _outcome: Outcome) {
+    fn finish(&mut self, _alloc: &mut Global, _outcome: Outcome, _stamp: u64) {
         self.has_ended = true;
     }
 
@@ -102,7 +110,7 @@ impl<J: CodeBrand> Port for Alone<J> {
 }
 
 /// What a fiber that is alone shows in so many steps, if it does not wait before.
-fn shows<J: CodeBrand>(alloc: Global, code: &Code, steps: u32) -> Result<Vec<Event>, Fail>
+fn shows<J: CodeBrand>(alloc: Global, code: &Code, steps: u32) -> Result<Vec<Stamped>, Fail>
     requires { code.now.nodes ≡ J.nodes }
 {
     let mut shared = alloc;
@@ -119,7 +127,7 @@ fn shows<J: CodeBrand>(alloc: Global, code: &Code, steps: u32) -> Result<Vec<Eve
     Ok(fiber.into_trace())
 }
 
-fn shown(alloc: Global, nodes: &[Node], steps: u32) -> Result<Vec<Event>, Fail> {
+fn shown(alloc: Global, nodes: &[Node], steps: u32) -> Result<Vec<Stamped>, Fail> {
     let code = Code::build(alloc, Vec::from_slice(alloc, nodes)?, 1)?;
     shows::<Brand>(alloc, &code, steps)
 }
@@ -136,6 +144,14 @@ const START_AND_WAIT: &[Node] = &[
 #[test]
 fn a_fiber_that_is_alone_starts_another_and_waits(rt: HostRuntime) -> Result<(), Fail> {
     let found = shown(rt.alloc(), START_AND_WAIT, 9)?;
-    assert!(rt; found.as_slice() == [Event::Start(1), Event::Refused(0)].as_slice());
+    let start = Stamped {
+        event: Event::Start(1),
+        stamp: 1,
+    };
+    let refused = Stamped {
+        event: Event::Refused(0),
+        stamp: 2,
+    };
+    assert!(rt; found.as_slice() == [start, refused].as_slice());
     Ok(())
 }

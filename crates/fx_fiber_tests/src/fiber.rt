@@ -4,7 +4,9 @@ ghost use Rattle.std.specs.Prelude.{◌≡◌, ◌^◌, true, Some, None, is_som
 ghost use Rattle.fx_term.specs.declared.node.Node.{Node};
 
 use fx_fiber::{Closed, Fiber, Port, Source, Stepped, main_begin};
-use fx_term::{Arg, Begin, Code, CodeBrand, Event, Memory, Node, NodeId, Offered, Outcome};
+use fx_term::{
+    Arg, Begin, Code, CodeBrand, Event, Memory, Node, NodeId, Offered, Outcome, Stamped,
+};
 use std::alloc::{AllocError, Global};
 use std::cell::Cell;
 use std::marker::{Brand, PhantomData};
@@ -96,9 +98,10 @@ impl Looks {
     }
 }
 
-/// A port that answers one look at most with a request, and keeps the end that it was told. No other
-/// fiber takes a step, so none has ended, none sees what is requested of it, and none is woken. Queue 0 has
-/// room for one element; there is no other, so each other one is full, and empty.
+/// A port that answers one look at most with a request, which comes from outside, and keeps the end that it
+/// was told. No other fiber takes a step, so none has ended, none sees what is requested of it, and none is
+/// woken. Queue 0 has room for one element, which is kept with its stamp; there is no other, so each other one
+/// is full, and empty.
 #[derive(Drop)]
 struct TestPort<J: CodeBrand> {
     alloc: Global,
@@ -107,7 +110,7 @@ struct TestPort<J: CodeBrand> {
     next: u32,
     saw: bool,
     told: Option<Outcome>,
-    held: Option<u64>,
+    held: Option<(u64, u64)>,
     puts: u64,
     of: PhantomData<J>,
 }
@@ -142,13 +145,13 @@ impl<J: CodeBrand> Port for TestPort<J> {
       total = 2 ^ 32;
       may = λ id. true;
       calls = record {
-        looks = λ p s answer p' s'. (p' ≡ record p { saw = answer || p.saw }) × (s' ≡ s);
-        requests = λ p s id p' s'. (p' ≡ p) × (s' ≡ s);
-        peeks = λ p s id answer p' s'. (answer ≡ None) × (p' ≡ p) × (s' ≡ s);
-        offers = λ p s queue n answer p' s'. Unit {0};
-        takes = λ p s queue answer p' s'. Unit {0};
+        looks = λ p s found p' s'. (p' ≡ record p { saw = is_some found || p.saw }) × (s' ≡ s);
+        requests = λ p s id stamp p' s'. (p' ≡ p) × (s' ≡ s);
+        peeks = λ p s id end p' s'. (end ≡ None) × (p' ≡ p) × (s' ≡ s);
+        offers = λ p s queue n stamp answer p' s'. Unit {0};
+        takes = λ p s queue element p' s'. Unit {0};
         starts = λ p s id begin child p' s'. (child.begin ≡ begin) × (p' ≡ record p { next = begin.end }) × (s' ≡ s);
-        finishes = λ p s outcome p' s'. (p' ≡ record p { told = Some outcome }) × (s' ≡ s);
+        finishes = λ p s outcome stamp p' s'. (p' ≡ record p { told = Some outcome }) × (s' ≡ s);
         outsides = λ p s id p' s'. p' ≡ p;
         waits = λ p s source p' s'. (p' ≡ p) × (s' ≡ s);
         wakes = λ s woken s'. (woken ≡ None) × (s' ≡ s);
@@ -163,32 +166,38 @@ impl<J: CodeBrand> Port for TestPort<J> {
       agrees = λ p deeds. Unit {0};
     } };
 
-    fn look(&mut self, looks: &mut Looks) -> bool {
+    fn look(&mut self, looks: &mut Looks) -> Option<u64> {
         let number = looks.made.get().saturating_add(1);
         looks.made.set(number);
         if self.saw || self.told.is_some() || looks.request.is_none_or(|first| number < first) {
-            return false;
+            return None;
         }
         self.saw = true;
-        true
+        Some(0)
     }
 
-    fn request(&mut self, _looks: &mut Looks, _id: u32) {}
+    fn request(&mut self, _looks: &mut Looks, _id: u32, _stamp: u64) {}
 
-    fn peek(&mut self, _looks: &mut Looks, _id: u32) -> Option<Outcome> {
+    fn peek(&mut self, _looks: &mut Looks, _id: u32) -> Option<(Outcome, u64)> {
         None
     }
 
-    fn offer(&mut self, _looks: &mut Looks, queue: u8, value: u64) -> Result<Offered, Memory> {
+    fn offer(
+        &mut self,
+        _looks: &mut Looks,
+        queue: u8,
+        value: u64,
+        stamp: u64,
+    ) -> Result<Offered, Memory> {
         if queue != 0 || self.held.is_some() {
             return Ok(Offered::Full);
         }
-        self.held = Some(value);
+        self.held = Some((value, stamp));
         self.puts += 1;
         Ok(Offered::Done)
     }
 
-    fn take(&mut self, _looks: &mut Looks, queue: u8) -> Option<u64> {
+    fn take(&mut self, _looks: &mut Looks, queue: u8) -> Option<(u64, u64)> {
         if queue != 0 {
             return None;
         }
@@ -203,7 +212,7 @@ impl<J: CodeBrand> Port for TestPort<J> {
         Ok(child)
     }
 
-    fn finish(&mut self, looks: &mut Looks, outcome: Outcome) {
+    fn finish(&mut self, looks: &mut Looks, outcome: Outcome, _stamp: u64) {
         self.told = Some(outcome);
         looks.told.set(Some(outcome));
     }
@@ -243,12 +252,23 @@ fn answer_of<P: Port>(stepped: &Stepped<P>) -> Answer {
     }
 }
 
+/// These events with the stamps of a fiber that has no cause but what it did itself: they count up from 1.
+fn counted(alloc: Global, events: &[Event]) -> Result<Vec<Stamped>, AllocError> {
+    let mut trace = Vec::new(alloc);
+    let mut stamp = 0u64;
+    for &event in events {
+        stamp = stamp.saturating_add(1);
+        trace.push(Stamped { event, stamp })?;
+    }
+    Ok(trace)
+}
+
 /// What was to be seen of a fiber that made so many steps, or as many as there were to its end.
 #[derive(Drop)]
 struct Ran {
     id: u32,
     answers: Vec<Answer>,
-    trace: Vec<Event>,
+    trace: Vec<Stamped>,
     told: Option<Outcome>,
     looks: u32,
     had_ended_first: bool,
@@ -256,8 +276,8 @@ struct Ran {
 }
 
 impl Ran {
-    /// Whether the main fiber made these events, with so many looks, and had not ended before.
-    fn has(&self, trace: &[Event], looks: u32) -> bool {
+    /// Whether the main fiber has this trace, with so many looks, and had not ended before.
+    fn has(&self, trace: &[Stamped], looks: u32) -> bool {
         self.id == 0
             && !self.had_ended_first
             && self.looks == looks
@@ -267,7 +287,7 @@ impl Ran {
     /// Whether the fiber has ended, and told its port so as its last event says.
     fn told_its_end(&self) -> bool {
         match (self.told, self.trace.last()) {
-            (Some(outcome), Some(last)) => self.has_ended && *last == Event::Ended(outcome),
+            (Some(outcome), Some(last)) => self.has_ended && last.event == Event::Ended(outcome),
             _ => false,
         }
     }
@@ -332,15 +352,16 @@ fn run(alloc: Global, nodes: &[Node], request: Option<u32>, steps: u32) -> Resul
     drive::<Brand>(alloc, &code, request, steps)
 }
 
-/// A whole run: what it is called, its code, the look from which on its fiber is requested, its trace,
-/// and how many looks there are.
+/// A whole run: what it is called, its code, the look from which on its fiber is requested, its events,
+/// whose stamps count up from 1, and how many looks there are.
 type Row<'a> = (&'a str, &'a [Node], Option<u32>, &'a [Event], u32);
 
 /// Runs the fiber of each row to its end.
 fn assert_runs(rt: &impl Abort, alloc: Global, rows: &[Row]) -> Result<(), Fail> {
-    for &(row, nodes, request, trace, looks) in rows {
+    for &(row, nodes, request, events, looks) in rows {
         let ran = run(alloc, nodes, request, 100)?;
-        assert!(rt; ran.has(trace, looks) && ran.told_its_end(), "{row}");
+        let trace = counted(alloc, events)?;
+        assert!(rt; ran.has(&trace, looks) && ran.told_its_end(), "{row}");
     }
     Ok(())
 }

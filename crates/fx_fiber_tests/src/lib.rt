@@ -7,3 +7,7 @@
 mod alone;
 #[cfg(test)]
 mod fiber;
+#[cfg(test)]
+mod outside;
+#[cfg(test)]
+mod stamps;

@@ -71,13 +71,13 @@ impl<'a, R: Wait, J: CodeBrand> Port for LockedPort<'a, R, J> {
       total = (main_begin_of J.nodes).end;
       may = λ id. true;
       calls = record {
-        looks = λ p s answer p' s'. Unit {0};
-        requests = λ p s id p' s'. Unit {0};
-        peeks = λ p s id answer p' s'. Unit {0};
-        offers = λ p s queue n answer p' s'. Unit {0};
-        takes = λ p s queue answer p' s'. Unit {0};
+        looks = λ p s found p' s'. Unit {0};
+        requests = λ p s id stamp p' s'. Unit {0};
+        peeks = λ p s id end p' s'. Unit {0};
+        offers = λ p s queue n stamp answer p' s'. Unit {0};
+        takes = λ p s queue element p' s'. Unit {0};
         starts = λ p s id begin child p' s'. Unit {0};
-        finishes = λ p s outcome p' s'. Unit {0};
+        finishes = λ p s outcome stamp p' s'. Unit {0};
         outsides = λ p s id p' s'. Unit {0};
         waits = λ p s source p' s'. Unit {0};
         wakes = λ s woken s'. Unit {0};
@@ -92,23 +92,29 @@ impl<'a, R: Wait, J: CodeBrand> Port for LockedPort<'a, R, J> {
       agrees = λ p deeds. Unit {0};
     } };
 
-    fn look(&mut self, _notes: &mut Notes<J>) -> bool {
-        self.board.lock(self.rt).is_requested(self.id)
+    fn look(&mut self, _notes: &mut Notes<J>) -> Option<u64> {
+        self.board.lock(self.rt).requested(self.id)
     }
 
-    fn request(&mut self, notes: &mut Notes<J>, id: u32) {
-        self.board.lock(self.rt).request(id);
+    fn request(&mut self, notes: &mut Notes<J>, id: u32, stamp: u64) {
+        self.board.lock(self.rt).request(id, stamp);
         notes.note(id);
     }
 
-    fn peek(&mut self, _notes: &mut Notes<J>, id: u32) -> Option<Outcome> {
-        self.board.lock(self.rt).outcome(id)
+    fn peek(&mut self, _notes: &mut Notes<J>, id: u32) -> Option<(Outcome, u64)> {
+        self.board.lock(self.rt).end(id)
     }
 
-    fn offer(&mut self, notes: &mut Notes<J>, queue: u8, value: u64) -> Result<Offered, Memory> {
+    fn offer(
+        &mut self,
+        notes: &mut Notes<J>,
+        queue: u8,
+        value: u64,
+        stamp: u64,
+    ) -> Result<Offered, Memory> {
         let mut guard = self.board.lock(self.rt);
         let board = &mut *guard;
-        let answer = board.put(value)?;
+        let answer = board.put(value, stamp)?;
         if answer == Offered::Done {
             wake(board, notes, Source::Element(queue));
             self.puts += 1;
@@ -116,7 +122,7 @@ impl<'a, R: Wait, J: CodeBrand> Port for LockedPort<'a, R, J> {
         Ok(answer)
     }
 
-    fn take(&mut self, notes: &mut Notes<J>, queue: u8) -> Option<u64> {
+    fn take(&mut self, notes: &mut Notes<J>, queue: u8) -> Option<(u64, u64)> {
         let mut guard = self.board.lock(self.rt);
         let board = &mut *guard;
         let front = board.take()?;
@@ -136,16 +142,16 @@ impl<'a, R: Wait, J: CodeBrand> Port for LockedPort<'a, R, J> {
         Ok(child)
     }
 
-    fn finish(&mut self, notes: &mut Notes<J>, outcome: Outcome) {
+    fn finish(&mut self, notes: &mut Notes<J>, outcome: Outcome, stamp: u64) {
         self.told = Some(outcome);
         let mut guard = self.board.lock(self.rt);
         let board = &mut *guard;
-        board.finish(self.id, outcome);
+        board.finish(self.id, outcome, stamp);
         wake(board, notes, Source::Outcome(self.id));
     }
 
     fn outside(&mut self, notes: &mut Notes<J>, id: u32) {
-        self.board.lock(self.rt).request(id);
+        self.board.lock(self.rt).request(id, 0);
         notes.note(id);
     }
 

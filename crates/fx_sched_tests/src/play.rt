@@ -34,7 +34,7 @@ pub enum Plan {
 pub struct Seen {
     /// How many turns of the main fiber go on before that in which it ends; else 0.
     pub pending: u32,
-    /// Its trace, where it goes by turns; else the last event of each fiber, ascending by number.
+    /// Its events, where it goes by turns; else the last one of each fiber, ascending by number.
     pub events: Vec<Event>,
 }
 

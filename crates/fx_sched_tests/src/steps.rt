@@ -2,7 +2,7 @@
 ghost use Rattle.std.specs.Prelude.{◌≡◌};
 
 use fx_fiber::{Fiber, Port, Stepped};
-use fx_term::{Code, Event, Memory};
+use fx_term::{Code, Event, Memory, Stamped};
 use std::alloc::Global;
 
 /// A step of the fiber, if it has not ended, and the fiber that it starts. Where it waits it is registered.
@@ -54,6 +54,15 @@ pub fn start<P: Port + Drop>(
     }
 }
 
+/// The events of a trace.
+pub fn events_of(alloc: Global, trace: &[Stamped]) -> Result<Vec<Event>, Memory> {
+    let mut events = Vec::new(alloc);
+    for stamped in trace {
+        events.push(stamped.event)?;
+    }
+    Ok(events)
+}
+
 /// The last event of each fiber, where it has one.
 pub fn last_events<P: Port + Drop>(
     alloc: Global,
@@ -61,8 +70,8 @@ pub fn last_events<P: Port + Drop>(
 ) -> Result<Vec<Event>, Memory> {
     let mut events = Vec::new(alloc);
     for fiber in fibers {
-        if let Some(&last) = fiber.trace().last() {
-            events.push(last)?;
+        if let Some(last) = fiber.trace().last() {
+            events.push(last.event)?;
         }
     }
     Ok(events)

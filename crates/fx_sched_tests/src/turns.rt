@@ -2,6 +2,7 @@
 ghost use Rattle.std.specs.Prelude.{◌≡◌, ℕ, true};
 
 use crate::play::{Plan, Seen, play};
+use crate::steps::events_of;
 use fx_fiber::{Fiber, Port};
 use fx_sched::{Gate, gated_turn, leave, solo};
 use fx_term::{Arg, Code, Event, Memory, Node, NodeId, Outcome};
@@ -25,13 +26,14 @@ impl Gate for Names {
     }
 }
 
-/// A script, the gate, how many turns of its fiber go on before that in which it ends, and its trace.
+/// A script, the gate, how many turns of its fiber go on before that in which it ends, and its
+/// events.
 struct Row {
     what: &'static str,
     nodes: &'static [Node],
     gate: Names,
     pending: u32,
-    trace: &'static [Event],
+    events: &'static [Event],
 }
 
 static ROWS: [Row; 3] = [
@@ -41,7 +43,7 @@ static ROWS: [Row; 3] = [
         nodes: &[Node::Pure(Arg::Slot(0)), Node::For(0, 100, NodeId(0))],
         gate: Names { id: None },
         pending: 4,
-        trace: &[Event::Ended(Outcome::Succeeded(0))],
+        events: &[Event::Ended(Outcome::Succeeded(0))],
     },
     // `seq (cede) (seq (cede) (pure 1))`
     Row {
@@ -55,14 +57,14 @@ static ROWS: [Row; 3] = [
         ],
         gate: Names { id: None },
         pending: 2,
-        trace: &[Event::Ended(Outcome::Succeeded(1))],
+        events: &[Event::Ended(Outcome::Succeeded(1))],
     },
     Row {
         what: "what the gate names is requested before the first step",
         nodes: &[Node::Never],
         gate: Names { id: Some(0) },
         pending: 0,
-        trace: &[
+        events: &[
             Event::Seen,
             Event::Cancelled,
             Event::Ended(Outcome::Canceled),
@@ -70,7 +72,7 @@ static ROWS: [Row; 3] = [
     },
 ];
 
-/// How many turns of a fiber go on before that in which it ends, if that is soon, and its trace.
+/// How many turns of a fiber go on before that in which it ends, if that is soon, and its events.
 pub fn turns<P: Port + Drop, R: RandomSource + AllocGlobal, G: Gate>(
     rt: &R,
     mut fiber: Fiber<P>,
@@ -93,12 +95,12 @@ pub fn turns<P: Port + Drop, R: RandomSource + AllocGlobal, G: Gate>(
     leave(cx);
     Ok(Seen {
         pending,
-        events: fiber.into_trace(),
+        events: events_of(rt.alloc(), fiber.trace())?,
     })
 }
 
 fn is_told(seen: &Seen, row: &Row) -> bool {
-    seen.pending == row.pending && seen.events.as_slice() == row.trace
+    seen.pending == row.pending && seen.events.as_slice() == row.events
 }
 
 #[test]

@@ -24,7 +24,7 @@ pub(crate) fn burst<P: Port>(
     requires begins { outset ≡ outset_at port.old shared.old body.old }
     requires code { code.now.nodes ≡ P.theory.code }
     requires kept { IsKept P.theory port.old
-        body.old.trace.items body.old.machine }
+        body.old.trace.items body.old.clock body.old.machine }
     ensures ok { IfOk result (λ n. Bursts P.theory most n
         (fiber_at port.old body.old.trace.items body.old.machine body.old.source) shared.old
         (fiber_at port.new body.new.trace.items body.new.machine body.new.source) shared.new) }
@@ -32,7 +32,7 @@ pub(crate) fn burst<P: Port>(
         (fiber_at port.old body.old.trace.items body.old.machine body.old.source) shared.old
         (fiber_at port.new body.new.trace.items body.new.machine body.new.source) shared.new) }
     ensures kept { IsKept P.theory port.new
-        body.new.trace.items body.new.machine }
+        body.new.trace.items body.new.clock body.new.machine }
     ensures id { body.new.id ≡ body.old.id }
     ensures source { body.new.source ≡ body.old.source }
     ensures number { (P.theory.facts port.new).number ≡ (P.theory.facts port.old).number }
@@ -46,14 +46,14 @@ pub(crate) fn burst<P: Port>(
         Reached::Stops(made) => return Ok(made),
         Reached::Looks(made) => made,
     };
-    match interruption(port, &body.machine, shared, false) {
+    match interruption(port, &body.machine, shared, &mut body.clock, false) {
         None => match rules::<P>(body, code, made, most, Looked::InVain)? {
             Reached::Looks(made) | Reached::Stops(made) => Ok(made),
         },
         Some(Interruption::Cancellation) => Ok(made),
         Some(Interruption::Request) => {
             let _ = body.machine.seen();
-            body.trace.push_reserved(Event::Seen);
+            body.show(Event::Seen);
             Ok(made + 1)
         }
     }

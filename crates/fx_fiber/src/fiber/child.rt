@@ -15,7 +15,8 @@ use crate::machine::Machine;
 use fx_term::{Begin, Code, Memory, NodeId};
 
 /// What the child of a `start` begins with, and what it has beside its port, but for the numbers of the
-/// names in scope: it is under no mask and not canceled. Its own number is had by this name.
+/// names in scope: it is under no mask and not canceled, and begins with the stamp of
+/// its start. Its own number is had by this name.
 // (laid into each step, of which there is one for each port: LLVM alone would call it)
 #[inline(always)]
 pub(crate) fn child_of(
@@ -23,6 +24,7 @@ pub(crate) fn child_of(
     code: &Code,
     slot: u32,
     started: NodeId,
+    stamp: u64,
 ) -> Result<(Begin, Box<Body>), Memory>
     ghost nodes: { List Node }
     requires code { code.now.nodes ≡ nodes }
@@ -30,7 +32,7 @@ pub(crate) fn child_of(
         × IsEvaluating nodes machine.old id (node.Start slot started then) }
     requires room { machine.old.next + 1 + need (term_of nodes started.0) ≤ machine.old.end }
     requires word { machine.old.end < 2 ^ 32 }
-    ensures begin { IfOk result (λ child. child.0 ≡ child_begin nodes machine.old started) }
+    ensures begin { IfOk result (λ child. child.0 ≡ child_begin nodes machine.old started stamp) }
     ensures body { IfOk result
         (λ child. IsFirstBody nodes machine.old.next child.0 (with_slots child.0.slots child.1.value)) }
     ensures named { OnOk result (machine.new ≡ record machine.old {
@@ -46,6 +48,7 @@ pub(crate) fn child_of(
         slots: machine.registers.copied(alloc)?,
         next,
         end: next + code.need(started),
+        stamp,
     };
     let child = Body::beginning(alloc, id, &begin)?;
     machine.registers.bind(Some(slot), u64::from(id))?;

@@ -32,7 +32,7 @@ pub(crate) fn rules<P: Port>(
     requires code { code.now.nodes ≡ P.theory.code }
     requires few { from ≤ most }
     requires to { LeadsTo P.theory outset from
-        body.old.machine body.old.trace.items }
+        body.old.machine body.old.trace.items body.old.clock }
     requires room { from < most → vec_len body.old.trace < vec_capacity body.old.trace }
     requires looked { HasLooked P.theory.calls looked body.old.machine.known outset.port outset.shared }
     ensures ok { IfOk result (λ reached. Reaches P.theory outset most
@@ -45,7 +45,7 @@ pub(crate) fn rules<P: Port>(
         match glide::<P>(&mut body.machine, code, looked)? {
             Glided::Went => {}
             Glided::Showed(event) => {
-                body.trace.push_reserved(event);
+                body.show(event);
                 if made + 1 < most {
                     body.trace.reserve(1)?;
                 }
@@ -68,7 +68,7 @@ pub(crate) fn rules_before_look<P: Port>(
     requires code { code.now.nodes ≡ P.theory.code }
     requires some { 0 < most }
     requires to { LeadsTo P.theory outset 0
-        body.old.machine body.old.trace.items }
+        body.old.machine body.old.trace.items body.old.clock }
     requires room { vec_len body.old.trace < vec_capacity body.old.trace }
     ensures ok { IfOk result (λ reached. Reaches P.theory outset most
         reached body.new) }

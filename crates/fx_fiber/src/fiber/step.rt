@@ -24,7 +24,7 @@ pub(crate) fn step<P: Port>(
 ) -> Result<Stepped<P>, Memory>
     requires code { code.now.nodes ≡ P.theory.code }
     requires kept { IsKept P.theory port.old
-        body.old.trace.items body.old.machine }
+        body.old.trace.items body.old.clock body.old.machine }
     requires going { has_ended (progress_of P.theory.code body.old.machine) ≡ false }
     ensures ok { IfOk result (λ answer. DoesStep P.theory
         (fiber_at port.old body.old.trace.items body.old.machine body.old.source) shared.old answer
@@ -33,14 +33,14 @@ pub(crate) fn step<P: Port>(
         (fiber_at port.old body.old.trace.items body.old.machine body.old.source)
         (fiber_at port.new body.new.trace.items body.new.machine body.new.source) × (shared.new ≡ shared.old)) }
     ensures kept { IsKept P.theory port.new
-        body.new.trace.items body.new.machine }
+        body.new.trace.items body.new.clock body.new.machine }
     ensures id { body.new.id ≡ body.old.id }
     ensures source { body.new.source ≡ body.old.source }
     ensures number { (P.theory.facts port.new).number ≡ (P.theory.facts port.old).number }
     ensures beginning { (P.theory.facts port.new).beginning ≡ (P.theory.facts port.old).beginning }
 {
     body.trace.reserve(1)?;
-    let made = advance(port, &mut body.machine, code, shared)?;
+    let made = advance(port, &mut body.machine, code, shared, &mut body.clock)?;
     if let Made::Starts(slot, started, then) = made {
         let child = start(port, body, code, shared, slot, started, then)?;
         return Ok(Stepped::Child(child));

@@ -23,11 +23,13 @@ impl Machine {
     ghost use Rattle.std.specs.Prelude.{List};
     ghost use Rattle.fx_term.specs.declared.node.Node.{Node};
 
-    /// The row of a leaf, or none where the fiber waits.
+    /// The row of a leaf, or none where the fiber waits. The clock is raised to the stamp of what the port
+    /// gave.
     pub fn leaf_rule<P: Port>(
         &mut self,
         port: &mut P,
         shared: &mut P::Shared,
+        clock: &mut u64,
         id: NodeId,
         node: &Node,
     ) -> Result<Made, Memory>
@@ -37,20 +39,20 @@ impl Machine {
         requires puts_countable { (P.theory.facts port.old).puts < 2 ^ 63 }
         requires scoped { IsProgressScopedOver is_fiber_number (progress_of P.theory.code self.old) }
         ensures ok { IfOk result (λ made. MakesCall P.theory
-            self.old port.old shared.old made self.new port.new shared.new) }
+            clock.old self.old port.old shared.old made clock.new self.new port.new shared.new) }
         ensures same { OnErr result (IsSame P.theory.code self.old self.new) }
-        ensures unchanged { OnErr result ((port.new ≡ port.old) × (shared.new ≡ shared.old)) }
+        ensures unchanged { OnErr result ((port.new ≡ port.old) × (shared.new ≡ shared.old) × (clock.new ≡ clock.old)) }
     {
         match *node {
             Node::Never => Ok(Made::Waits(Source::Nothing)),
             Node::Start(slot, started, then) => Ok(Made::Starts(slot, started, then)),
-            Node::Join(..) => self.join(port, shared, id, node),
-            Node::Cancel(fiber) => Ok(self.request(port, shared, fiber)),
-            Node::First(left, right) => Ok(self.first(port, shared, left, right)),
-            Node::Offer(queue, value) => self.offer(port, shared, queue, value),
-            Node::TryOffer(queue, value) => self.try_offer(port, shared, queue, value),
-            Node::Take(queue) => Ok(self.take(port, shared, queue)),
-            Node::TryTake(..) => self.try_take(port, shared, id, node),
+            Node::Join(..) => self.join(port, shared, clock, id, node),
+            Node::Cancel(fiber) => Ok(self.request(port, shared, clock, fiber)),
+            Node::First(left, right) => Ok(self.first(port, shared, clock, left, right)),
+            Node::Offer(queue, value) => self.offer(port, shared, clock, queue, value),
+            Node::TryOffer(queue, value) => self.try_offer(port, shared, clock, queue, value),
+            Node::Take(queue) => Ok(self.take(port, shared, clock, queue)),
+            Node::TryTake(..) => self.try_take(port, shared, clock, id, node),
             _ => self.local_rule(id, node),
         }
     }

@@ -12,6 +12,7 @@ ghost use Rattle.fx_fiber.specs.Leaves.{IsJoin};
 ghost use Rattle.fx_fiber.specs.Places.{IsSame, StandsAt, joined_machine};
 ghost use Rattle.fx_fiber.specs.MakesCall.{MakesCall};
 
+use crate::clock::{after, raise};
 use crate::machine::Machine;
 use crate::machine::focus::Focus;
 use crate::machine::made::Made;
@@ -39,6 +40,7 @@ impl Machine {
         &mut self,
         port: &mut P,
         shared: &mut P::Shared,
+        clock: &mut u64,
         id: NodeId,
         node: &Node,
     ) -> Result<Made, Memory>
@@ -46,9 +48,9 @@ impl Machine {
         requires join { IsJoin node.now }
         requires scoped { IsProgressScopedOver is_fiber_number (progress_of P.theory.code self.old) }
         ensures ok { IfOk result (λ made. MakesCall P.theory
-            self.old port.old shared.old made self.new port.new shared.new) }
+            clock.old self.old port.old shared.old made clock.new self.new port.new shared.new) }
         ensures same { OnErr result (IsSame P.theory.code self.old self.new) }
-        ensures unchanged { OnErr result ((port.new ≡ port.old) × (shared.new ≡ shared.old)) }
+        ensures unchanged { OnErr result ((port.new ≡ port.old) × (shared.new ≡ shared.old) × (clock.new ≡ clock.old)) }
     {
         let Node::Join(slot, name, success, _, failure, cancellation) = *node else {
             unreachable!();
@@ -57,7 +59,8 @@ impl Machine {
         // Both parts have the same slot for their name. It is had before the port is asked.
         self.registers.bind(Some(name), 0)?;
         match port.peek(shared, fiber) {
-            Some(outcome) => {
+            Some((outcome, stamp)) => {
+                raise(clock, stamp);
                 self.goes_on_after(outcome, name, success, failure, cancellation);
                 Ok(Made::Learns(fiber, outcome, Event::Joined(fiber, outcome)))
             }
@@ -91,27 +94,40 @@ impl Machine {
     }
 
     /// A `cancel` requests the cancellation of the fiber, and then awaits its end.
-    pub fn request<P: Port>(&mut self, port: &mut P, shared: &mut P::Shared, slot: u32) -> Made
+    pub fn request<P: Port>(
+        &mut self,
+        port: &mut P,
+        shared: &mut P::Shared,
+        clock: &mut u64,
+        slot: u32,
+    ) -> Made
         requires at { (id : NodeId) × StandsAt P.theory.code self.old id (node.Cancel slot) }
         requires scoped { IsProgressScopedOver is_fiber_number (progress_of P.theory.code self.old) }
         ensures { MakesCall P.theory
-            self.old port.old shared.old result self.new port.new shared.new }
+            clock.old self.old port.old shared.old result clock.new self.new port.new shared.new }
     {
         let fiber = self.fiber_of(slot);
-        port.request(shared, fiber);
+        port.request(shared, fiber, after(*clock));
         self.focus = Focus::Await(fiber);
         Made::Shows(Event::Request(fiber))
     }
 
     /// A fiber that awaits the end of one that it canceled goes on with 0, once that has ended.
-    pub fn awaits<P: Port>(&mut self, port: &mut P, shared: &mut P::Shared, fiber: u32) -> Made
+    pub fn awaits<P: Port>(
+        &mut self,
+        port: &mut P,
+        shared: &mut P::Shared,
+        clock: &mut u64,
+        fiber: u32,
+    ) -> Made
         requires sound { IsSoundMachine P.theory.code self.old }
         requires focus { self.old.focus ≡ Focus.Await fiber }
         ensures { MakesCall P.theory
-            self.old port.old shared.old result self.new port.new shared.new }
+            clock.old self.old port.old shared.old result clock.new self.new port.new shared.new }
     {
         match port.peek(shared, fiber) {
-            Some(outcome) => {
+            Some((outcome, stamp)) => {
+                raise(clock, stamp);
                 self.focus = Focus::Return(Done::Val(0));
                 Made::Learns(fiber, outcome, Event::Awaited(fiber))
             }
@@ -124,23 +140,26 @@ impl Machine {
         &mut self,
         port: &mut P,
         shared: &mut P::Shared,
+        clock: &mut u64,
         left: u32,
         right: u32,
     ) -> Made
         requires at { (id : NodeId) × StandsAt P.theory.code self.old id (node.First left right) }
         requires scoped { IsProgressScopedOver is_fiber_number (progress_of P.theory.code self.old) }
         ensures { MakesCall P.theory
-            self.old port.old shared.old result self.new port.new shared.new }
+            clock.old self.old port.old shared.old result clock.new self.new port.new shared.new }
     {
         let left = self.fiber_of(left);
         let right = self.fiber_of(right);
         match port.peek(shared, left) {
-            Some(outcome) => {
+            Some((outcome, stamp)) => {
+                raise(clock, stamp);
                 self.focus = Focus::Return(Done::Val(0));
                 Made::Learns(left, outcome, Event::First(0))
             }
             None => match port.peek(shared, right) {
-                Some(outcome) => {
+                Some((outcome, stamp)) => {
+                    raise(clock, stamp);
                     self.focus = Focus::Return(Done::Val(1));
                     Made::Learns(right, outcome, Event::First(1))
                 }

@@ -6,6 +6,7 @@ ghost use Rattle.fx_fiber.specs.Leaves.{IsTryTake};
 ghost use Rattle.fx_fiber.specs.Places.{IsSame, StandsAt};
 ghost use Rattle.fx_fiber.specs.MakesCall.{MakesCall};
 
+use crate::clock::{after, raise};
 use crate::machine::Machine;
 use crate::machine::focus::Focus;
 use crate::machine::made::Made;
@@ -21,18 +22,19 @@ impl Machine {
         &mut self,
         port: &mut P,
         shared: &mut P::Shared,
+        clock: &mut u64,
         queue: u8,
         value: Arg,
     ) -> Result<Made, Memory>
         requires at { (id : NodeId) × StandsAt P.theory.code self.old id (node.Offer queue value) }
         requires countable { (P.theory.facts port.old).puts < 2 ^ 63 }
         ensures ok { IfOk result (λ made. MakesCall P.theory
-            self.old port.old shared.old made self.new port.new shared.new) }
+            clock.old self.old port.old shared.old made clock.new self.new port.new shared.new) }
         ensures same { OnErr result (IsSame P.theory.code self.old self.new) }
-        ensures unchanged { OnErr result ((port.new ≡ port.old) × (shared.new ≡ shared.old)) }
+        ensures unchanged { OnErr result ((port.new ≡ port.old) × (shared.new ≡ shared.old) × (clock.new ≡ clock.old)) }
     {
         let value = self.registers.number_of(value);
-        match port.offer(shared, queue, value)? {
+        match port.offer(shared, queue, value, after(*clock))? {
             Offered::Done => {
                 self.focus = Focus::Return(Done::Val(0));
                 Ok(Made::Shows(Event::Put(queue, value)))
@@ -46,18 +48,19 @@ impl Machine {
         &mut self,
         port: &mut P,
         shared: &mut P::Shared,
+        clock: &mut u64,
         queue: u8,
         value: Arg,
     ) -> Result<Made, Memory>
         requires at { (id : NodeId) × StandsAt P.theory.code self.old id (node.TryOffer queue value) }
         requires countable { (P.theory.facts port.old).puts < 2 ^ 63 }
         ensures ok { IfOk result (λ made. MakesCall P.theory
-            self.old port.old shared.old made self.new port.new shared.new) }
+            clock.old self.old port.old shared.old made clock.new self.new port.new shared.new) }
         ensures same { OnErr result (IsSame P.theory.code self.old self.new) }
-        ensures unchanged { OnErr result ((port.new ≡ port.old) × (shared.new ≡ shared.old)) }
+        ensures unchanged { OnErr result ((port.new ≡ port.old) × (shared.new ≡ shared.old) × (clock.new ≡ clock.old)) }
     {
         let value = self.registers.number_of(value);
-        match port.offer(shared, queue, value)? {
+        match port.offer(shared, queue, value, after(*clock))? {
             Offered::Done => {
                 self.focus = Focus::Return(Done::Val(1));
                 Ok(Made::Shows(Event::Put(queue, value)))
@@ -70,13 +73,20 @@ impl Machine {
     }
 
     /// A `take` gives the front of the queue, once that has one.
-    pub fn take<P: Port>(&mut self, port: &mut P, shared: &mut P::Shared, queue: u8) -> Made
+    pub fn take<P: Port>(
+        &mut self,
+        port: &mut P,
+        shared: &mut P::Shared,
+        clock: &mut u64,
+        queue: u8,
+    ) -> Made
         requires at { (id : NodeId) × StandsAt P.theory.code self.old id (node.Take queue) }
         ensures { MakesCall P.theory
-            self.old port.old shared.old result self.new port.new shared.new }
+            clock.old self.old port.old shared.old result clock.new self.new port.new shared.new }
     {
         match port.take(shared, queue) {
-            Some(value) => {
+            Some((value, stamp)) => {
+                raise(clock, stamp);
                 self.focus = Focus::Return(Done::Val(value));
                 Made::Shows(Event::Got(queue, value))
             }
@@ -89,15 +99,16 @@ impl Machine {
         &mut self,
         port: &mut P,
         shared: &mut P::Shared,
+        clock: &mut u64,
         id: NodeId,
         node: &Node,
     ) -> Result<Made, Memory>
         requires at { StandsAt P.theory.code self.old id node.now }
         requires try_take { IsTryTake node.now }
         ensures ok { IfOk result (λ made. MakesCall P.theory
-            self.old port.old shared.old made self.new port.new shared.new) }
+            clock.old self.old port.old shared.old made clock.new self.new port.new shared.new) }
         ensures same { OnErr result (IsSame P.theory.code self.old self.new) }
-        ensures unchanged { OnErr result ((port.new ≡ port.old) × (shared.new ≡ shared.old)) }
+        ensures unchanged { OnErr result ((port.new ≡ port.old) × (shared.new ≡ shared.old) × (clock.new ≡ clock.old)) }
     {
         let Node::TryTake(queue, name, part, other) = *node else {
             unreachable!();
@@ -105,7 +116,8 @@ impl Machine {
         // The name has its room before the port is asked.
         self.registers.bind(Some(name), 0)?;
         match port.take(shared, queue) {
-            Some(value) => {
+            Some((value, stamp)) => {
+                raise(clock, stamp);
                 self.registers.rebind(name, value);
                 self.focus = Focus::Eval(part);
                 Ok(Made::Shows(Event::Got(queue, value)))

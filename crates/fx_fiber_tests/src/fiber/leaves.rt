@@ -8,7 +8,8 @@ const NEVER: Node = Node::Never;
 const CEDE: Node = Node::Cede;
 
 /// The first five steps of a run: what it is called, its code, the look from which on its fiber is
-/// requested, the answers of the steps, the trace after them, and how many looks there were.
+/// requested, the answers of the steps, the events after them, whose stamps count up from 1, and how many
+/// looks there were.
 pub(super) type Steps<'a> = (
     &'a str,
     &'a [Node],
@@ -20,10 +21,11 @@ pub(super) type Steps<'a> = (
 
 /// Runs the fiber of each row for five steps.
 pub(super) fn assert_steps(rt: &impl Abort, alloc: Global, rows: &[Steps]) -> Result<(), Fail> {
-    for &(row, nodes, request, answers, trace, looks) in rows {
+    for &(row, nodes, request, answers, events, looks) in rows {
         let ran = run(alloc, nodes, request, 5)?;
+        let trace = counted(alloc, events)?;
         assert!(rt;
-            ran.has(trace, looks) && ran.answers.as_slice() == answers,
+            ran.has(&trace, looks) && ran.answers.as_slice() == answers,
             "{row}"
         );
     }

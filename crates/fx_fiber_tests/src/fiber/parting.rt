@@ -7,7 +7,8 @@ use super::*;
 /// A request from outside: whose, after how many steps, and how many are made after it.
 type Request = (u32, u32, u32);
 
-/// What a fiber is called, its code, the request, its trace after that, and the end that its port was told.
+/// What a fiber is called, its code, the request, its events after that, whose stamps count up from 1, and the
+/// end that its port was told.
 type Row<'a> = (&'a str, &'a [Node], Request, &'a [Event], Option<Outcome>);
 
 /// What was to be seen of a fiber without its port, and the end that its port was told.
@@ -15,13 +16,13 @@ type Row<'a> = (&'a str, &'a [Node], Request, &'a [Event], Option<Outcome>);
 struct Parted {
     id: u32,
     has_ended: bool,
-    trace: Vec<Event>,
+    trace: Vec<Stamped>,
     told: Option<Outcome>,
 }
 
 impl Parted {
     /// Whether it is the main fiber with that trace, and it and its port agree on that end.
-    fn is(&self, trace: &[Event], end: Option<Outcome>) -> bool {
+    fn is(&self, trace: &[Stamped], end: Option<Outcome>) -> bool {
         self.id == 0
             && self.has_ended == end.is_some()
             && self.trace.as_slice() == trace
@@ -90,9 +91,10 @@ static PARTED: [Row; 4] = [
 
 #[test]
 fn parts_after_a_request_from_outside(rt: HostRuntime) -> Result<(), Fail> {
-    for &(row, nodes, request, trace, end) in &PARTED {
+    for &(row, nodes, request, events, end) in &PARTED {
         let found = part_after(rt.alloc(), nodes, request)?;
-        assert!(rt; found.is(trace, end), "{row}");
+        let trace = counted(rt.alloc(), events)?;
+        assert!(rt; found.is(&trace, end), "{row}");
     }
     Ok(())
 }

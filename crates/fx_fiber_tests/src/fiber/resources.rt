@@ -274,16 +274,16 @@ fn nested(alloc: Global) -> Result<Vec<Node>, Fail> {
 
 /// All are acquired, and then released from the last to the first.
 fn in_reverse_order(alloc: Global) -> Result<Vec<Event>, Fail> {
-    let mut trace = Vec::new(alloc);
+    let mut events = Vec::new(alloc);
     for resource in 0..DEPTH {
-        trace.push(Event::Acquired(u64::from(resource)))?;
+        events.push(Event::Acquired(u64::from(resource)))?;
     }
     for resource in (0..DEPTH).rev() {
-        trace.push(Event::Begin(u64::from(resource)))?;
-        trace.push(Event::End(u64::from(resource)))?;
+        events.push(Event::Begin(u64::from(resource)))?;
+        events.push(Event::End(u64::from(resource)))?;
     }
-    trace.push(Event::Ended(Outcome::Succeeded(0)))?;
-    Ok(trace)
+    events.push(Event::Ended(Outcome::Succeeded(0)))?;
+    Ok(events)
 }
 
 #[test]
@@ -291,6 +291,7 @@ fn acquired_3000_deep_and_released_in_reverse_order(rt: HostRuntime) -> Result<(
     let alloc = rt.alloc();
     let ran = run(alloc, &nested(alloc)?, None, 6 * DEPTH)?;
     assert!(rt; ran.has_ended);
-    assert_eq!(rt; ran.trace.as_slice(), in_reverse_order(alloc)?.as_slice());
+    let trace = counted(alloc, &in_reverse_order(alloc)?)?;
+    assert_eq!(rt; ran.trace.as_slice(), trace.as_slice());
     Ok(())
 }

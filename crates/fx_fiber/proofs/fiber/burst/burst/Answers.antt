@@ -1,4 +1,3 @@
-use Rattle.std.proofs.Common.{refl}
 use Rattle.fx_fiber.proofs.Bursts.{sees, seen_is_kept, look_advances}
 use Rattle.fx_fiber.proofs.fiber.burst.burst.Goals as goal
 
@@ -6,18 +5,18 @@ pub returns-in-Some-Request-clause-ok : goal.returns-in-Some-Request-clause-ok
 returns-in-Some-Request-clause-ok g c =
     let h = rw c.requires.1.1.0 at (rw c.in-Looks.is at c.in_ok-made.ensures.ok) in
     let e = rw c.in-Some-Request.field-0-is at c.in-Some-Request.ensures in
-    sees g.P.Port.theory _ _ c.in-Looks.made c.args.most _ _ _ c.rules_before_look.new.body.machine
-    c.seen.new.self _ _ _ _ _ h.0 h.1
-    (look_advances g.P.Port.theory c.rules_before_look.new.body.machine _ _ _ _ h.2 e.first _ _
-    (e.saw refl) c.interruption.ensures.facts c.seen.ensures)
-    c.push_reserved.ensures.items
+    rw c.show.ensures.machine (sees g.P.Port.theory _ _ c.in-Looks.made c.args.most _ _ _ c.rules_before_look.new.body.machine
+    c.seen.new.self _ _ _ _ _ _ _ h.0 h.1
+    (look_advances g.P.Port.theory c.rules_before_look.new.body.machine _ _ _ _ _ _ h.2 e.first _ _
+    c.interruption.ensures.facts c.seen.ensures)
+    c.show.ensures.trace)
 
 pub returns-in-Some-Request-clause-kept : goal.returns-in-Some-Request-clause-kept
 returns-in-Some-Request-clause-kept g c =
     let h = rw c.requires.1.1.0 at (rw c.in-Looks.is at c.in_ok-made.ensures.ok) in
     let e = rw c.in-Some-Request.field-0-is at c.in-Some-Request.ensures in
-    seen_is_kept g.P.Port.theory c.args.body.now.trace.items c.args.body.now.source _ _
-    c.rules_before_look.new.body.machine c.seen.new.self _ _ _ _ h.1.kept
-    (look_advances g.P.Port.theory c.rules_before_look.new.body.machine _ _ _ _ h.2 e.first _ _
-    (e.saw refl) c.interruption.ensures.facts c.seen.ensures)
-    c.push_reserved.ensures.items
+    rw c.show.ensures.machine (seen_is_kept g.P.Port.theory c.args.body.now.trace.items c.args.body.now.source _ _
+    c.rules_before_look.new.body.machine c.seen.new.self _ _ _ _ _ _ _ h.1.kept
+    (look_advances g.P.Port.theory c.rules_before_look.new.body.machine _ _ _ _ _ _ h.2 e.first _ _
+    c.interruption.ensures.facts c.seen.ensures)
+    c.show.ensures.trace c.show.ensures.clock)

@@ -9,7 +9,7 @@ pub overflow_add-begin : goal.overflow_add-begin
 overflow_add-begin g c = let n = rw c.requires.0 at c.need.ensures.need in omega arith
 
 pub beginning-requires : goal.beginning-requires
-beginning-requires g c = sound_begin g.nodes c.args.machine.now _ _ _ _ c.requires.1.0.2 _ _ _ c.in_ok-copied.ensures
+beginning-requires g c = sound_begin g.nodes c.args.machine.now _ _ _ _ c.requires.1.0.2 _ _ _ _ c.in_ok-copied.ensures
 
 pub bind-requires : goal.bind-requires
 bind-requires g c = start_reaches g.nodes c.args.machine.now _ _ _ _ c.requires.1.0.2

@@ -24,7 +24,7 @@ returns-then-branch-clause-ok g c =
     let here = c.in_ok-id-in-Eval in
     let inside = inside_leaf g.P.Port.theory.code c.enter.new.self here.id here.node.now _ here.ensures.at here.ensures.leaf c.is_canceled.ensures in
     glides g.P.Port.theory c.args.machine.now c.enter.new.self _ _ here.ensures.same
-    (rw c.if-is_canceled.false at inside) c.silent_leaf.new.self (rw c.in-Rule.is at c.look_ahead.ensures)
+    (rw c.if-is_canceled.false at inside) (rw c.in-Rule.is at c.look_ahead.ensures) c.silent_leaf.new.self
     (rw c.if-branch.true at c.in_ok-silent_leaf-in-Rule.ensures.ok)
 
 pub returns-in-Look-clause-ok : goal.returns-in-Look-clause-ok
@@ -38,8 +38,8 @@ pub returns-then-branch-2-clause-ok : goal.returns-then-branch-2-clause-ok
 returns-then-branch-2-clause-ok g c =
     let s = c.args.machine.now in
     glides g.P.Port.theory s s _ _ (same_here g.P.Port.theory.code s c.requires.1.1.1.0)
-    (inside_result g.P.Port.theory.code s c.in-Return.done c.requires.1.1.1.0 c.in-Return.is) c.silent_result.new.self
-    (rw c.in-Rule-look_ahead.is at c.look_ahead-in-Return.ensures)
+    (inside_result g.P.Port.theory.code s c.in-Return.done c.requires.1.1.1.0 c.in-Return.is)
+    (rw c.in-Rule-look_ahead.is at c.look_ahead-in-Return.ensures) c.silent_result.new.self
     (rw c.if-branch-2.true at c.in_ok-silent_result-in-Rule-look_ahead.ensures.ok)
 
 pub returns-in-Some-clause-ok : goal.returns-in-Some-clause-ok
@@ -47,7 +47,7 @@ returns-in-Some-clause-ok g c =
     let s = c.args.machine.now in
     glides_shown g.P.Port.theory s s _ _ (same_here g.P.Port.theory.code s c.requires.1.1.1.0)
     (inside_result g.P.Port.theory.code s c.in-Return.done c.requires.1.1.1.0 c.in-Return.is)
-    c.silent_result.new.self c.bracket_result.new.self c.in-Some.event (rw c.in-Rule-look_ahead.is at c.look_ahead-in-Return.ensures)
+    (rw c.in-Rule-look_ahead.is at c.look_ahead-in-Return.ensures) c.silent_result.new.self c.bracket_result.new.self c.in-Some.event
     (rw c.if-branch-2.false at c.in_ok-silent_result-in-Rule-look_ahead.ensures.ok) (rw c.in-Some.is at c.in_ok-event-in-Rule-look_ahead.ensures.ok)
 
 pub node-requires : goal.node-requires
@@ -57,6 +57,6 @@ pub returns-in_ok-turn_rule-in-Rule-look_ahead-2-clause-ok : goal.returns-in_ok-
 returns-in_ok-turn_rule-in-Rule-look_ahead-2-clause-ok g c =
     let s = c.args.machine.now in
     glides g.P.Port.theory s s _ _ (same_here g.P.Port.theory.code s c.requires.1.1.1.0)
-    (inside_loop g.P.Port.theory.code s c.in-Turn.id c.in-Turn.turn c.requires.1.1.1.0 c.in-Turn.is) c.turn_rule.new.self
-    (rw c.in-Rule-look_ahead-2.is at c.look_ahead-in-Turn.ensures)
+    (inside_loop g.P.Port.theory.code s c.in-Turn.id c.in-Turn.turn c.requires.1.1.1.0 c.in-Turn.is)
+    (rw c.in-Rule-look_ahead-2.is at c.look_ahead-in-Turn.ensures) c.turn_rule.new.self
     c.in_ok-turn_rule-in-Rule-look_ahead-2.ensures.ok

@@ -6,7 +6,7 @@ use Rattle.fx_fiber.proofs.fiber.rules.rules.Given as goal
 -- so many steps were made, and nothing else has changed
 abbrev pub invariant-loop-made : goal.invariant-loop-made
 invariant-loop-made g l = record {
-  to : LeadsTo g.P.Port.theory g.outset l.made l.body.machine l.body.trace.items;
+  to : LeadsTo g.P.Port.theory g.outset l.made l.body.machine l.body.trace.items l.body.clock;
   looked : HasLooked g.P.Port.theory.calls l.fn.looked l.body.machine.known g.outset.port g.outset.shared;
   room : l.made < l.fn.most → vec_len l.body.trace < vec_capacity l.body.trace;
   id : l.body.id ≡ l.fn.body.id;

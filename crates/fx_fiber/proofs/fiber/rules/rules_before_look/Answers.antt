@@ -10,5 +10,5 @@ returns-in_err-comes_inside-clause-err g c =
       0,
       asked.1.0,
       no_further g.P.Port.theory _ _ 0 _ _ _ c.args.body.now.machine
-          c.comes_inside.new.self _ _ asked.1.1.0 c.comes_inside.ensures.same refl,
+          c.comes_inside.new.self _ _ _ asked.1.1.0 c.comes_inside.ensures.same refl,
     )

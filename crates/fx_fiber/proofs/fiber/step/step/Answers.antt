@@ -2,6 +2,7 @@ use Rattle.std.proofs.Common.{[], refl, ◌∙◌, ap, arith}
 use Rattle.std.proofs.lemmas.Result.{IfOk-from_err}
 use Rattle.fx_fiber.proofs.Advances.{same_here, same_trans}
 use Rattle.fx_fiber.proofs.Results.{on_any_error}
+use Rattle.fx_fiber.proofs.StampedRuns.{unraised}
 use Rattle.fx_fiber.proofs.Telling.{going_at, is_made, same_is_unchanged, same_is_kept, told_keeps, told_same, told_steps, start_does}
 use Rattle.fx_fiber.specs.PortFacts.{Facts}
 use Rattle.fx_fiber.proofs.fiber.step.step.Goals as goal
@@ -30,7 +31,7 @@ returns-in_err-reserve g c =
     record {
       ok = IfOk-from_err c.from_residual.result _ c.from_residual.ensures.0;
       err = on_any_error c.from_residual.result (same_is_unchanged g.P.Port.theory.code p p _ _ s s _ _ same refl items, refl);
-      kept = same_is_kept g.P.Port.theory p p _ _ s s k same refl items;
+      kept = same_is_kept g.P.Port.theory p p _ _ _ _ s s k same refl items refl;
       id = refl;
       source = refl;
       number = refl;
@@ -50,7 +51,8 @@ returns-in_err-made g c =
         same_is_unchanged g.P.Port.theory.code p c.advance.new.port _ _ s c.advance.new.machine _ _ failed.same failed.unchanged.0 items,
         failed.unchanged.1,
       );
-      kept = same_is_kept g.P.Port.theory p c.advance.new.port _ _ s c.advance.new.machine k failed.same failed.unchanged.0 items;
+      kept = same_is_kept g.P.Port.theory p c.advance.new.port _ _ _ _ s c.advance.new.machine k failed.same failed.unchanged.0 items
+          failed.unchanged.2;
       id = refl;
       source = refl;
       number = rw failed.unchanged.0 refl;
@@ -63,8 +65,9 @@ start-requires-clause-stands g c = let due = rw c.in-Starts.is at c.in_ok-made.e
 pub start-requires-clause-kept : goal.start-requires-clause-kept
 start-requires-clause-kept g c =
     let due = rw c.in-Starts.is at c.in_ok-made.ensures.ok in
-    same_is_kept g.P.Port.theory c.args.port.now c.advance.new.port _ _
+    same_is_kept g.P.Port.theory c.args.port.now c.advance.new.port _ _ _ _
     c.args.body.now.machine c.advance.new.machine c.requires.kept due.rule.same due.asks.1.0 c.in_ok-reserve.ensures.items
+    (unraised _ _ _ due.raises.raised (due.raises.none tt))
 
 pub start-requires-clause-going : goal.start-requires-clause-going
 start-requires-clause-going g c = ap (λ (f : Facts). f.has_finished) c.in_ok-made.ensures.ok.facts_are ∙ c.requires.kept.ended ∙ c.requires.going
@@ -84,7 +87,8 @@ returns-in_err-child g c =
       ok = IfOk-from_err c.from_residual-in_err-child.result _ c.from_residual-in_err-child.ensures.0;
       err = on_any_error c.from_residual-in_err-child.result
           (same_is_unchanged g.P.Port.theory.code p q _ _ s t _ _ same port items, failed.unchanged.1 ∙ due.asks.1.1);
-      kept = same_is_kept g.P.Port.theory p q _ _ s t c.requires.kept same port items;
+      kept = same_is_kept g.P.Port.theory p q _ _ _ _ s t c.requires.kept same port items
+          (failed.clock ∙ unraised _ _ _ due.raises.raised (due.raises.none tt));
       id = c.start.ensures.id;
       source = c.start.ensures.source;
       number = c.start.ensures.number ∙ ap (λ (f : Facts). f.number) c.in_ok-made.ensures.ok.facts_are;
@@ -96,8 +100,8 @@ returns-in-Starts g c =
     let due = rw c.in-Starts.is at c.in_ok-made.ensures.ok in
     let started = c.in_ok-child.ensures in
     record {
-      ok = start_does g.P.Port.theory _ _ _ _ _ _ _ _ _ _ _ _ _ _
-          c.in-Starts.slot c.in-Starts.started c.in-Starts.then c.in_ok-child.child due started.started c.in_ok-reserve.ensures.items;
+      ok = start_does g.P.Port.theory _ _ _ _ _ _ _ _ _ _ _ _ _ _ _ _
+          c.in-Starts.slot c.in-Starts.started c.in-Starts.then c.in_ok-child.child c.requires.kept.clocked due started.started c.in_ok-reserve.ensures.items;
       err = tt;
       kept = started.kept;
       id = c.start.ensures.id;
@@ -120,12 +124,12 @@ returns g c =
     let a = c.in_ok-made.ensures.ok in
     let told = c.tell.ensures in
     let items = rw c.in_ok-reserve.ensures.items at told.trace in
-    let same = told_same g.P.Port.theory _ _ _ _ _ _ [] [] _ _ m a told.told in
+    let same = told_same g.P.Port.theory _ _ _ _ _ _ [] [] _ _ 0 _ _ m a told.told in
     record {
-      ok = told_steps g.P.Port.theory _ _ _ _ _ _ _ _ _ _ _ _ m c.tell.result
+      ok = told_steps g.P.Port.theory _ _ _ _ _ _ _ _ _ _ 0 _ _ _ _ k.clocked m c.tell.result
           c.tell.new.body.machine told.answer told.machine is a told.told items;
       err = tt;
-      kept = rw told.machine (told_keeps g.P.Port.theory _ _ _ _ _ _ _ _ _ _ k c.requires.going m is a told.told items);
+      kept = rw told.machine (told_keeps g.P.Port.theory _ _ _ _ _ _ _ _ _ _ _ _ _ k c.requires.going m is a told.told items told.clock);
       id = told.id;
       source = told.source;
       number = same.0;

@@ -1,4 +1,4 @@
-use Rattle.std.proofs.Common.{◌∙◌}
+use Rattle.std.proofs.Common.{refl, ◌∙◌}
 use Rattle.fx_fiber.proofs.Calls.{waits_call, learns_call}
 use Rattle.fx_fiber.proofs.Fibers.{left_within, right_within, left_fits, right_fits, result_sound, first_leaf, left_step, right_step, first_waits}
 use Rattle.fx_fiber.proofs.machine.Machine.first.Goals as goal
@@ -21,7 +21,7 @@ pub returns-in-Some : goal.returns-in-Some
 returns-in-Some g c =
     let s = c.args.self.now in
     let stands = c.requires.at.1 in
-    learns_call g.P.Port.theory s _ _ _ _ _ _ _ _
+    learns_call g.P.Port.theory _ _ s _ _ _ _ _ _ _ _ c.in-Some.stamp c.raise.ensures (λ h. h)
     (result_sound g.P.Port.theory.code s c.requires.at.0 c.args.left c.args.right stands.at 0)
     (left_step g.P.Port.theory.code s c.requires.at.0 c.args.left c.args.right stands.at _ _ c.fiber_of-left.ensures c.fiber_of-right.ensures stands.free
     c.in-Some.outcome)
@@ -32,7 +32,7 @@ returns-in-Some-peek g c =
     let s = c.args.self.now in
     let stands = c.requires.at.1 in
     let same = c.in-None.ensures.unchanged in
-    learns_call g.P.Port.theory s _ _ _ _ _ _ _ _
+    learns_call g.P.Port.theory _ _ s _ _ _ _ _ _ _ _ c.in-Some-peek.stamp c.raise-in-Some-peek.ensures (λ h. h)
     (result_sound g.P.Port.theory.code s c.requires.at.0 c.args.left c.args.right stands.at 1)
     (right_step g.P.Port.theory.code s c.requires.at.0 c.args.left c.args.right stands.at _ _ c.fiber_of-left.ensures c.fiber_of-right.ensures stands.free
     c.in-Some-peek.outcome)
@@ -48,6 +48,6 @@ returns-in-None-peek g c =
     let same = c.in-None.ensures.unchanged in
     let again = c.in-None-peek.ensures.unchanged in
     let second = rw (again.0, again.1) at c.in-None-peek.ensures.told in
-    waits_call g.P.Port.theory s s _ _ _ _ _
+    waits_call g.P.Port.theory _ _ s s _ _ _ _ _ refl _
     (first_waits g.P.Port.theory.code s c.requires.at.0 c.args.left c.args.right stands.at _ _ c.fiber_of-left.ensures c.fiber_of-right.ensures stands.free)
-    (rw (same.0, same.1) at c.in-None.ensures.told, rw (same.0, same.1) at second) (again.0 ∙ same.0) (again.1 ∙ same.1)
+    (rw (same.0, same.1) at c.in-None.ensures.told, rw (same.0, same.1) at second) refl (again.0 ∙ same.0) (again.1 ∙ same.1)

@@ -24,7 +24,7 @@ returns-in-Some-clause-ok g c =
     let stands = rw c.in-Join.is at c.requires.at in
     let on = join_goes_on g.P.Port.theory.code c.args.self.now c.args.id _ _ _ _ _ _ stands.at c.fiber_of-fiber.result c.fiber_of-fiber.ensures stands.free
     c.in-Some.outcome _ (rw (c.goes_on_after.ensures, c.in_ok-bind.ensures.ok) refl) in
-    learns_call g.P.Port.theory _ _ _ _ _ _ _ _ _ on.0 on.1 tt c.in-Some.ensures.told c.in-Some.ensures.deed
+    learns_call g.P.Port.theory _ _ _ _ _ _ _ _ _ _ _ c.in-Some.stamp c.raise.ensures (λ h. h) on.0 on.1 tt c.in-Some.ensures.told c.in-Some.ensures.deed
     c.in-Some.ensures.facts
 
 pub returns-in-None-clause-ok : goal.returns-in-None-clause-ok
@@ -33,4 +33,4 @@ returns-in-None-clause-ok g c =
     let waits = join_waits g.P.Port.theory.code c.args.self.now c.args.id _ _ _ _ _ _ stands.at c.fiber_of-fiber.result c.fiber_of-fiber.ensures stands.free
     _ (rw c.in_ok-bind.ensures.ok refl) in
     let same = c.in-None.ensures.unchanged in
-    waits_call g.P.Port.theory _ _ _ _ _ _ _ waits (rw (same.0, same.1) at c.in-None.ensures.told) same.0 same.1
+    waits_call g.P.Port.theory _ _ _ _ _ _ _ _ _ refl _ waits (rw (same.0, same.1) at c.in-None.ensures.told) refl same.0 same.1

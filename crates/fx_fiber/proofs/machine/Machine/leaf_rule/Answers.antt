@@ -3,8 +3,11 @@ use Rattle.fx_term.specs.declared.node.NodeId.{NodeId}
 use Rattle.fx_term.specs.declared.node.Arg.{Arg}
 use Rattle.fx_term.specs.declared.node.Node.{Node}
 use Rattle.fx_term.specs.declared.node.Node.TheVariants as node
+use Rattle.std.proofs.lemmas.Result.{IfOk-weaker}
 use Rattle.fx_fiber.specs.Leaves.{IsLeafNode, IsLocalLeaf}
-use Rattle.fx_fiber.proofs.Calls.{waits_call}
+use Rattle.fx_fiber.specs.Makes.{MakesRule}
+use Rattle.fx_fiber.proofs.Results.{on_any_error}
+use Rattle.fx_fiber.proofs.Calls.{waits_call, local_call, raised_by_nothing}
 use Rattle.fx_fiber.proofs.Leaves.{never_waits}
 use Rattle.fx_fiber.proofs.machine.Machine.leaf_rule.Goals as goal
 
@@ -37,14 +40,16 @@ local_rule-requires g c =
 pub returns-in-Never-clause-ok : goal.returns-in-Never-clause-ok
 returns-in-Never-clause-ok g c =
     let stands = rw c.in-Never.is at c.requires.at in
-    waits_call g.P.Port.theory _ _ _ _ _ _ _
-    (never_waits g.P.Port.theory.code c.args.self.now c.args.id stands.at stands.free) tt refl
+    waits_call g.P.Port.theory _ _ _ _ _ _ _ _ _ refl _
+    (never_waits g.P.Port.theory.code c.args.self.now c.args.id stands.at stands.free) tt refl refl
     refl
 
 pub returns-in-Start-clause-ok : goal.returns-in-Start-clause-ok
 returns-in-Start-clause-ok g c =
     let stands = rw c.in-Start.is at c.requires.at in
     record {
+      cause = 0;
+      raises = raised_by_nothing _ _ _ refl;
       sound = stands.at.sound;
       rule = record { same = record { sound = stands.at.sound; progress = refl; counts = refl }; id = c.args.id; stands = stands };
       own = tt;
@@ -52,3 +57,11 @@ returns-in-Start-clause-ok g c =
       agreed = λ deeds k. rw append-nil k;
       facts_are = refl;
     }
+
+pub returns-in_default : goal.returns-in_default
+returns-in_default g c = record {
+  ok = IfOk-weaker c.local_rule.result (λ m. MakesRule g.P.Port.theory.code c.args.self.now m c.local_rule.new.self) _
+      (λ m h. local_call g.P.Port.theory _ _ _ _ _ _ _ m _ refl refl refl h) c.local_rule.ensures.ok;
+  same = c.local_rule.ensures.err;
+  unchanged = on_any_error c.local_rule.result (refl, refl, refl);
+}

@@ -1,4 +1,7 @@
-use Rattle.fx_fiber.proofs.Calls.{waits_call}
+use Rattle.std.proofs.Common.{refl}
+use Rattle.fx_term.specs.declared.event.Event.TheVariants as event
+use Rattle.fx_fiber.specs.declared.machine.made.Made.TheVariants as made
+use Rattle.fx_fiber.proofs.Calls.{waits_call, uncaused_call}
 use Rattle.fx_fiber.proofs.QueueLeaves.{offer_within, offered_value, returned_sound, offer_step, offer_waits}
 use Rattle.fx_term.specs.declared.node.Node.TheVariants as node
 use Rattle.fx_term.specs.declared.done.Done.TheVariants.{Val}
@@ -12,14 +15,10 @@ returns-in-Done-clause-ok g c =
     let s = c.args.self.now in
     let id = c.requires.at.0 in
     let stands = c.requires.at.1 in
-    record {
-      sound = returned_sound g.P.Port.theory.code s id (node.Offer c.args.queue c.args.value) stands.at (Val 0);
-      rule = offer_step g.P.Port.theory.code s id c.args.queue c.args.value stands.at c.number_of-value.result c.number_of-value.ensures stands.free;
-      own = tt;
-      told = rw c.in-Done.is at c.in_ok-offer.ensures.told;
-      agreed = rw c.in-Done.is at c.in_ok-offer.ensures.deed;
-      facts_are = rw c.in-Done.is at c.in_ok-offer.ensures.facts;
-    }
+    uncaused_call g.P.Port.theory _ _ s _ _ _ _ _ (made.Shows (event.Put c.args.queue c.number_of-value.result)) c.after.result c.after.ensures refl
+    (returned_sound g.P.Port.theory.code s id (node.Offer c.args.queue c.args.value) stands.at (Val 0))
+    (offer_step g.P.Port.theory.code s id c.args.queue c.args.value stands.at c.number_of-value.result c.number_of-value.ensures stands.free)
+    tt (rw c.in-Done.is at c.in_ok-offer.ensures.told) (rw c.in-Done.is at c.in_ok-offer.ensures.deed) (rw c.in-Done.is at c.in_ok-offer.ensures.facts)
 
 pub returns-in-Full-clause-ok : goal.returns-in-Full-clause-ok
 returns-in-Full-clause-ok g c =
@@ -28,7 +27,7 @@ returns-in-Full-clause-ok g c =
     let stands = c.requires.at.1 in
     let same = rw c.in-Full.is at c.in_ok-offer.ensures.full in
     let told = rw c.in-Full.is at c.in_ok-offer.ensures.told in
-    waits_call g.P.Port.theory s s _ _ _ _ _
+    waits_call g.P.Port.theory _ _ s s _ _ _ _ c.after.result c.after.ensures _
     (offer_waits g.P.Port.theory.code s id c.args.queue c.args.value stands.at c.number_of-value.result c.number_of-value.ensures stands.free)
     (rw (offered_value g.P.Port.theory.code s id c.args.queue c.args.value stands.at c.number_of-value.result c.number_of-value.ensures)
-    (rw (same.0, same.1) at told)) same.0 same.1
+    (rw (same.0, same.1) at told)) refl same.0 same.1

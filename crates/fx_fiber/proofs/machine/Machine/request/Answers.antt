@@ -1,3 +1,7 @@
+use Rattle.std.proofs.Common.{refl}
+use Rattle.fx_term.specs.declared.event.Event.TheVariants as event
+use Rattle.fx_fiber.specs.declared.machine.made.Made.TheVariants as made
+use Rattle.fx_fiber.proofs.Calls.{uncaused_call}
 use Rattle.fx_fiber.proofs.Fibers.{request_within, request_fits, request_sound, request_step}
 use Rattle.fx_fiber.proofs.machine.Machine.request.Goals as goal
 
@@ -11,12 +15,7 @@ fiber_of-fiber-requires-clause-fits g c =
 pub returns : goal.returns
 returns g c =
     let stands = c.requires.at.1 in
-    record {
-      sound = request_sound g.P.Port.theory.code c.args.self.now c.requires.at.0 c.args.slot stands.at c.fiber_of-fiber.result;
-      rule = request_step g.P.Port.theory.code c.args.self.now c.requires.at.0 c.args.slot stands.at c.fiber_of-fiber.result c.fiber_of-fiber.ensures
-          stands.free;
-      own = tt;
-      told = c.request.ensures.told;
-      agreed = c.request.ensures.deed;
-      facts_are = c.request.ensures.facts;
-    }
+    uncaused_call g.P.Port.theory _ _ c.args.self.now _ _ _ _ _ (made.Shows (event.Request c.fiber_of-fiber.result)) c.after.result c.after.ensures refl
+    (request_sound g.P.Port.theory.code c.args.self.now c.requires.at.0 c.args.slot stands.at c.fiber_of-fiber.result)
+    (request_step g.P.Port.theory.code c.args.self.now c.requires.at.0 c.args.slot stands.at c.fiber_of-fiber.result c.fiber_of-fiber.ensures stands.free)
+    tt c.request.ensures.told c.request.ensures.deed c.request.ensures.facts
