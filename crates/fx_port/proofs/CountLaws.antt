@@ -12,5 +12,5 @@ pub count_kept : (r : Option Item) (s t : HeldPass) → MatchOption r ((t ≡ s)
 count_kept None s t m = ap (λ (u : HeldPass). puts u.view.own.acts) (sym m.0)
 count_kept (Some x) s t m = sym (got_count s.view x t.view m)
 
-pub count_more : (s t : HeldPass) (value n : ℕ) → DidPut s.view value t.view → n ≡ puts s.view.own.acts → n + 1 ≡ puts t.view.own.acts
-count_more s t value n m e = ap (λ (k : ℕ). k + 1) e ∙ sym (put_count s.view value t.view m)
+pub count_more : (s t : HeldPass) (value stamp n : ℕ) → DidPut s.view value stamp t.view → n ≡ puts s.view.own.acts → n + 1 ≡ puts t.view.own.acts
+count_more s t value stamp n m e = ap (λ (k : ℕ). k + 1) e ∙ sym (put_count s.view value stamp t.view m)

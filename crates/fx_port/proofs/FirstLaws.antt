@@ -1,6 +1,6 @@
 -- The first passes of a run.
 use Rattle.std.proofs.Common.{◌≡◌, ℕ, ◌+◌, ◌<◌, List, [], ◌∷◌, ◌++◌, length, map, take, get_or, Some}
-use Rattle.std.proofs.Common.{None, slice_get, refl, sym, ◌∙◌, ap, subst, arith, zero, suc, ◌⊎◌, inl, inr, ⊎_elim}
+use Rattle.std.proofs.Common.{false, replicate, None, slice_get, refl, sym, ◌∙◌, ap, subst, arith, zero, suc, ◌⊎◌, inl, inr, ⊎_elim}
 use Rattle.std.proofs.lemmas.Option.{same_Some}
 use Rattle.std.proofs.lemmas.List.{length-append, map-append, take_more}
 use Rattle.fx_fiber.specs.Deed.{Started}
@@ -9,11 +9,12 @@ use Rattle.fx_queue.specs.Queues.{QueueId, HeldPass}
 use Rattle.fx_term.specs.Queue.{puts}
 use Rattle.fx_queue.specs.declared.pass_view.PassView.{PassView}
 use Rattle.fx_port.specs.Rows.{AreFirst, puts_by, puts_in}
-use Rattle.fx_port.specs.PassesAgree.{acts_by}
+use Rattle.fx_port.specs.PassesAgree.{acts_by, stamps_by}
 use Rattle.fx_port.specs.PortView.{first_port}
 use Rattle.fx_port.specs.ThreadCalls.{ThreadAgrees}
 use Rattle.std.proofs.lemmas.List.Sums.{sum_by-cons}
 use Rattle.fx_port.proofs.WordsLaws as words
+use Rattle.fx_port.proofs.WordsStampsLaws as words_stamps
 use Rattle.fx_port.proofs.PassesLaws.{not_later}
 use Rattle.fx_port.proofs.RunLaws.{queue_at}
 use Rattle.fx_port.proofs.RowLaws.{within}
@@ -70,6 +71,12 @@ none_put (x ∷ passes) h =
     let r = none_put passes (λ q s e. h (suc q) s e) in
     omega (arith, a, b, r)
 
+no_stamps : (passes : List HeldPass) → ((q : ℕ) (s : HeldPass) → slice_get passes q ≡ Some s → s.view.own.stamps ≡ [])
+    → (q : ℕ) → [] ≡ stamps_by (slice_get passes q)
+no_stamps [] h q = refl
+no_stamps (x ∷ passes) h zero = sym (h 0 x refl)
+no_stamps (x ∷ passes) h (suc q) = no_stamps passes (λ k s e. h (suc k) s e) q
+
 no_acts : (passes : List HeldPass) → ((q : ℕ) (s : HeldPass) → slice_get passes q ≡ Some s → s.view.own.acts ≡ []) → (q : ℕ) → [] ≡ acts_by (slice_get passes q)
 no_acts [] h q = refl
 no_acts (x ∷ passes) h zero = sym (h 0 x refl)
@@ -86,10 +93,12 @@ module _ (fibers : ℕ) (queues : List QueueId) (passes : List HeldPass) (first 
   pub first_agrees : ThreadAgrees (first_port fibers passes) []
   first_agrees = record {
     words = words.fresh_agrees 0 None 1 fibers fibers;
+    words_stamps = words_stamps.fresh_agrees 0 None 1 fibers (replicate fibers false);
     passes = record {
       acts = no_acts passes (λ q s at. ap (λ (v : PassView). v.own.acts) (view_is q s at).1);
       parts = λ q s at. ap (λ (v : PassView). v.own.parts) (view_is q s at).1;
       handed = λ before after g b e. absurd (not_later before (Started g b) after e);
       refusals = λ before after d e. absurd (not_later before d after e);
     };
+    passes_stamps = record { stamps = no_stamps passes (λ q s at. ap (λ (v : PassView). v.own.stamps) (view_is q s at).1) };
   }

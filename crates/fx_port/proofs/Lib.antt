@@ -8,7 +8,9 @@ pub mod Gathers
 pub mod RowLaws
 pub mod Lefts
 pub mod WordsLaws
+pub mod WordsStampsLaws
 pub mod PassesLaws
+pub mod PassesStampsLaws
 pub mod RunLaws
 pub mod FirstLaws
 pub mod CallLaws

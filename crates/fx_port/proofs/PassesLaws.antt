@@ -2,11 +2,13 @@
 use Rattle.std.proofs.Common.{◌≡◌, ℕ, ◌==◌, Bool, if◌then◌else◌, List, [], ◌∷◌, ◌++◌, ◌⊎◌, inl, inr, ⊎_elim, map}
 use Rattle.std.proofs.Common.{Option, Some, None, slice_get, set, refl, sym, ◌∙◌, ap, subst, zero, suc, eq-eqb, ne_eqb, append-nil}
 use Rattle.std.specs.List.{filter_map, cons_option}
+use Rattle.std.proofs.lemmas.List.{length-map}
 use Rattle.std.proofs.lemmas.List.Elements.{filter_map-append}
 use Rattle.std.proofs.lemmas.Option.{same_Some, none-some}
 use mathlib.Core.Logic.{dite}
 use native.Mathlib.Decide.{ℕ_discrete}
 use Rattle.crossbeam_queue.specs.Fifo.{Held}
+use Rattle.fx_term.specs.Element.{element_of, elements_of}
 use Rattle.fx_term.specs.declared.begin.Begin.{Begin}
 use Rattle.fx_term.specs.declared.outcome.Outcome.{Outcome}
 use Rattle.fx_term.specs.declared.queue_event.QueueEvent.{QueueEvent}
@@ -31,10 +33,10 @@ use Rattle.fx_port.proofs.Places.{get_set_same, get_set_else}
 
 -- what one deed more gives
 module _ {A : Type 0} (h : Deed → Option A) (ds : List Deed) (d : Deed) where
-  given : (a : A) → h d ≡ Some a → filter_map h (ds ++ d ∷ []) ≡ filter_map h ds ++ a ∷ []
+  pub given : (a : A) → h d ≡ Some a → filter_map h (ds ++ d ∷ []) ≡ filter_map h ds ++ a ∷ []
   given a e = filter_map-append h ds (d ∷ []) ∙ ap (λ (o : Option A). filter_map h ds ++ cons_option o []) e
 
-  nothing_given : h d ≡ None → filter_map h (ds ++ d ∷ []) ≡ filter_map h ds
+  pub nothing_given : h d ≡ None → filter_map h (ds ++ d ∷ []) ≡ filter_map h ds
   nothing_given e =
       filter_map-append h ds (d ∷ []) ∙ (ap (λ (o : Option A). filter_map h ds ++ cons_option o []) e ∙ append-nil (filter_map h ds))
 
@@ -58,9 +60,9 @@ snoc_cases (y ∷ ds) (b ∷ before) after x d e =
     ⊎_elim (λ s. inl ((λ i. h i ∷ s.0 i), s.1)) (λ s. inr (s.0, λ i. h i ∷ s.1 i)) (snoc_cases ds before after x d t)
 
 -- what was found stays so
-found_after_act : (v : PassView) (log : List QueueEvent) (a : QueueEvent) (n : ℕ) (b : List QueueEvent) → Begins log v.own.seen → WasFound v n b
-    → WasFound (with_act v log a) n b
-found_after_act v log a n b h f = record {
+found_after_act : (v : PassView) (log : List QueueEvent) (a t : QueueEvent) (n : ℕ) (b : List QueueEvent) → Begins log v.own.seen → WasFound v n b
+    → WasFound (with_act v log a t) n b
+found_after_act v log a t n b h f = record {
   log = f.log;
   items = f.items;
   seen = f.seen;
@@ -75,10 +77,10 @@ found_after_act v log a n b h f = record {
   lone = f.lone;
 }
 
-refused_after_act : (r : Refusal) (v : PassView) (log : List QueueEvent) (a : QueueEvent) (b : List QueueEvent) → Begins log v.own.seen
-    → WasFound v (held_at r v) b → WasFound (with_act v log a) (held_at r (with_act v log a)) b
-refused_after_act Full v log a b h f = found_after_act v log a v.cap b h f
-refused_after_act Empty v log a b h f = found_after_act v log a 0 b h f
+refused_after_act : (r : Refusal) (v : PassView) (log : List QueueEvent) (a t : QueueEvent) (b : List QueueEvent) → Begins log v.own.seen
+    → WasFound v (held_at r v) b → WasFound (with_act v log a t) (held_at r (with_act v log a t)) b
+refused_after_act Full v log a t b h f = found_after_act v log a t v.cap b h f
+refused_after_act Empty v log a t b h f = found_after_act v log a t 0 b h f
 
 found_after_part : (v : PassView) (end n : ℕ) (b : List QueueEvent) → WasFound v n b → WasFound (kept_part end v) n b
 found_after_part v end n b f = record {
@@ -107,10 +109,10 @@ found_now v n h =
     let t = h.2.1 in
     record {
       log = h.2.0;
-      items = h.0;
+      items = elements_of h.0;
       seen = v.own.seen;
       legal = t.legal;
-      found = h.1;
+      found = length-map h.0 element_of ∙ h.1;
       begins = t.begins v.own (inl refl);
       since = Begins-all v.own.seen;
       begun = t.begun v.own (inl refl);
@@ -207,8 +209,8 @@ module _ (f : ℕ) where
   empty_agrees ps deeds q h g = adds ps deeds (FoundEmpty q) (λ k. refl) refl (refused_now ps deeds q Empty (slice_get ps q) refl h g) g
 
   -- an event of the queue q, where the deed x is that event alone
-  module _ (ps : List HeldPass) (deeds : List Deed) (q : ℕ) (s s' : HeldPass) (log : List QueueEvent) (a : QueueEvent) (x : Deed)
-      (at : slice_get ps q ≡ Some s) (seen : Begins log s.view.own.seen) (is : s'.view ≡ with_act s.view log a)
+  module _ (ps : List HeldPass) (deeds : List Deed) (q : ℕ) (s s' : HeldPass) (log : List QueueEvent) (a t : QueueEvent) (x : Deed)
+      (at : slice_get ps q ≡ Some s) (seen : Begins log s.view.own.seen) (is : s'.view ≡ with_act s.view log a t)
       (one : (k : ℕ) → queue_deed k f x ≡ if q == k then Some a else None) (free : (l : List HeldPass) (b : List Deed) → IsBacked f l b x)
       (no_start : started_by x ≡ None) (g : PassesAgree f ps deeds) where
     abbrev row : List HeldPass
@@ -222,7 +224,7 @@ module _ (f : ℕ) where
         (λ y. subst (λ (j : ℕ). HasRefused (slice_get row j) r b) (sym y)
         (subst (λ (o : Option HeldPass). HasRefused o r b) (sym here)
         (subst (λ (u : PassView). WasFound u (held_at r u) b) (sym is)
-        (refused_after_act r s.view log a b seen (subst (λ (o : Option HeldPass). HasRefused o r b) (ap (slice_get ps) y ∙ at) w)))))
+        (refused_after_act r s.view log a t b seen (subst (λ (o : Option HeldPass). HasRefused o r b) (ap (slice_get ps) y ∙ at) w)))))
         (λ n. subst (λ (o : Option HeldPass). HasRefused o r b) (sym (get_set_else ps q k s' n)) w)
 
     acts_after : (k : ℕ) → queue_deeds k f (deeds ++ x ∷ []) ≡ acts_by (slice_get row k)
@@ -261,19 +263,20 @@ module _ (f : ℕ) where
       refusals = one_refusal row deeds x (λ before after d e. still_backed ps row later before d (g.refusals before after d e)) (free row deeds);
     }
 
-  pub put_agrees : (ps ps' : List HeldPass) (deeds : List Deed) (q value : ℕ) → ((k : ℕ) (s : HeldPass) → slice_get ps k ≡ Some s → s.view.own.id ≡ f)
-      → PutsInto ps q value ps' → PassesAgree f ps deeds → PassesAgree f ps' (deeds ++ Put q value ∷ [])
-  put_agrees ps ps' deeds q value whose put g = subst (λ (l : List HeldPass). PassesAgree f l (deeds ++ Put q value ∷ [])) (sym put.is)
+  pub put_agrees : (ps ps' : List HeldPass) (deeds : List Deed) (q value stamp : ℕ) → ((k : ℕ) (s : HeldPass) → slice_get ps k ≡ Some s → s.view.own.id ≡ f)
+      → PutsInto ps q value stamp ps' → PassesAgree f ps deeds → PassesAgree f ps' (deeds ++ Put q value ∷ [])
+  put_agrees ps ps' deeds q value stamp whose put g = subst (λ (l : List HeldPass). PassesAgree f l (deeds ++ Put q value ∷ [])) (sym put.is)
       (let did = put.did in
-      agrees_act ps deeds q put.pass put.pass' did.log (event.Put put.pass.view.own.id value) (Put q value) put.at
+      agrees_act ps deeds q put.pass put.pass' did.log (event.Put put.pass.view.own.id value) (event.Put put.pass.view.own.id stamp) (Put q value) put.at
       (did.before.begins put.pass.view.own (inl refl)) did.is
       (λ k. ap (λ (i : ℕ). if q == k then Some (event.Put i value) else None) (sym (whose q put.pass put.at))) (λ l b. tt) refl g)
 
-  pub got_agrees : (ps ps' : List HeldPass) (deeds : List Deed) (q value : ℕ) → ((k : ℕ) (s : HeldPass) → slice_get ps k ≡ Some s → s.view.own.id ≡ f)
-      → GetsFrom ps q value ps' → PassesAgree f ps deeds → PassesAgree f ps' (deeds ++ Got q value ∷ [])
-  got_agrees ps ps' deeds q value whose got g = subst (λ (l : List HeldPass). PassesAgree f l (deeds ++ Got q value ∷ [])) (sym got.is)
+  pub got_agrees : (ps ps' : List HeldPass) (deeds : List Deed) (q value stamp : ℕ) → ((k : ℕ) (s : HeldPass) → slice_get ps k ≡ Some s → s.view.own.id ≡ f)
+      → GetsFrom ps q value stamp ps' → PassesAgree f ps deeds → PassesAgree f ps' (deeds ++ Got q value ∷ [])
+  got_agrees ps ps' deeds q value stamp whose got g = subst (λ (l : List HeldPass). PassesAgree f l (deeds ++ Got q value ∷ [])) (sym got.is)
       (let did = got.did in
-      agrees_act ps deeds q got.pass got.pass' did.log (event.Got got.pass.view.own.id got.item.value) (Got q value) got.at
+      agrees_act ps deeds q got.pass got.pass' did.log (event.Got got.pass.view.own.id got.item.value)
+      (event.Got got.pass.view.own.id got.item.stamp) (Got q value) got.at
       (did.before.begins got.pass.view.own (inl refl)) did.is
       (λ k i. if q == k then Some (event.Got (sym (whose q got.pass got.at) i) (sym got.value_is i)) else None) (λ l b. tt) refl g)
 

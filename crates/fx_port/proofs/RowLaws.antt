@@ -36,13 +36,14 @@ module _ (passes : List HeldPass) (q : ℕ) (s s' : HeldPass) (at : slice_get pa
   held : (n : HeldPass → ℕ) → Held (n s) (stands s.view) → (t : HeldPass) → slice_get passes q ≡ Some t → Held (n t) (stands t.view)
   held n h t e = subst (λ (u : HeldPass). Held (n u) (stands u.view)) (same_Some s t (sym at ∙ e)) h
 
-  pub row_offers : (value : ℕ) (r : Offered) → IsSameFiber s s' → MatchOffered r (DidPut s.view value s'.view) ((s' ≡ s) × Held s.view.cap (stands s.view))
-      → RowOffers passes q value r (set passes q s')
-  row_offers value Done same did = record { pass = s; pass' = s'; at = at; same = same; did = did; is = refl }
-  row_offers value Full same did = (held (λ u. u.view.cap) did.1, set_back passes q s' s at did.0)
+  pub row_offers : (value stamp : ℕ) (r : Offered) → IsSameFiber s s'
+      → MatchOffered r (DidPut s.view value stamp s'.view) ((s' ≡ s) × Held s.view.cap (stands s.view))
+      → RowOffers passes q value stamp r (set passes q s')
+  row_offers value stamp Done same did = record { pass = s; pass' = s'; at = at; same = same; did = did; is = refl }
+  row_offers value stamp Full same did = (held (λ u. u.view.cap) did.1, set_back passes q s' s at did.0)
 
-  pub row_takes : (x : Item) → IsSameFiber s s' → DidGet s.view x s'.view → RowTakes passes q (Some x.value) (set passes q s')
-  row_takes x same did = record { pass = s; pass' = s'; item = x; at = at; same = same; did = did; value_is = refl; is = refl }
+  pub row_takes : (x : Item) → IsSameFiber s s' → DidGet s.view x s'.view → RowTakes passes q (Some (x.value, x.stamp)) (set passes q s')
+  row_takes x same did = record { pass = s; pass' = s'; item = x; at = at; same = same; did = did; value_is = refl; stamp_is = refl; is = refl }
 
   pub row_finds_none : (s' ≡ s) × Held 0 (stands s.view) → RowTakes passes q None (set passes q s')
   row_finds_none did = (held (λ u. 0) did.1, set_back passes q s' s at did.0)

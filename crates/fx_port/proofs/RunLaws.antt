@@ -1,6 +1,6 @@
 -- A port stays one of its run.
 use Rattle.std.proofs.Common.{◌≡◌, ℕ, ◌+◌, ◌<◌, ◌≤◌, Bool, true, false, List, [], ◌∷◌, ◌++◌, length, inl}
-use Rattle.std.proofs.Common.{map, Some, slice_get, set, refl, sym, ◌∙◌, ap, subst, ⊎_elim, arith, zero, suc}
+use Rattle.std.proofs.Common.{map, Option, Some, None, slice_get, set, refl, sym, ◌∙◌, ap, subst, ⊎_elim, arith, zero, suc}
 use mathlib.Core.Logic.{dite}
 use native.Mathlib.Decide.{ℕ_discrete}
 use Rattle.std.proofs.lemmas.Option.{same_Some}
@@ -36,8 +36,9 @@ queue_at (i ∷ qs) (x ∷ ss) zero s l e = (i, refl)
 queue_at (i ∷ qs) (x ∷ ss) (suc q) s l e = queue_at qs ss q s (omega (arith, l)) e
 
 -- a pass is aware after an event of its fiber
-aware_act : (v : PassView) (log : List QueueEvent) (items : List Item) (a : QueueEvent) → Tells v log items → fiber_of a ≡ v.own.id → IsAware (with_act v log a)
-aware_act v log items a t own = record {
+aware_act : (v : PassView) (log : List QueueEvent) (items : List Item) (a b : QueueEvent) → Tells v log items → fiber_of a ≡ v.own.id
+    → IsAware (with_act v log a b)
+aware_act v log items a b t own = record {
   own = cut-own v.own.id log a own ∙ ap (λ l. l ++ a ∷ []) (t.cuts v.own (inl refl));
   ahead = λ f le lt. cut-other f log a (λ z. let above = t.above in absurd (omega (arith, own, z, above, le))) ∙ t.unborn f le lt;
 }
@@ -150,9 +151,9 @@ module _ (words : WordsId) (queues : List QueueId) (may : ℕ → Bool) (p : Por
     allowed = run.allowed;
   }
 
-  pub looked : (b : Bool) → IsOfRun words queues may (with_entry p (looking b p.words.own))
-  looked false = same_range p.words refl refl refl refl
-  looked true = same_range (with_own p.words (looking true p.words.own)) refl refl refl refl
+  pub looked : (found : Option ℕ) → IsOfRun words queues may (with_entry p (looking found p.words.own))
+  looked None = same_range p.words refl refl refl refl
+  looked (Some t) = same_range (with_own p.words (looking (Some t) p.words.own)) refl refl refl refl
 
   with_row : (passes : List HeldPass) → AreOf p.words.own.id p.words.own.next p.words.own.end queues passes → IsOfRun words queues may (with_passes p passes)
   with_row passes are = record {
@@ -171,17 +172,20 @@ module _ (words : WordsId) (queues : List QueueId) (may : ℕ → Bool) (p : Por
       (subst (λ (l : List HeldPass). AreOf p.words.own.id p.words.own.next p.words.own.end queues l) (sym is)
       (set_are p.words.own.id p.words.own.next p.words.own.end queues p.passes run.passes q s s' at same as_many aware))
 
-  pub put_one : (q n : ℕ) (passes : List HeldPass) → PutsInto p.passes q n passes → IsOfRun words queues may (with_passes p passes)
-  put_one q n passes put =
+  pub put_one : (q n t : ℕ) (passes : List HeldPass) → PutsInto p.passes q n t passes → IsOfRun words queues may (with_passes p passes)
+  put_one q n t passes put =
       let did = put.did in
       acted q put.pass put.pass' passes put.at put.same (ap (λ (v : PassView). v.fibers) did.is)
-      (subst IsAware (sym did.is) (aware_act put.pass.view did.log did.items (Put put.pass.view.own.id n) did.before refl)) put.is
+      (subst IsAware (sym did.is)
+      (aware_act put.pass.view did.log did.items (Put put.pass.view.own.id n) (Put put.pass.view.own.id t) did.before refl)) put.is
 
-  pub got_one : (q n : ℕ) (passes : List HeldPass) → GetsFrom p.passes q n passes → IsOfRun words queues may (with_passes p passes)
-  got_one q n passes got =
+  pub got_one : (q n t : ℕ) (passes : List HeldPass) → GetsFrom p.passes q n t passes → IsOfRun words queues may (with_passes p passes)
+  got_one q n t passes got =
       let did = got.did in
       acted q got.pass got.pass' passes got.at got.same (ap (λ (v : PassView). v.fibers) did.is)
-      (subst IsAware (sym did.is) (aware_act got.pass.view did.log (got.item ∷ did.items) (Got got.pass.view.own.id got.item.value) did.before refl)) got.is
+      (subst IsAware (sym did.is)
+      (aware_act got.pass.view did.log (got.item ∷ did.items) (Got got.pass.view.own.id got.item.value) (Got got.pass.view.own.id got.item.stamp)
+      did.before refl)) got.is
 
   pub started : (b : Begin) → p.words.own.next ≤ b.end → IsOfRun words queues may (kept_port b p)
   started b later = record {
@@ -207,7 +211,7 @@ module _ (words : WordsId) (queues : List QueueId) (may : ℕ → Bool) (p : Por
   }
 
   -- one more is noted that was requested from outside
-  pub noted : (f : ℕ) → may f ≡ true → IsOfRun words queues may (record p { words = with_own p.words (asking f p.words.own); noted = set p.noted f true })
+  pub noted : (f : ℕ) → may f ≡ true → IsOfRun words queues may (record p { words = with_own p.words (asking f 0 p.words.own); noted = set p.noted f true })
   noted f ok = record {
     alike = run.alike;
     passes = run.passes;

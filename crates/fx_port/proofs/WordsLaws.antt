@@ -119,8 +119,8 @@ module _ (e : Entry) (noted : List Bool) (ds : List Deed) (h : WordsAgree e note
     ended = λ o. stays ds d (Ended o) (λ p. cc) (h.ended o);
   }
 
-  pub request_agrees : (f : ℕ) → f < length noted → WordsAgree (asking f e) noted (ds ++ Requested f ∷ [])
-  request_agrees f below = let d : Deed = Requested f in record {
+  pub request_agrees : (f t : ℕ) → f < length noted → WordsAgree (asking f t e) noted (ds ++ Requested f ∷ [])
+  request_agrees f t below = let d : Deed = Requested f in record {
     started = λ g c. stays ds d (Started g c) (λ p. cc) (h.started g c);
     asked = λ g. (
       (λ i. ⊎_elim (λ p. inl (subst (λ (k : ℕ). k < length noted) (sym p) below, latest ds d (Requested g) (ap (λ (k : ℕ). Requested k) p)))
@@ -135,7 +135,7 @@ module _ (e : Entry) (noted : List Bool) (ds : List Deed) (h : WordsAgree e note
   }
 
   -- a request from outside adds no deed
-  pub outside_agrees : (f : ℕ) → f < length noted → WordsAgree (asking f e) (set noted f true) ds
+  pub outside_agrees : (f : ℕ) → f < length noted → WordsAgree (asking f 0 e) (set noted f true) ds
   outside_agrees f below = let long = length-set noted f true in record {
     started = h.started;
     asked = λ g. (
@@ -149,8 +149,8 @@ module _ (e : Entry) (noted : List Bool) (ds : List Deed) (h : WordsAgree e note
     ended = h.ended;
   }
 
-  pub look_agrees : WordsAgree (looking true e) noted (ds ++ Saw ∷ [])
-  look_agrees = record {
+  pub look_agrees : (t : ℕ) → WordsAgree (looking (Some t) e) noted (ds ++ Saw ∷ [])
+  look_agrees t = record {
     started = λ g c. stays ds Saw (Started g c) (λ p. cc) (h.started g c);
     asked = λ g. asked_stays noted ds Saw g (λ lt p. cc) (h.asked g);
     saw = ((λ p. latest ds Saw Saw refl), (λ i. refl));
@@ -158,8 +158,8 @@ module _ (e : Entry) (noted : List Bool) (ds : List Deed) (h : WordsAgree e note
     ended = λ o. stays ds Saw (Ended o) (λ p. cc) (h.ended o);
   }
 
-  pub peek_agrees : (f : ℕ) (o : Outcome) → WordsAgree (peeked f o e) noted (ds ++ FoundEnded f o ∷ [])
-  peek_agrees f o = let d : Deed = FoundEnded f o in record {
+  pub peek_agrees : (f t : ℕ) (o : Outcome) → WordsAgree (peeked f o t e) noted (ds ++ FoundEnded f o ∷ [])
+  peek_agrees f t o = let d : Deed = FoundEnded f o in record {
     started = λ g c. stays ds d (Started g c) (λ p. cc) (h.started g c);
     asked = λ g. asked_stays noted ds d g (λ lt p. cc) (h.asked g);
     saw = stays ds d Saw (λ p. cc) h.saw;
@@ -170,8 +170,8 @@ module _ (e : Entry) (noted : List Bool) (ds : List Deed) (h : WordsAgree e note
     ended = λ v. stays ds d (Ended v) (λ p. cc) (h.ended v);
   }
 
-  pub finish_agrees : (o : Outcome) → e.ended ≡ None → WordsAgree (finished o e) noted (ds ++ Ended o ∷ [])
-  finish_agrees o running = let d : Deed = Ended o in record {
+  pub finish_agrees : (o : Outcome) (t : ℕ) → e.ended ≡ None → WordsAgree (finished o t e) noted (ds ++ Ended o ∷ [])
+  finish_agrees o t running = let d : Deed = Ended o in record {
     started = λ g c. stays ds d (Started g c) (λ p. cc) (h.started g c);
     asked = λ g. asked_stays noted ds d g (λ lt p. cc) (h.asked g);
     saw = stays ds d Saw (λ p. cc) h.saw;

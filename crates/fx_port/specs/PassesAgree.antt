@@ -2,11 +2,12 @@
 use Rattle.std.specs.Prelude.{◌≡◌, ℕ, ◌≤◌, List, [], ◌∷◌, ◌++◌, length, Option, Some, None, slice_get}
 use Rattle.std.specs.List.{filter_map}
 use Rattle.fx_term.specs.declared.begin.Begin.{Begin}
-use Rattle.fx_term.specs.declared.item.Item.{Item}
+use Rattle.fx_term.specs.Element.{Element}
 use Rattle.fx_term.specs.declared.queue_event.QueueEvent.{QueueEvent}
 use Rattle.fx_term.specs.Lists.{Among}
 use Rattle.fx_term.specs.Queue.{cut, Leaves}
 use Rattle.fx_fiber.specs.Deed.{Deed, Started, FoundFull, FoundEmpty, queue_deeds}
+use Rattle.fx_fiber.specs.StampedDeed.{StampedDeed, queue_numbers}
 use Rattle.fx_queue.specs.declared.entry.Handed.{Handed}
 use Rattle.fx_queue.specs.declared.pass_view.PassView.{PassView}
 use Rattle.fx_queue.specs.History.{Begins}
@@ -26,6 +27,11 @@ abbrev pub acts_by : Option HeldPass → List QueueEvent
 acts_by None = []
 acts_by (Some s) = s.view.own.acts
 
+-- the same with stamps in place of values
+abbrev pub stamps_by : Option HeldPass → List QueueEvent
+stamps_by None = []
+stamps_by (Some s) = s.view.own.stamps
+
 -- the pass is the main fiber's, and has split off none and taken in none
 abbrev pub IsLone : PassView → Type 0
 IsLone v = (v.own.id ≡ 0) × (v.own.parts ≡ []) × (v.taken ≡ [])
@@ -35,7 +41,7 @@ IsLone v = (v.own.id ≡ 0) × (v.own.parts ≡ []) × (v.taken ≡ [])
 -- now, and begins with what its starter had seen. Of a lone pass it is the fiber's own list
 pub record WasFound (v : PassView) (n : ℕ) (before : List QueueEvent) : Type 0 where
   pub log : List QueueEvent
-  pub items : List Item
+  pub items : List Element
   pub seen : List QueueEvent
   pub legal : Leaves v.cap log items
   pub found : length items ≡ n
@@ -80,3 +86,7 @@ pub record PassesAgree (f : ℕ) (passes : List HeldPass) (deeds : List Deed) : 
   pub handed : (before after : List Deed) (g : ℕ) (b : Begin) → deeds ≡ before ++ Started g b ∷ after → (q : ℕ) (s : HeldPass)
       → slice_get passes q ≡ Some s → HasHanded f s g (queue_deeds q f before)
   pub refusals : (before after : List Deed) (d : Deed) → deeds ≡ before ++ d ∷ after → IsBacked f passes before d
+
+-- the stamps of each pass are the deeds at its queue with their numbers in place of values
+pub record PassesStampsAgree (f : ℕ) (passes : List HeldPass) (deeds : List StampedDeed) : Type 0 where
+  pub stamps : (q : ℕ) → queue_numbers q f deeds ≡ stamps_by (slice_get passes q)

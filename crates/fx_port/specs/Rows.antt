@@ -48,17 +48,17 @@ puts_by s = puts s.view.own.acts
 abbrev pub puts_in : List HeldPass → ℕ
 puts_in passes = sum_by puts_by passes
 
--- the pass of queue q put the value, after a history in which the queue had room, and nothing else has changed
-pub record PutsInto (passes : List HeldPass) (q value : ℕ) (passes' : List HeldPass) : Type 0 where
+-- the pass of queue q put the value with this stamp, after a history in which the queue had room, and nothing else has changed
+pub record PutsInto (passes : List HeldPass) (q value stamp : ℕ) (passes' : List HeldPass) : Type 0 where
   pub pass : HeldPass
   pub pass' : HeldPass
   pub at : slice_get passes q ≡ Some pass
   pub same : IsSameFiber pass pass'
-  pub did : DidPut pass.view value pass'.view
+  pub did : DidPut pass.view value stamp pass'.view
   pub is : passes' ≡ slice_set passes q pass'
 
--- the pass of queue q took this value, which was at the front
-pub record GetsFrom (passes : List HeldPass) (q value : ℕ) (passes' : List HeldPass) : Type 0 where
+-- the pass of queue q took this value, which was at the front and was put with this stamp
+pub record GetsFrom (passes : List HeldPass) (q value stamp : ℕ) (passes' : List HeldPass) : Type 0 where
   pub pass : HeldPass
   pub pass' : HeldPass
   pub item : Item
@@ -66,6 +66,7 @@ pub record GetsFrom (passes : List HeldPass) (q value : ℕ) (passes' : List Hel
   pub same : IsSameFiber pass pass'
   pub did : DidGet pass.view item pass'.view
   pub value_is : item.value ≡ value
+  pub stamp_is : item.stamp ≡ stamp
   pub is : passes' ≡ slice_set passes q pass'
 
 -- the queue was full at one moment, or empty, where there is one
@@ -76,12 +77,12 @@ abbrev pub FoundEmptyAt : List HeldPass → ℕ → Type 0
 FoundEmptyAt passes q = (s : HeldPass) → slice_get passes q ≡ Some s → Held 0 (stands s.view)
 
 -- what an offer to queue q does by its answer, and what a take
-abbrev pub RowOffers : List HeldPass → ℕ → ℕ → Offered → List HeldPass → Type 0
-RowOffers passes q value Done passes' = PutsInto passes q value passes'
-RowOffers passes q value Full passes' = FoundFullAt passes q × (passes' ≡ passes)
+abbrev pub RowOffers : List HeldPass → ℕ → ℕ → ℕ → Offered → List HeldPass → Type 0
+RowOffers passes q value stamp Done passes' = PutsInto passes q value stamp passes'
+RowOffers passes q value stamp Full passes' = FoundFullAt passes q × (passes' ≡ passes)
 
-abbrev pub RowTakes : List HeldPass → ℕ → Option ℕ → List HeldPass → Type 0
-RowTakes passes q (Some value) passes' = GetsFrom passes q value passes'
+abbrev pub RowTakes : List HeldPass → ℕ → Option (ℕ × ℕ) → List HeldPass → Type 0
+RowTakes passes q (Some x) passes' = GetsFrom passes q x.0 x.1 passes'
 RowTakes passes q None passes' = FoundEmptyAt passes q × (passes' ≡ passes)
 
 -- what is left in each queue, by the passes that closed them

@@ -1,9 +1,10 @@
--- When the words' entry of a fiber agrees with its deeds.
+-- When the words' entry of a fiber agrees with its deeds, and its stamps with their numbers.
 use Rattle.std.specs.Prelude.{◌≡◌, ◌↔◌, ℕ, ◌<◌, Bool, true, Some, List, length, ◌⊎◌}
 use Rattle.fx_term.specs.Lists.{Among}
 use Rattle.fx_term.specs.declared.begin.Begin.{Begin}
 use Rattle.fx_term.specs.declared.outcome.Outcome.{Outcome}
 use Rattle.fx_fiber.specs.Deed.{Deed, Started, Requested, Saw, FoundEnded, Ended}
+use Rattle.fx_fiber.specs.StampedDeed.{StampedDeed, stamped_deed}
 use Rattle.fx_word.specs.declared.entry.Entry.{Entry}
 use Rattle.fx_port.specs.Marks.{is_marked}
 
@@ -17,3 +18,14 @@ pub record WordsAgree (e : Entry) (noted : List Bool) (deeds : List Deed) : Type
   -- it learnt the outcomes that it found
   pub found : (f : ℕ) (o : Outcome) → Among (f, o) e.learnt ↔ Among (FoundEnded f o) deeds
   pub ended : (o : Outcome) → (e.ended ≡ Some o) ↔ Among (Ended o) deeds
+
+-- the stamps in the entry are numbers of deeds
+pub record WordsStampsAgree (e : Entry) (noted : List Bool) (deeds : List StampedDeed) : Type 0 where
+  -- a fiber that was started began with the stamp of its start
+  pub started : (f t : ℕ) (b : Begin) → Among (stamped_deed (Started f b) t) deeds → b.stamp ≡ t
+  -- each stamp that it asked with is that of a request, or the 0 of one that was noted
+  pub asked : (f t : ℕ) → Among (f, t) e.asked_with → Among (stamped_deed (Requested f) t) deeds ⊎ ((is_marked noted f ≡ true) × (t ≡ 0))
+  -- what it saw, found and told of ends are the stamps that it loaded, learnt and stored
+  pub saw : (t : ℕ) → Among (stamped_deed Saw t) deeds → Among t e.loaded
+  pub found : (f t : ℕ) (o : Outcome) → Among (stamped_deed (FoundEnded f o) t) deeds → Among (f, t) e.learnt_stamps
+  pub ended : (t : ℕ) (o : Outcome) → Among (stamped_deed (Ended o) t) deeds → e.stored_stamp ≡ Some t

@@ -48,19 +48,27 @@ impl CountedPass {
     }
 
     #[inline(always)]
-    pub fn offer<R: Wait>(&mut self, rt: &R, queue: &FiberQueue, fiber: u32, value: u64) -> Offered
+    pub fn offer<R: Wait>(
+        &mut self,
+        rt: &R,
+        queue: &FiberQueue,
+        fiber: u32,
+        value: u64,
+        stamp: u64,
+    ) -> Offered
         requires queue { IsOf self.old queue.now }
         requires fiber { fiber ≡ self.old.view.own.id }
         requires few { puts self.old.view.own.acts < 2 ^ 63 }
         ensures same { IsSameFiber self.old self.new }
         ensures rule { MatchOffered result
-            (DidPut self.old.view value self.new.view)
+            (DidPut self.old.view value stamp self.new.view)
             ((self.new ≡ self.old) × Held self.old.view.cap (stands self.old.view)) }
     {
         let item = Item {
             fiber,
             nth: self.nth,
             value,
+            stamp,
         };
         match queue.offer_as(rt, &mut self.pass, item) {
             Ok(()) => {

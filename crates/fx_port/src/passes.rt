@@ -38,8 +38,8 @@ impl Passes {
         self.row
     }
 
-    /// Puts the value at the back of that queue, for the fiber of these passes. A queue that there is
-    /// not is full.
+    /// Puts the value at the back of that queue with this stamp, for the fiber of these passes. A queue
+    /// that there is not is full.
     #[inline(always)]
     pub(crate) fn offer<R: Wait>(
         &mut self,
@@ -48,23 +48,30 @@ impl Passes {
         queue: u8,
         fiber: u32,
         value: u64,
+        stamp: u64,
     ) -> Offered
         requires queues { IsRowOf queues.now self.old }
         requires fiber { (q : ℕ) (s : HeldPass) → slice_get self.old q ≡ Some s → s.view.own.id ≡ fiber }
         requires few { puts_in self.old < 2 ^ 63 }
-        ensures { RowOffers self.old queue value result self.new }
+        ensures { RowOffers self.old queue value stamp result self.new }
     {
         let place = queue as usize;
         if place >= self.row.len() {
             return Offered::Full;
         }
         let pass = &mut self.row[place];
-        pass.offer(rt, &queues[place], fiber, value)
+        pass.offer(rt, &queues[place], fiber, value, stamp)
     }
 
-    /// Takes the front of that queue, for the fiber of these passes. A queue that there is not is empty.
+    /// Takes the front of that queue, for the fiber of these passes: its value and its stamp. A queue that
+    /// there is not is empty.
     #[inline(always)]
-    pub(crate) fn take<R: Wait>(&mut self, rt: &R, queues: &[FiberQueue], queue: u8) -> Option<u64>
+    pub(crate) fn take<R: Wait>(
+        &mut self,
+        rt: &R,
+        queues: &[FiberQueue],
+        queue: u8,
+    ) -> Option<(u64, u64)>
         requires queues { IsRowOf queues.now self.old }
         ensures { RowTakes self.old queue result self.new }
     {
@@ -74,7 +81,7 @@ impl Passes {
         }
         let pass = &mut self.row[place];
         let item = pass.take(rt, &queues[place])?;
-        Some(item.value)
+        Some((item.value, item.stamp))
     }
 
     /// The passes of the first number of the range, with those after it up to `end` as their range. Want

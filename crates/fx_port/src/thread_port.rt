@@ -110,38 +110,9 @@ impl<'a, R: Wait, N: RunBrand> Port for ThreadPort<'a, R, N> {
 
     ghost theory = { thread_theory N.nodes N.words.fibers N.may };
 
-    fn look(&mut self, notes: &mut Notes<N>) -> bool {
-        let found = self.words.look(&mut self.seat);
-        if found {
-            let fiber = self.seat.id();
-            let waited = self.waited.take();
-            leave(
-                self.rt,
-                self.queues,
-                self.sources,
-                fiber,
-                waited,
-                None,
-                notes,
-            );
-            return true;
-        }
-        false
-    }
-
-    fn request(&mut self, notes: &mut Notes<N>, id: u32) {
-        if id < self.words.fibers() {
-            self.words.request(&mut self.seat, id);
-            notes.wake(id);
-        }
-    }
-
-    fn peek(&mut self, notes: &mut Notes<N>, id: u32) -> Option<Outcome> {
-        if id >= self.words.fibers() {
-            return None;
-        }
-        match self.words.peek(&mut self.seat, id) {
-            Some(outcome) => {
+    fn look(&mut self, notes: &mut Notes<N>) -> Option<u64> {
+        match self.words.look(&mut self.seat) {
+            Some(stamp) => {
                 let fiber = self.seat.id();
                 let waited = self.waited.take();
                 leave(
@@ -153,15 +124,51 @@ impl<'a, R: Wait, N: RunBrand> Port for ThreadPort<'a, R, N> {
                     None,
                     notes,
                 );
-                Some(outcome)
+                Some(stamp)
             }
             None => None,
         }
     }
 
-    fn offer(&mut self, notes: &mut Notes<N>, queue: u8, value: u64) -> Result<Offered, Memory> {
+    fn request(&mut self, notes: &mut Notes<N>, id: u32, stamp: u64) {
+        if id < self.words.fibers() {
+            self.words.request(&mut self.seat, id, stamp);
+            notes.wake(id);
+        }
+    }
+
+    fn peek(&mut self, notes: &mut Notes<N>, id: u32) -> Option<(Outcome, u64)> {
+        if id >= self.words.fibers() {
+            return None;
+        }
+        match self.words.peek(&mut self.seat, id) {
+            Some(end) => {
+                let fiber = self.seat.id();
+                let waited = self.waited.take();
+                leave(
+                    self.rt,
+                    self.queues,
+                    self.sources,
+                    fiber,
+                    waited,
+                    None,
+                    notes,
+                );
+                Some(end)
+            }
+            None => None,
+        }
+    }
+
+    fn offer(
+        &mut self,
+        notes: &mut Notes<N>,
+        queue: u8,
+        value: u64,
+        stamp: u64,
+    ) -> Result<Offered, Memory> {
         let (rt, queues, fiber) = (self.rt, self.queues, self.seat.id());
-        match self.passes.offer(rt, queues, queue, fiber, value) {
+        match self.passes.offer(rt, queues, queue, fiber, value, stamp) {
             Offered::Done => {
                 let waited = self.waited.take();
                 let met = Some(Source::Room(queue));
@@ -173,15 +180,15 @@ impl<'a, R: Wait, N: RunBrand> Port for ThreadPort<'a, R, N> {
         }
     }
 
-    fn take(&mut self, notes: &mut Notes<N>, queue: u8) -> Option<u64> {
+    fn take(&mut self, notes: &mut Notes<N>, queue: u8) -> Option<(u64, u64)> {
         let (rt, queues, fiber) = (self.rt, self.queues, self.seat.id());
         match self.passes.take(rt, queues, queue) {
-            Some(value) => {
+            Some(element) => {
                 let waited = self.waited.take();
                 let met = Some(Source::Element(queue));
                 leave(rt, queues, self.sources, fiber, waited, met, notes);
                 wake_at(rt, queues, queue, Side::Room, notes);
-                Some(value)
+                Some(element)
             }
             None => None,
         }
@@ -210,15 +217,15 @@ impl<'a, R: Wait, N: RunBrand> Port for ThreadPort<'a, R, N> {
         })
     }
 
-    fn finish(&mut self, notes: &mut Notes<N>, outcome: Outcome) {
-        self.words.finish(&mut self.seat, outcome);
+    fn finish(&mut self, notes: &mut Notes<N>, outcome: Outcome, stamp: u64) {
+        self.words.finish(&mut self.seat, outcome, stamp);
         self.sources.wake(self.rt, self.seat.id(), notes);
     }
 
     fn outside(&mut self, notes: &mut Notes<N>, id: u32) {
         if id < self.words.fibers() {
             self.noted.mark(id);
-            self.words.request(&mut self.seat, id);
+            self.words.request(&mut self.seat, id, 0);
             notes.wake(id);
         }
     }

@@ -1,10 +1,10 @@
 //! Fibers on one thread, and what they see of one another.
 use super::play::{Move, Row, Told, assert_rows};
-use Move::Step;
+use Move::{Request, Step};
 use fx_term::{Arg, Event, Node, NodeId, Outcome};
 use std::test::Fail;
 
-static ROWS: [Row; 4] = [
+static ROWS: [Row; 5] = [
     Row {
         what: "an element goes from one fiber to another",
         nodes: &[
@@ -14,9 +14,9 @@ static ROWS: [Row; 4] = [
         ],
         moves: &[Step(0), Step(1), Step(0), Step(0)],
         told: Told::Trace(&[
-            Event::Start(1),
-            Event::Got(0, 5),
-            Event::Ended(Outcome::Succeeded(5)),
+            (Event::Start(1), 1),
+            (Event::Got(0, 5), 3),
+            (Event::Ended(Outcome::Succeeded(5)), 4),
         ]),
     },
     Row {
@@ -42,10 +42,10 @@ static ROWS: [Row; 4] = [
             Step(0),
         ],
         told: Told::Trace(&[
-            Event::Start(1),
-            Event::Put(0, 5),
-            Event::Joined(1, Outcome::Succeeded(5)),
-            Event::Ended(Outcome::Succeeded(5)),
+            (Event::Start(1), 1),
+            (Event::Put(0, 5), 2),
+            (Event::Joined(1, Outcome::Succeeded(5)), 5),
+            (Event::Ended(Outcome::Succeeded(5)), 6),
         ]),
     },
     Row {
@@ -65,10 +65,10 @@ static ROWS: [Row; 4] = [
             Step(0),
         ],
         told: Told::Trace(&[
-            Event::Start(1),
-            Event::Request(1),
-            Event::Awaited(1),
-            Event::Ended(Outcome::Succeeded(0)),
+            (Event::Start(1), 1),
+            (Event::Request(1), 2),
+            (Event::Awaited(1), 6),
+            (Event::Ended(Outcome::Succeeded(0)), 7),
         ]),
     },
     Row {
@@ -80,9 +80,24 @@ static ROWS: [Row; 4] = [
         ],
         moves: &[Step(0), Step(0), Step(0), Step(0)],
         told: Told::Trace(&[
-            Event::Put(0, 5),
-            Event::Refused(0),
-            Event::Ended(Outcome::Succeeded(0)),
+            (Event::Put(0, 5), 1),
+            (Event::Refused(0), 2),
+            (Event::Ended(Outcome::Succeeded(0)), 3),
+        ]),
+    },
+    Row {
+        what: "a request from outside has the stamp 0",
+        nodes: &[
+            Node::Offer(0, Arg::Number(5)),
+            Node::Never,
+            Node::Let(None, NodeId(0), NodeId(1)),
+        ],
+        moves: &[Step(0), Request(0), Step(0), Step(0), Step(0)],
+        told: Told::Trace(&[
+            (Event::Put(0, 5), 1),
+            (Event::Seen, 2),
+            (Event::Cancelled, 3),
+            (Event::Ended(Outcome::Canceled), 4),
         ]),
     },
 ];

@@ -9,7 +9,7 @@ ghost use Rattle.fx_word.specs.Words.{IsOf};
 use fx_fiber::{Fiber, Port, Stepped, main_begin};
 use fx_port::{Notes, Passes, RunBrand, Sources, ThreadPort, open_queues};
 use fx_queue::FiberQueue;
-use fx_term::{Code, Event, Memory, Node};
+use fx_term::{Code, Event, Memory, Node, Stamped};
 use fx_word::{WordSeat, Words};
 use std::alloc::Global;
 use std::marker::Brand;
@@ -45,7 +45,7 @@ pub enum Plan<'a> {
 /// of each move, counted from 0, with each fiber that it wakes, ascending.
 #[derive(Drop)]
 pub struct Seen {
-    pub traces: Vec<Vec<Event>>,
+    pub traces: Vec<Vec<Stamped>>,
     pub woken: Vec<(usize, u32)>,
 }
 
@@ -217,7 +217,7 @@ fn note_woken<P: Port>(
 fn traces_of<P: Port + Drop>(
     alloc: Global,
     fibers: Vec<Fiber<P>>,
-) -> Result<Vec<Vec<Event>>, Memory> {
+) -> Result<Vec<Vec<Stamped>>, Memory> {
     let mut traces = Vec::new(alloc);
     for fiber in fibers {
         traces.push(fiber.into_trace())?;
@@ -276,15 +276,15 @@ fn on_two_threads<R: Threads + Wait + Sync, P: Port<Shared: Send + Drop> + Send 
     other: Fiber<P>,
     mut mine: P::Shared,
     mut theirs: P::Shared,
-) -> (Result<Vec<Event>, Memory>, Result<Vec<Event>, Memory>)
+) -> (Result<Vec<Stamped>, Memory>, Result<Vec<Stamped>, Memory>)
     requires code { code.now.nodes ≡ P.theory.code }
 {
     thread::join(
         rt,
-        move || -> Result<Vec<Event>, Memory>
+        move || -> Result<Vec<Stamped>, Memory>
             requires { code.now.nodes ≡ P.theory.code }
         { to_end(rt, code, one, &mut mine) },
-        move || -> Result<Vec<Event>, Memory>
+        move || -> Result<Vec<Stamped>, Memory>
             requires { code.now.nodes ≡ P.theory.code }
         { to_end(rt, code, other, &mut theirs) },
     )
@@ -296,7 +296,7 @@ fn to_end<R: Wait, P: Port + Drop>(
     code: &Code,
     mut fiber: Fiber<P>,
     shared: &mut P::Shared,
-) -> Result<Vec<Event>, Memory>
+) -> Result<Vec<Stamped>, Memory>
     requires code { code.now.nodes ≡ P.theory.code }
 {
     for _ in rt.forever() {
@@ -311,8 +311,8 @@ fn to_end<R: Wait, P: Port + Drop>(
 
 /// What is to be seen of a run.
 pub enum Told {
-    /// The trace of the main fiber.
-    Trace(&'static [Event]),
+    /// The trace of the main fiber, each event with its stamp.
+    Trace(&'static [(Event, u64)]),
     /// The number of each move that wakes a fiber, counted from 0, and whom it wakes.
     Woken(&'static [(usize, u32)]),
 }
@@ -325,10 +325,19 @@ pub struct Row {
     pub told: Told,
 }
 
+/// Whether the trace has these events with these stamps.
+fn is_trace(trace: &[Stamped], told: &[(Event, u64)]) -> bool {
+    let mut all = trace.len() == told.len();
+    for (one, &(event, stamp)) in trace.iter().zip(told) {
+        all = all && *one == Stamped { event, stamp };
+    }
+    all
+}
+
 fn is_seen(seen: &Seen, told: &Told) -> bool {
     match *told {
         Told::Trace(trace) => match seen.traces.first() {
-            Some(main) => main.as_slice() == trace,
+            Some(main) => is_trace(main, trace),
             None => false,
         },
         Told::Woken(woken) => seen.woken.as_slice() == woken,

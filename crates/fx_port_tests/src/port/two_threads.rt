@@ -1,6 +1,6 @@
 //! Two fibers, each on a thread of its own.
 use super::play::{Plan, play};
-use fx_term::{Arg, Event, Node, NodeId};
+use fx_term::{Arg, Event, Node, NodeId, Stamped};
 use std::test::Fail;
 
 /// `start h (for i 100 (offer q i)) (for i 100 (take q))`.
@@ -27,10 +27,10 @@ static BOTH_WAYS: [Node; 9] = [
 ];
 
 /// How many elements a fiber got out of queue 0, where these are 0, 1 and so on.
-fn got_in_order(trace: &[Event]) -> Option<u64> {
+fn got_in_order(trace: &[Stamped]) -> Option<u64> {
     let mut next = 0u64;
-    for event in trace {
-        if let Event::Got(0, value) = *event {
+    for one in trace {
+        if let Event::Got(0, value) = one.event {
             if value != next {
                 return None;
             }
@@ -41,11 +41,11 @@ fn got_in_order(trace: &[Event]) -> Option<u64> {
 }
 
 /// How many elements a fiber got out of queue 0, and their sum.
-fn got(trace: &[Event]) -> (u64, u64) {
+fn got(trace: &[Stamped]) -> (u64, u64) {
     let mut count = 0u64;
     let mut sum = 0u64;
-    for event in trace {
-        if let Event::Got(0, value) = *event {
+    for one in trace {
+        if let Event::Got(0, value) = one.event {
             count = count.wrapping_add(1);
             sum = sum.wrapping_add(value);
         }
@@ -53,11 +53,28 @@ fn got(trace: &[Event]) -> (u64, u64) {
     (count, sum)
 }
 
+/// Whether each element that was got out of queue 0 has a greater stamp than its put, where the one that is
+/// put as the nth event is n.
+fn are_got_later(puts: &[Stamped], gots: &[Stamped]) -> bool {
+    for one in gots {
+        if let Event::Got(0, value) = one.event {
+            let Some(put) = puts.get(value as usize) else {
+                return false;
+            };
+            if put.event != Event::Put(0, value) || one.stamp <= put.stamp {
+                return false;
+            }
+        }
+    }
+    true
+}
+
 #[test]
 fn elements_go_from_one_thread_to_another_in_order(rt: HostRuntime) -> Result<(), Fail> {
     let seen = play(&rt, rt.alloc(), &SENDS_MANY, 3, Plan::TwoThreads)?;
     let main = seen.traces.first();
     assert!(rt; main.map(|trace| got_in_order(trace)) == Some(Some(100)));
+    assert!(rt; matches!(seen.traces.as_slice(), [main, other] if are_got_later(other, main)));
     Ok(())
 }
 

@@ -9,5 +9,5 @@ pub returns-clause-deed : goal.returns-clause-deed
 returns-clause-deed g c =
     let p : PortView = record { words = c.self.inside.seat.view; passes = c.self.inside.passes; noted = c.self.inside.noted } in
     let running = unfinished p.words.own.ended (ap (λ (u : PortView). is_some u.words.own.ended) c.self.view_is ∙ c.requires.going) in
-    by_deed p _ _ _ (Ended c.args.outcome) c.self.view_is (ap (seated c.self.inside.passes c.self.inside.noted) c.finish.ensures)
-    (finishes p c.args.outcome running)
+    by_deed p _ _ _ (Ended c.args.outcome) c.args.stamp c.self.view_is (ap (seated c.self.inside.passes c.self.inside.noted) c.finish.ensures)
+    (finishes p c.args.outcome c.args.stamp running)

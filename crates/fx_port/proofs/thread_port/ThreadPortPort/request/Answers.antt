@@ -1,5 +1,6 @@
 use Rattle.std.proofs.Common.{◌∙◌, ◌++◌, ◌∷◌, [], List, ap, subst, arith}
-use Rattle.fx_fiber.specs.Deed.{Deed, Requested}
+use Rattle.fx_fiber.specs.Deed.{Requested}
+use Rattle.fx_fiber.specs.StampedDeed.{StampedDeed, stamped_deed}
 use Rattle.fx_word.specs.Words.{WordsId}
 use Rattle.fx_port.specs.PortView.{PortView}
 use Rattle.fx_port.specs.ThreadCalls.{ThreadAgrees}
@@ -12,8 +13,8 @@ returns-then-id-fibers-clause-deed g c =
     let fibers = c.fibers.ensures ∙ ap (λ (w : WordsId). w.fibers) c.self.invariant.0 in
     let marks = c.self.invariant.3.marks in
     let below = c.if-id-fibers.true in
-    by_deed p _ _ _ (Requested c.args.id) c.self.view_is (ap (seated c.self.inside.passes c.self.inside.noted) c.request.ensures)
-    (requests p c.args.id (omega (arith, below, fibers, marks)))
+    by_deed p _ _ _ (Requested c.args.id) c.args.stamp c.self.view_is (ap (seated c.self.inside.passes c.self.inside.noted) c.request.ensures)
+    (requests p c.args.id c.args.stamp (omega (arith, below, fibers, marks)))
 
 pub returns-else-id-fibers-clause-deed : goal.returns-else-id-fibers-clause-deed
 returns-else-id-fibers-clause-deed g c =
@@ -21,5 +22,6 @@ returns-else-id-fibers-clause-deed g c =
     let fibers = c.fibers.ensures ∙ ap (λ (w : WordsId). w.fibers) c.self.invariant.0 in
     let marks = c.self.invariant.3.marks in
     let beyond = c.if-id-fibers.false in
-    subst (λ (u : PortView). (deeds : List Deed) → ThreadAgrees u deeds → ThreadAgrees u (deeds ++ Requested c.args.id ∷ [])) c.self.view_is
-    (requests_nobody p c.args.id (omega (arith, beyond, fibers, marks)))
+    subst (λ (u : PortView). (ds : List StampedDeed) → ThreadAgrees u ds → ThreadAgrees u (ds ++ stamped_deed (Requested c.args.id) c.args.stamp ∷ []))
+    c.self.view_is
+    (requests_nobody p c.args.id c.args.stamp (omega (arith, beyond, fibers, marks)))

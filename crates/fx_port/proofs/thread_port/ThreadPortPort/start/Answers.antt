@@ -86,6 +86,6 @@ returns-clause-deed g c =
     let range = c.requires.range in
     let is = range.number ∙ sym (ap (λ (u : PortView). u.words.own.next) c.self.view_is) in
     let inside = subst (λ (n : ℕ). c.args.begin.now.end ≤ n) (sym (ap (λ (u : PortView). u.words.own.end) c.self.view_is)) range.within in
-    by_deed p _ (kept_port c.args.begin.now p) _ (Started c.args.id c.args.begin.now) c.self.view_is
+    by_deed p _ (kept_port c.args.begin.now p) _ (Started c.args.id c.args.begin.now) c.args.begin.now.stamp c.self.view_is
     (λ i. record { words = words i; passes = c.in_ok-passes.ensures.kept i; noted = c.self.inside.noted })
     (starts p c.args.id c.args.begin.now is (theirs _ _ _ p c.self.invariant.3))
