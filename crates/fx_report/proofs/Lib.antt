@@ -1,5 +1,6 @@
 pub mod Keys
 pub mod TextRows
+pub mod StampedLines
 pub mod QueueNames
 pub mod Endings
 pub mod BlockedFibers

@@ -10,9 +10,21 @@ use Rattle.fx_report.specs.Text.{report_text, trace_text}
 
 abbrev told : ReportView
 told = record {
-  fibers = record { id = 0; parent = None; has_ended = true; trace = event.Start 1 ∷ event.Put 0 12 ∷ event.Ended (Succeeded 6) ∷ [] }
-      ∷ record { id = 1; parent = Some 0; has_ended = true; trace = event.Seen ∷ event.Cancelled ∷ event.Ended outcome.Canceled ∷ [] }
-      ∷ record { id = 10; parent = Some 1; has_ended = false; trace = [] } ∷ [];
+  fibers = record {
+    id = 0;
+    parent = None;
+    has_ended = true;
+    trace = event.Start 1 ∷ event.Put 0 12 ∷ event.Ended (Succeeded 6) ∷ [];
+    stamps = 1 ∷ 2 ∷ 3 ∷ [];
+  }
+      ∷ record {
+        id = 1;
+        parent = Some 0;
+        has_ended = true;
+        trace = event.Seen ∷ event.Cancelled ∷ event.Ended outcome.Canceled ∷ [];
+        stamps = 12 ∷ 13 ∷ 14 ∷ [];
+      }
+      ∷ record { id = 10; parent = Some 1; has_ended = false; trace = []; stamps = [] } ∷ [];
   left = (record { fiber = 0; nth = 0; value = 12 } ∷ record { fiber = 0; nth = 1; value = 3 } ∷ []) ∷ [] ∷ [];
   outside = [];
   late = 0;
@@ -25,6 +37,6 @@ report_is : report_text names told ≡ codes "fiber 0 succeeded 6\nfiber 1 cance
 unfolding digits
 report_is = refl
 
-traces_are : trace_text names told ≡ codes "0 start 1\n0 put q 12\n0 ended succeeded 6\n1 seen\n1 cancelled\n1 ended canceled\n"
+traces_are : trace_text names told ≡ codes "0 1 start 1\n0 2 put q 12\n0 3 ended succeeded 6\n1 12 seen\n1 13 cancelled\n1 14 ended canceled\n"
 unfolding digits
 traces_are = refl

@@ -6,7 +6,7 @@ use Rattle.fx_term.specs.declared.outcome.Outcome.{Outcome}
 use Rattle.fx_term.specs.declared.outcome.Outcome.TheVariants.{Succeeded, Errored, Canceled}
 use Rattle.fx_term.specs.declared.event.Event.{Event}
 use Rattle.fx_term.specs.declared.event.Event.TheVariants as event
-use Rattle.fx_term.specs.declared.item.Item.{Item}
+use Rattle.fx_term.specs.Element.{Element}
 use Rattle.fx_text.specs.declared.queue_decl.QueueDecl.{QueueDecl}
 use Rattle.fx_text.specs.Meaning.{Meaning}
 use Rattle.fx_model.specs.Report.{FiberReportView, ReportView}
@@ -53,9 +53,14 @@ event_text names event.SelfRequest = codes "selfrequest"
 event_text names event.Cancelled = codes "cancelled"
 event_text names (event.Ended o) = codes "ended " ++ outcome_text o
 
--- the line of an event of fiber f
-abbrev pub event_line : List (List ℕ) → ℕ → Event → List ℕ
-event_line names f e = decimal f ++ codes " " ++ event_text names e ++ line_end
+-- the line of an event of fiber f, with its stamp
+abbrev pub event_line : List (List ℕ) → ℕ → ℕ → Event → List ℕ
+event_line names f stamp e = decimal f ++ number stamp ++ codes " " ++ event_text names e ++ line_end
+
+-- a line an event, each with its stamp
+abbrev pub event_lines : List (List ℕ) → ℕ → List ℕ → List Event → List ℕ
+event_lines names f (t ∷ ts) (e ∷ es) = event_line names f t e ++ event_lines names f ts es
+event_lines names f _ _ = []
 
 -- how a fiber halted: with its outcome, or waiting for good
 abbrev pub halt_text : Option Outcome → List ℕ
@@ -80,11 +85,11 @@ abbrev pub fiber_line : FiberReportView → List ℕ
 fiber_line x = codes "fiber" ++ number x.id ++ codes " " ++ state_text x.has_ended x.trace ++ line_end
 
 -- the line of a queue of this name, with the values from front to back
-abbrev pub queue_line : List ℕ → List Item → List ℕ
-queue_line name items = codes "queue " ++ name ++ codes " left" ++ flat_map (λ (x : Item). number x.value) items ++ line_end
+abbrev pub queue_line : List ℕ → List Element → List ℕ
+queue_line name items = codes "queue " ++ name ++ codes " left" ++ flat_map (λ (x : Element). number x.value) items ++ line_end
 
 -- a line a queue, in the order of the script
-abbrev pub queue_lines : List (List ℕ) → List (List Item) → List ℕ
+abbrev pub queue_lines : List (List ℕ) → List (List Element) → List ℕ
 queue_lines (name ∷ names) (items ∷ left) = queue_line name items ++ queue_lines names left
 queue_lines _ _ = []
 
@@ -94,7 +99,7 @@ report_text names r = flat_map fiber_line r.fibers ++ queue_lines names r.left
 
 -- the lines of one fiber's trace
 abbrev pub trace_lines : List (List ℕ) → FiberReportView → List ℕ
-trace_lines names x = flat_map (event_line names x.id) x.trace
+trace_lines names x = event_lines names x.id x.stamps x.trace
 
 -- the text of the traces of a report
 abbrev pub trace_text : List (List ℕ) → ReportView → List ℕ

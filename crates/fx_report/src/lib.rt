@@ -6,7 +6,7 @@
 //! | text | a line |
 //! |---|---|
 //! | report | a fiber, with how it is at the end; then a queue, with what is left in it |
-//! | traces | an event of a fiber, fiber by fiber |
+//! | traces | an event of a fiber, with its stamp; fiber by fiber |
 //!
 //! Beside them there is a line for people for each blocked fiber, with what it waits for ([`Wait`]).
 //!

@@ -1,10 +1,11 @@
 //! The lines of a report and of its traces.
 ghost use Rattle.std.specs.Prelude.{◌≡◌, ◌<◌, ◌++◌, codes, decimal, length, OnOk, string_bytes};
 ghost use Rattle.fx_report.specs.Text.{names_of, line_end, number, queue_name};
+ghost use Rattle.fx_term.specs.Element.{elements_of};
 ghost use Rattle.fx_term.specs.QueuesNamed.{NamesQueueBelow};
 ghost use Rattle.fx_report.specs.Text.{outcome_text, halt_line, queue_line, event_text, event_line};
 
-use fx_term::{Event, Item, Outcome};
+use fx_term::{Event, Item, Outcome, Stamped};
 use fx_text::QueueDecl;
 use itoa::Buffer;
 use std::alloc::AllocError;
@@ -110,21 +111,21 @@ fn push_event(text: &mut String, queues: &[QueueDecl], event: Event) -> Result<(
     }
 }
 
-/// Appends the line of an event of that fiber, where the script has these queues.
+/// Appends the line of an event of that fiber, with its stamp, where the script has these queues.
 pub(crate) fn push_event_line(
     text: &mut String,
     queues: &[QueueDecl],
     id: u32,
-    event: Event,
+    stamped: Stamped,
 ) -> Result<(), AllocError>
-    requires { NamesQueueBelow (length queues.now) event }
-    ensures { OnOk result
-        (string_bytes text.new
-        ≡ string_bytes text.old ++ event_line (names_of queues.now) id event) }
+    requires { NamesQueueBelow (length queues.now) stamped.event }
+    ensures { OnOk result (string_bytes text.new ≡ string_bytes text.old
+        ++ event_line (names_of queues.now) id stamped.stamp stamped.event) }
 {
     push_digits(text, u64::from(id))?;
+    push_numbered(text, " ", stamped.stamp)?;
     text.push(' ')?;
-    push_event(text, queues, event)?;
+    push_event(text, queues, stamped.event)?;
     end_line(text)
 }
 
@@ -151,7 +152,7 @@ pub(crate) fn push_queue_line(
     items: &[Item],
 ) -> Result<(), AllocError>
     ensures { OnOk result (string_bytes text.new
-        ≡ string_bytes text.old ++ queue_line (string_bytes queue.now.name) items.now) }
+        ≡ string_bytes text.old ++ queue_line (string_bytes queue.now.name) (elements_of items.now)) }
 {
     text.push_str("queue ")?;
     text.push_str(&queue.name)?;

@@ -5,15 +5,16 @@ ghost use Rattle.std.specs.Io.KnownBytes.{Appends};
 ghost use Rattle.fx_text.specs.View.{meaning};
 ghost use Rattle.fx_report.specs.Output.{FailsToWrite};
 ghost use Rattle.fx_report.specs.Text.{names_of, queue_names, IsWritableFiber, IsWritable};
+ghost use Rattle.fx_term.specs.Element.{elements_of};
 ghost use Rattle.fx_term.specs.QueuesNamed.{NamesQueueBelow};
-ghost use Rattle.fx_report.specs.Text.{ends, state_text, halt_text, fiber_line, queue_lines, trace_lines};
+ghost use Rattle.fx_report.specs.Text.{ends, state_text, halt_text, fiber_line, queue_lines, event_line, trace_lines};
 ghost use Rattle.fx_report.specs.Text.{report_text, trace_text};
 
 use crate::lines::{push_event_line, push_fiber_line, push_queue_line};
 use crate::out_fault::OutFault;
 use crate::output::write_text;
 use fx_model::{FiberReport, Report};
-use fx_term::{Event, Item, Outcome};
+use fx_term::{Event, Item, Outcome, Stamped};
 use fx_text::{QueueDecl, Script};
 use std::alloc::{AllocError, Global};
 use std::io::Write;
@@ -23,8 +24,8 @@ fn outcome_of(fiber: &FiberReport) -> Option<Outcome>
     requires { ends fiber.now.trace ≡ fiber.now.has_ended }
     ensures { halt_text result ≡ state_text fiber.now.has_ended fiber.now.trace }
 {
-    match fiber.trace.last() {
-        Some(Event::Ended(outcome)) => Some(*outcome),
+    match fiber.trace.last()?.event {
+        Event::Ended(outcome) => Some(outcome),
         _ => None,
     }
 }
@@ -47,10 +48,27 @@ fn push_queue_lines(
 ) -> Result<(), AllocError>
     requires { length left.now ≡ length queues.now }
     ensures { OnOk result (string_bytes text.new ≡ string_bytes text.old
-        ++ queue_lines (names_of queues.now) (map (λ items. items.items) left.now)) }
+        ++ queue_lines (names_of queues.now) (map (λ items. elements_of items.items) left.now)) }
 {
     for (i, queue) in queues.iter().enumerate() {
         push_queue_line(text, queue, &left[i])?;
+    }
+    Ok(())
+}
+
+/// Appends a line an event of a trace of that fiber.
+fn push_stamped_lines(
+    text: &mut String,
+    queues: &[QueueDecl],
+    id: u32,
+    trace: &[Stamped],
+) -> Result<(), AllocError>
+    requires { All (λ x. NamesQueueBelow (length queues.now) x.event) trace.now }
+    ensures { OnOk result (string_bytes text.new ≡ string_bytes text.old
+        ++ flat_map (λ x. event_line (names_of queues.now) id x.stamp x.event) trace.now) }
+{
+    for stamped in trace {
+        push_event_line(text, queues, id, *stamped)?;
     }
     Ok(())
 }
@@ -65,10 +83,7 @@ fn push_trace_lines(
     ensures { OnOk result (string_bytes text.new
         ≡ string_bytes text.old ++ trace_lines (names_of queues.now) fiber.now) }
 {
-    for event in &fiber.trace {
-        push_event_line(text, queues, fiber.id, *event)?;
-    }
-    Ok(())
+    push_stamped_lines(text, queues, fiber.id, &fiber.trace)
 }
 
 fn push_traces(
