@@ -1,5 +1,5 @@
 -- A step of the whole machine comes after what it stands on: so its moves are one order of all events.
-use Rattle.std.proofs.Common.{◌≡◌, ℕ, suc, ◌<◌, ◌≤◌, true, Option, Some, None, List, [], ◌∷◌, ◌++◌, length, refl, sym, ◌∙◌, ap, subst}
+use Rattle.std.proofs.Common.{◌≡◌, ℕ, suc, ◌<◌, true, Option, Some, None, List, [], ◌∷◌, ◌++◌, length, refl, sym, ◌∙◌, ap, subst}
 use Rattle.std.proofs.Common.{arith, inl, inr}
 use Rattle.std.specs.Prelude.{slice_get, take}
 use Rattle.std.specs.List.{list_any}
@@ -19,20 +19,19 @@ use Rattle.fx_model.specs.Run.{events, shown}
 use Rattle.fx_model.specs.Outside.{outcome_at}
 use Rattle.fx_model.specs.Report.{capacity_of, is_request_for}
 use Rattle.fx_model.specs.Causes.{values_got, taking_of, TakesWhatWasPut, LearnsOfEnd, Needs, taken_element, end_of_other, start}
-use Rattle.fx_model.proofs.Runs.{events_append}
 use Rattle.fx_model.proofs.OutcomeLaws.{no_step_after_end}
 use Rattle.fx_model.proofs.ShownLabels.{shown_length, shown_append, one_shown, shown_holds}
 use Rattle.fx_model.proofs.EventLabels.{start_label, seen_label, learnt_label}
 use Rattle.fx_model.proofs.StepLabels.{IsProper, step_tells}
 use Rattle.fx_model.proofs.Takes.{takes_counted, taken_before, fewer_before, taken_was_put}
 use Rattle.fx_model.proofs.OneOrder.{GrowsAt, Stands, stood, comes, stood_within, stands, take_stays, old_or_new, HasOrder, StoodBefore, both, cause}
-use Rattle.fx_model.proofs.OneOrder.{IsRequestedIn, SeenAfter, seen, sees, order_grows}
+use Rattle.fx_model.proofs.OneOrder.{IsRequestedIn, SeenAfter, seen, sees, order_grows, grown_moments}
 use Rattle.fx_plain.specs.WholeMachine.{StartedFiber, WholeMachine, opening, IsAnswered, moved}
 use Rattle.fx_plain.proofs.Moments.{moment_after, moment_now, moment_kept}
 use Rattle.fx_plain.proofs.WholeMachineSteps.{still_itself}
 use Rattle.fx_plain.proofs.RangesKept.{HasRanges, opened_at, fresh, child_is_another}
 use Rattle.fx_plain.proofs.FamilyKept.{labels_of_fiber, labels_of}
-use Rattle.fx_plain.proofs.HistoriesKept.{HasHistories, labels_of_other}
+use Rattle.fx_plain.proofs.HistoriesKept.{HasHistories, labels_of_other, events_grow}
 use Rattle.fx_plain.proofs.RunsKept.{IsSo, AreSo, HasRequests}
 
 abbrev pub trace_of : WholeMachine → ℕ → List Event
@@ -110,24 +109,17 @@ module _ (s : ScriptView) (m : WholeMachine) (f : ℕ) (x : StartedFiber) (d : C
   other_labels : (g : ℕ) → (g ≡ f → ⊥) → labels_of after g ≡ labels_of m g
   other_labels g ne = labels_of_other s m f x d p at ranges h l st g ne
 
-  one_event : length (events (l ∷ [])) ≤ 1
-  one_event = let few = one_shown l in let same = shown_length (l ∷ []) in omega arith
+  pub traces_grow : GrowsAt (trace_of m) (trace_of after) f (events (l ∷ []))
+  traces_grow = events_grow s m f x d p at ranges h l st
 
-  traces_grow : GrowsAt (trace_of m) (trace_of after) f (events (l ∷ []))
-  traces_grow = record {
-    few = one_event;
-    own = ap events labels_of_itself ∙ events_append (labels_of m f) (l ∷ []);
-    other = λ g ne. ap events (other_labels g ne);
-  }
-
-  labels_grow : GrowsAt (λ g. shown (labels_of m g)) (λ g. shown (labels_of after g)) f (shown (l ∷ []))
+  pub labels_grow : GrowsAt (λ g. shown (labels_of m g)) (λ g. shown (labels_of after g)) f (shown (l ∷ []))
   labels_grow = record {
     few = one_shown l;
     own = ap shown labels_of_itself ∙ shown_append (labels_of m f) (l ∷ []);
     other = λ g ne. ap shown (other_labels g ne);
   }
 
-  proper : IsProper l
+  pub proper : IsProper l
   proper = (step_tells st).proper
 
   stand : (g i : ℕ) (e : Event) → slice_get (trace_of after g) i ≡ Some e → Stands (trace_of m) f (events (l ∷ [])) g i e
@@ -209,7 +201,7 @@ module _ (s : ScriptView) (m : WholeMachine) (f : ℕ) (x : StartedFiber) (d : C
             absurd (let no : event.Got t.queue t.value ∷ [] ≡ event.Put t.queue t.value ∷ [] = sym is ∙ is' in cc)
 
     -- who is learnt of has ended, and makes no step
-    ended_before : (a i b : ℕ) (o : Outcome) (e : Event) → slice_get (shown (labels_of m a)) i ≡ Some (Learns b o e) → b ≡ f → ⊥
+    pub ended_before : (a i b : ℕ) (o : Outcome) (e : Event) → slice_get (shown (labels_of m a)) i ≡ Some (Learns b o e) → b ≡ f → ⊥
     ended_before a i b o e is same = by_fiber (m.fibers a) refl
       where
         by_fiber : (z : Option StartedFiber) → m.fibers a ≡ z → ⊥
@@ -301,6 +293,15 @@ module _ (s : ScriptView) (m : WholeMachine) (f : ℕ) (x : StartedFiber) (d : C
       pub order_kept : IsInOrder s m h → IsInOrder s after h'
       order_kept o =
           order_grows (trace_of m) (trace_of after) h.history h'.history (labels_of m) (labels_of after) (AreLeft h) (AreLeft h') (AreFromOutside m)
+          (AreFromOutside after) f (events (l ∷ [])) traces_grow grows o (moment_after f (length (trace_of m f)) (length o.list) o.moment)
+          (λ g i lt. moment_kept (trace_of m) f (length o.list) o.moment g i lt) (moment_now f (length (trace_of m f)) (length o.list) o.moment) causes_before
+          seen_after
+
+      -- of which the last one has the moment that comes after all
+      pub order_has_moments : (o : IsInOrder s m h) → (order_kept o).moment ≡ moment_after f (length (trace_of m f)) (length o.list) o.moment
+      unfolding order_kept
+      order_has_moments o =
+          grown_moments (trace_of m) (trace_of after) h.history h'.history (labels_of m) (labels_of after) (AreLeft h) (AreLeft h') (AreFromOutside m)
           (AreFromOutside after) f (events (l ∷ [])) traces_grow grows o (moment_after f (length (trace_of m f)) (length o.list) o.moment)
           (λ g i lt. moment_kept (trace_of m) f (length o.list) o.moment g i lt) (moment_now f (length (trace_of m f)) (length o.list) o.moment) causes_before
           seen_after

@@ -6,13 +6,17 @@ use Rattle.fx_model.specs.Report.{ReportView}
 use Rattle.fx_model.specs.LawfulReport.{IsLawfulReport}
 use Rattle.fx_model.specs.Happenings.{IsLawfulInOneList}
 use Rattle.fx_model.specs.Headline.{KeepsWhatIsPromised}
+use Rattle.fx_model.specs.Stamps.{IsLawfulWithStamps}
 use Rattle.fx_text.specs.declared.pick.Pick.{Pick}
 use Rattle.fx_plain.specs.WholeMachine.{WholeMachine, Move, IsSettled, WholeMachineLeads}
 use Rattle.fx_plain.specs.SettledRun.{HasSettledRun}
+use Rattle.fx_model.specs.ReportStamps.{stamp_in, IsStampedReport}
+use Rattle.fx_plain.specs.StampedList.{IsStampedInOneList}
 use Rattle.fx_plain.specs.Chosen.{IsChosen, IsReplay}
 use Rattle.fx_plain.specs.Chosen as chosen
 use Rattle.fx_plain.proofs.LawfulRuns.{settled_is_lawful, settled_keeps_promises}
 use Rattle.fx_plain.proofs.RunOrder.{settled_is_in_order}
+use Rattle.fx_plain.proofs.MachineStampsRuns.{settled_is_stamped, settled_is_lawful_with_stamps}
 
 pub chosen_leads : (s : ScriptView) {ps : List Pick} {m last : WholeMachine} {vs : List Move} → IsChosen s ps m vs last → WholeMachineLeads s m vs last
 chosen_leads s (chosen.step {m' = m'} c rest) = (m', c.steps, chosen_leads s rest)
@@ -43,3 +47,12 @@ replay_keeps_promises s ps r core h = settled_keeps_promises s r core (replay_se
 
 pub replay_is_in_order : (s : ScriptView) (ps : List Pick) (r : ReportView) → IsReplay s ps r → IsLawfulInOneList s (λ f. true) r
 replay_is_in_order s ps r h = settled_is_in_order s r (replay_settles s ps r h)
+
+pub replay_is_stamped : (s : ScriptView) (ps : List Pick) (r : ReportView) → IsReplay s ps r → IsStampedInOneList s (λ f. true) r
+replay_is_stamped s ps r h = settled_is_stamped s r (replay_settles s ps r h)
+
+pub replay_is_lawful_with_stamps : (s : ScriptView) (ps : List Pick) (r : ReportView) → IsReplay s ps r → IsLawfulWithStamps s (λ f. true) r (stamp_in r)
+replay_is_lawful_with_stamps s ps r h = settled_is_lawful_with_stamps s r (replay_settles s ps r h)
+
+pub replay_is_stamped_report : (s : ScriptView) (ps : List Pick) (r : ReportView) → IsReplay s ps r → IsStampedReport s (λ f. true) r
+replay_is_stamped_report s ps r h = record { one_each = (replay_is_stamped s ps r h).one_each; stamped = replay_is_lawful_with_stamps s ps r h }

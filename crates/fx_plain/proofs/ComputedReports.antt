@@ -39,51 +39,54 @@ rises x (y ∷ ys) from h (suc k) lt = let e : suc k + 1 ≡ suc (k + 1) = omega
 
 module _ (m : WholeMachine) where
   abbrev fibers_from : ℕ → ℕ → List FiberReportView
-  fibers_from a n = filter_map (λ f. report_of_fiber f (m.fibers f)) (range_with_len a n)
+  fibers_from a n = filter_map (λ f. report_of_fiber f (m.stamps.trace f) (m.fibers f)) (range_with_len a n)
 
   abbrev ids : List FiberReportView → List ℕ
   ids xs = map (λ (x : FiberReportView). x.id) xs
 
-  one_more : (a : ℕ) (xs : List FiberReportView) (o : Option StartedFiber) → IsStrictlyIncreasing (ids xs) → StartsFrom (suc a) (ids xs)
-      → IsStrictlyIncreasing (ids (cons_option (report_of_fiber a o) xs)) × StartsFrom a (ids (cons_option (report_of_fiber a o) xs))
-  one_more a xs None h from = (h, starts_lower a (suc a) (ids xs) (omega arith) from)
-  one_more a xs (Some x) h from = (rises a (ids xs) from h, let p : a ≤ a = omega arith in p)
+  one_more : (a : ℕ) (ss : List ℕ) (xs : List FiberReportView) (o : Option StartedFiber) → IsStrictlyIncreasing (ids xs) → StartsFrom (suc a) (ids xs)
+      → IsStrictlyIncreasing (ids (cons_option (report_of_fiber a ss o) xs)) × StartsFrom a (ids (cons_option (report_of_fiber a ss o) xs))
+  one_more a ss xs None h from = (h, starts_lower a (suc a) (ids xs) (omega arith) from)
+  one_more a ss xs (Some x) h from = (rises a (ids xs) from h, let p : a ≤ a = omega arith in p)
 
   fibers_rise : (a n : ℕ) → IsStrictlyIncreasing (ids (fibers_from a n)) × StartsFrom a (ids (fibers_from a n))
   fibers_rise a zero = ((λ k lt. absurd (omega arith)), tt)
   fibers_rise a (suc n) =
       let h = fibers_rise (a + 1) n in
       let e : a + 1 ≡ suc a = omega arith in
-      one_more a (fibers_from (a + 1) n) (m.fibers a) h.0 (subst (λ (k : ℕ). StartsFrom k (ids (fibers_from (a + 1) n))) e h.1)
+      one_more a (m.stamps.trace a) (fibers_from (a + 1) n) (m.fibers a) h.0 (subst (λ (k : ℕ). StartsFrom k (ids (fibers_from (a + 1) n))) e h.1)
 
   abbrev found : ℕ → List FiberReportView → Option FiberReportView
   found f xs = find (λ (x : FiberReportView). x.id == f) xs
 
-  found_here : (f : ℕ) (xs : List FiberReportView) (o : Option StartedFiber) → found f xs ≡ None
-      → found f (cons_option (report_of_fiber f o) xs) ≡ report_of_fiber f o
-  found_here f xs None e = e
-  found_here f xs (Some x) e = rw (eq-eqb f f refl) refl
+  found_here : (f : ℕ) (ss : List ℕ) (xs : List FiberReportView) (o : Option StartedFiber) → found f xs ≡ None
+      → found f (cons_option (report_of_fiber f ss o) xs) ≡ report_of_fiber f ss o
+  found_here f ss xs None e = e
+  found_here f ss xs (Some x) e = rw (eq-eqb f f refl) refl
 
-  found_later : (f a : ℕ) (xs : List FiberReportView) (o : Option StartedFiber) → (a ≡ f → ⊥) → found f (cons_option (report_of_fiber a o) xs) ≡ found f xs
-  found_later f a xs None ne = refl
-  found_later f a xs (Some x) ne = rw (ne_eqb a f ne) refl
+  found_later : (f a : ℕ) (ss : List ℕ) (xs : List FiberReportView) (o : Option StartedFiber) → (a ≡ f → ⊥)
+      → found f (cons_option (report_of_fiber a ss o) xs) ≡ found f xs
+  found_later f a ss xs None ne = refl
+  found_later f a ss xs (Some x) ne = rw (ne_eqb a f ne) refl
 
   none_before : (f a n : ℕ) → f < a → found f (fibers_from a n) ≡ None
   none_before f a zero lt = refl
-  none_before f a (suc n) lt = found_later f a (fibers_from (a + 1) n) (m.fibers a) (λ e. omega arith) ∙ none_before f (a + 1) n (omega arith)
+  none_before f a (suc n) lt =
+      found_later f a (m.stamps.trace a) (fibers_from (a + 1) n) (m.fibers a) (λ e. omega arith) ∙ none_before f (a + 1) n (omega arith)
 
-  found_within : (f a n : ℕ) → a ≤ f → f < a + n → found f (fibers_from a n) ≡ report_of_fiber f (m.fibers f)
+  found_within : (f a n : ℕ) → a ≤ f → f < a + n → found f (fibers_from a n) ≡ report_of_fiber f (m.stamps.trace f) (m.fibers f)
   found_within f a zero le lt = absurd (omega arith)
   found_within f a (suc n) le lt = elim (cases_eq a f) [
     | inl e ↦
-        subst (λ (b : ℕ). found f (cons_option (report_of_fiber b (m.fibers b)) (fibers_from (b + 1) n)) ≡ report_of_fiber f (m.fibers f)) (sym e)
-        (found_here f (fibers_from (f + 1) n) (m.fibers f) (none_before f (f + 1) n (omega arith)))
-    | inr ne ↦ found_later f a (fibers_from (a + 1) n) (m.fibers a) ne ∙ found_within f (a + 1) n (omega arith) (omega arith)
+        subst (λ (b : ℕ). found f (cons_option (report_of_fiber b (m.stamps.trace b) (m.fibers b)) (fibers_from (b + 1) n))
+        ≡ report_of_fiber f (m.stamps.trace f) (m.fibers f)) (sym e)
+        (found_here f (m.stamps.trace f) (fibers_from (f + 1) n) (m.fibers f) (none_before f (f + 1) n (omega arith)))
+    | inr ne ↦ found_later f a (m.stamps.trace a) (fibers_from (a + 1) n) (m.fibers a) ne ∙ found_within f (a + 1) n (omega arith) (omega arith)
   ]
 
   none_after : (f a n : ℕ) → a + n ≤ f → found f (fibers_from a n) ≡ None
   none_after f a zero le = refl
-  none_after f a (suc n) le = found_later f a (fibers_from (a + 1) n) (m.fibers a) (λ e. omega arith) ∙ none_after f (a + 1) n (omega arith)
+  none_after f a (suc n) le = found_later f a (m.stamps.trace a) (fibers_from (a + 1) n) (m.fibers a) (λ e. omega arith) ∙ none_after f (a + 1) n (omega arith)
 
 -- those of a range that pass a test
 abbrev passing : (ℕ → Bool) → ℕ → ℕ → List ℕ
@@ -162,8 +165,8 @@ report_is_report s m k = record {
   in_time = refl;
 }
   where
-    by_fiber : (f : ℕ) → total s ≤ f → (o : Option StartedFiber) → m.fibers f ≡ o → None ≡ report_of_fiber f (m.fibers f)
-    by_fiber f le None is = sym (ap (report_of_fiber f) is)
+    by_fiber : (f : ℕ) → total s ≤ f → (o : Option StartedFiber) → m.fibers f ≡ o → None ≡ report_of_fiber f (m.stamps.trace f) (m.fibers f)
+    by_fiber f le None is = sym (ap (report_of_fiber f (m.stamps.trace f)) is)
     by_fiber f le (Some x) is = absurd (let lt = k.ranges.started_below f x is in omega arith)
 
     beyond : (q : ℕ) → length s.capacities ≤ q → (k.histories.state q).items ≡ []

@@ -19,7 +19,7 @@ use Rattle.fx_model.specs.Step.{Progress, Runs, Unwinds, CleansUp, HasEnded, lea
 use Rattle.fx_model.specs.Step as step
 use Rattle.fx_text.specs.declared.pick.Pick.{Pick}
 use Rattle.fx_text.specs.declared.pick.Pick.TheVariants as pick
-use Rattle.fx_term.specs.declared.item.Item.{Item}
+use Rattle.fx_term.specs.Element.{Element}
 use Rattle.fx_term.specs.Script.{ScriptView, total}
 use Rattle.fx_plain.specs.WholeMachine.{StartedFiber, WholeMachine, Move, Steps, Requests, outcome_of, outside_of, has_room, front, can_step_fiber, can_step_in}
 use Rattle.fx_plain.specs.WholeMachine.{IsAnswered, requested_from_outside}
@@ -38,7 +38,7 @@ done_is : (t : Term) (v : Done) → done_of t ≡ Some v → t ≡ Finished v
 done_is (Finished u) v e = ap Finished (same_Some u v e)
 done_is _ v e = absurd cc
 
-no_front : (xs : List Item) → front xs ≡ None → xs ≡ []
+no_front : (xs : List Element) → front xs ≡ None → xs ≡ []
 no_front [] e = refl
 no_front (x ∷ xs) e = absurd cc
 

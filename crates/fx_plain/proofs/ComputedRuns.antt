@@ -63,7 +63,7 @@ replayed s n (pick.Cancel f ∷ ps) m =
 -- the report of a whole machine
 abbrev pub report : ScriptView → WholeMachine → ReportView
 report s m = record {
-  fibers = filter_map (λ f. report_of_fiber f (m.fibers f)) (range_with_len 0 (total s));
+  fibers = filter_map (λ f. report_of_fiber f (m.stamps.trace f) (m.fibers f)) (range_with_len 0 (total s));
   left = map m.queues (range_with_len 0 (length s.capacities));
   outside = filter m.from_outside (range_with_len 0 (total s));
   late = 0;

@@ -1,6 +1,7 @@
 -- Each queue of a whole machine is the rest of a legal history, whose cut to each fiber is what its labels do there.
 use Rattle.std.specs.Prelude.{if◌then◌else◌}
-use Rattle.std.proofs.Common.{◌≡◌, ℕ, Bool, true, false, Option, Some, None, List, [], ◌∷◌, ◌++◌, length, drop, refl, sym, ◌∙◌, ap, subst, inl, inr, append-nil}
+use Rattle.std.proofs.Common.{◌≡◌, ℕ, Bool, true, false, Option, Some, None, List, [], ◌∷◌, ◌++◌, length, drop, refl, sym, ◌∙◌, ap}
+use Rattle.std.proofs.Common.{subst, inl, inr, append-nil, arith}
 use Rattle.std.specs.Prelude.{◌==◌, nat_lt}
 use Rattle.std.specs.List.{cons_option}
 use Rattle.std.proofs.lemmas.Bool.{cases_eq, eq-eqb, ne_eqb}
@@ -12,7 +13,7 @@ use Rattle.fx_model.specs.Row.{Counts, Label, Silent, Shows, Learns, Starts}
 use Rattle.fx_model.specs.Step.{Progress, Step}
 use Rattle.fx_model.specs.Run.{events}
 use Rattle.fx_model.proofs.Runs.{events_append}
-use Rattle.fx_term.specs.declared.item.Item.{Item}
+use Rattle.fx_term.specs.Element.{Element}
 use Rattle.fx_term.specs.declared.queue_event.QueueEvent.{QueueEvent}
 use Rattle.fx_term.specs.declared.queue_event.QueueEvent.TheVariants.{Put, Got}
 use Rattle.fx_term.specs.Queue.{fiber_of, cut, QueueState, empty_queue, items_of, with_put, after_got, replayed_from, replayed, queue_event, queue_events}
@@ -23,6 +24,8 @@ use Rattle.fx_plain.specs.WholeMachine.{StartedFiber, WholeMachine, opening, fro
 use Rattle.fx_term.proofs.MapLaws.{at_that, at_other}
 use Rattle.fx_plain.proofs.Maps.{same_number}
 use Rattle.fx_model.proofs.StepLabels.{IsProper, step_tells}
+use Rattle.fx_model.proofs.ShownLabels.{shown_length, one_shown}
+use Rattle.fx_model.proofs.OneOrder.{GrowsAt}
 use Rattle.fx_term.proofs.QueueLaws.{replayed_append, length-numbered, elements_are_offers}
 use Rattle.fx_plain.proofs.WholeMachineSteps.{still_itself, still_other, still_none, child_is_there}
 use Rattle.fx_plain.proofs.RangesKept.{HasRanges, fresh, child_is_another}
@@ -35,16 +38,19 @@ pub record HasHistories (s : ScriptView) (m : WholeMachine) : Type 0 where
   pub items : (q : ℕ) → (state q).items ≡ m.queues q
   pub cuts : (q f : ℕ) → cut f (history q) ≡ queue_events q f (events (labels_of m f))
 
+pub opening_has_no_labels : (s : ScriptView) (f : ℕ) → labels_of (opening s) f ≡ []
+opening_has_no_labels s f = elim (cases_eq f 0) [
+  | inl e ↦ ap labels_of_fiber (at_that 0 _ (λ g. None) f e)
+  | inr ne ↦ ap labels_of_fiber (at_other 0 _ (λ g. None) f ne)
+]
+
 pub opening_has_histories : (s : ScriptView) → HasHistories s (opening s)
 opening_has_histories s = record {
   history = λ q. [];
   state = λ q. empty_queue;
   legal = λ q. refl;
   items = λ q. refl;
-  cuts = λ q f. elim (cases_eq f 0) [
-    | inl e ↦ sym (ap (λ (o : Option StartedFiber). queue_events q f (events (labels_of_fiber o))) (at_that 0 _ (λ g. None) f e))
-    | inr ne ↦ sym (ap (λ (o : Option StartedFiber). queue_events q f (events (labels_of_fiber o))) (at_other 0 _ (λ g. None) f ne))
-  ];
+  cuts = λ q f. sym (ap (λ (ls : List Label). queue_events q f (events ls)) (opening_has_no_labels s f));
 }
 
 -- nothing has happened at the opening
@@ -83,27 +89,45 @@ cut_other q f g (event.Put r n ∷ es) ne = other_put f g n (r == q) (queue_even
 cut_other q f g (event.Got r n ∷ es) ne = other_get f g n (r == q) (queue_events q f es) ne (cut_other q f g es ne)
 cut_other q f g (_ ∷ es) ne = cut_other q f g es ne
 
+-- the cuts of a history that goes on as the traces do
+pub cuts_grow : (q : ℕ) (history : List QueueEvent) (before after : ℕ → List Event) (f : ℕ) (more : List Event) → GrowsAt before after f more
+    → ((g : ℕ) → cut g history ≡ queue_events q g (before g)) → (g : ℕ) → cut g (history ++ queue_events q f more) ≡ queue_events q g (after g)
+cuts_grow q history before after f more grows cuts g =
+    filter-append (λ e. fiber_of e == g) history (queue_events q f more) ∙ elim (cases_eq g f) [
+      | inl same ↦ subst (λ (k : ℕ). cut k history ++ cut k (queue_events q f more) ≡ queue_events q k (after k)) (sym same) itself
+      | inr ne ↦
+          ap (λ (ys : List QueueEvent). cut g history ++ ys) (cut_other q f g more (λ e. ne (sym e)))
+          ∙ append-nil (cut g history) ∙ cuts g ∙ ap (queue_events q g) (sym (grows.other g ne))
+    ]
+  where
+    itself : cut f history ++ cut f (queue_events q f more) ≡ queue_events q f (after f)
+    itself =
+        ap (λ (ys : List QueueEvent). cut f history ++ ys) (cut_own q f more)
+        ∙ ap (λ (ys : List QueueEvent). ys ++ queue_events q f more) (cuts f)
+        ∙ sym (filter_map-append (queue_event q f) (before f) more)
+        ∙ ap (queue_events q f) (sym grows.own)
+
 -- a queue after the events of one step
-record Goes (capacity : ℕ) (st : QueueState) (more : List QueueEvent) (items : List Item) : Type 0 where
+record Goes (capacity : ℕ) (st : QueueState) (more : List QueueEvent) (items : List Element) : Type 0 where
   pub next : QueueState
   pub legal : replayed_from capacity (Some st) more ≡ Some next
   pub items_are : next.items ≡ items
 
-stays : (capacity : ℕ) (st : QueueState) (items : List Item) → st.items ≡ items → Goes capacity st [] items
+stays : (capacity : ℕ) (st : QueueState) (items : List Element) → st.items ≡ items → Goes capacity st [] items
 stays capacity st items e = record { next = st; legal = refl; items_are = e }
 
 -- a put that finds room
-puts : (capacity f n : ℕ) (st : QueueState) (items : List Item) (nth : ℕ) → st.items ≡ items → length (items_of f st.put) ≡ nth
+puts : (capacity f n : ℕ) (st : QueueState) (items : List Element) (nth : ℕ) → st.items ≡ items → length (items_of f st.put) ≡ nth
     → nat_lt (length items) capacity ≡ true
     → Goes capacity st (Put f n ∷ []) (items ++ record { fiber = f; nth = nth; value = n } ∷ [])
 puts capacity f n st items nth e count room = record {
   next = with_put st (record { fiber = f; nth = length (items_of f st.put); value = n });
-  legal = rw (ap (λ (xs : List Item). nat_lt (length xs) capacity) e, room) refl;
+  legal = rw (ap (λ (xs : List Element). nat_lt (length xs) capacity) e, room) refl;
   items_are = rw (e, count) refl;
 }
 
 -- a get that finds a front
-gets : (capacity f n : ℕ) (st : QueueState) (items : List Item) → st.items ≡ items → front items ≡ Some n → Goes capacity st (Got f n ∷ []) (drop 1 items)
+gets : (capacity f n : ℕ) (st : QueueState) (items : List Element) → st.items ≡ items → front items ≡ Some n → Goes capacity st (Got f n ∷ []) (drop 1 items)
 gets capacity f n st [] e is = absurd (none-some n is)
 gets capacity f n st (x ∷ rest) e is =
     let same : x.value ≡ n = same_Some x.value n is in
@@ -172,23 +196,15 @@ module _ (s : ScriptView) (m : WholeMachine) (f : ℕ) (x : StartedFiber) (d : C
         by_fiber None e = free l st e ∙ sym (ap labels_of_fiber e)
         by_fiber (Some y) e = ap labels_of_fiber (still_other m f x d p l g y ne (fresh s m f x d p at ranges l st) e) ∙ sym (ap labels_of_fiber e)
 
-    cuts_kept : (q g : ℕ) → cut g (h.history q ++ queue_events q f (events (l ∷ []))) ≡ queue_events q g (events (labels_of (moved m f x l d p) g))
-    cuts_kept q g = filter-append (λ e. fiber_of e == g) (h.history q) (queue_events q f (events (l ∷ []))) ∙ elim (cases_eq g f) [
-      | inl same ↦ subst (λ (k : ℕ). cut k (h.history q) ++ cut k (queue_events q f (events (l ∷ []))) ≡ queue_events q k
-          (events (labels_of (moved m f x l d p) k))) (sym same) itself
-      | inr ne ↦
-          ap (λ (ys : List QueueEvent). cut g (h.history q) ++ ys) (cut_other q f g (events (l ∷ [])) (λ e. ne (sym e)))
-          ∙ append-nil (cut g (h.history q)) ∙ h.cuts q g ∙ ap (λ (ls : List Label). queue_events q g (events ls)) (sym (labels_of_other g ne))
-    ]
-      where
-        itself : cut f (h.history q) ++ cut f (queue_events q f (events (l ∷ []))) ≡ queue_events q f (events (labels_of (moved m f x l d p) f))
-        itself =
-            ap (λ (ys : List QueueEvent). cut f (h.history q) ++ ys) (cut_own q f (events (l ∷ [])))
-            ∙ ap (λ (ys : List QueueEvent). ys ++ queue_events q f (events (l ∷ [])))
-            (h.cuts q f ∙ ap (λ (o : Option StartedFiber). queue_events q f (events (labels_of_fiber o))) at)
-            ∙ sym (filter_map-append (queue_event q f) (events x.labels) (events (l ∷ [])))
-            ∙ ap (queue_events q f) (sym (events_append x.labels (l ∷ [])))
-            ∙ sym (ap (λ (o : Option StartedFiber). queue_events q f (events (labels_of_fiber o))) (still_itself m f x d p l))
+    -- the events of the fiber go on by what the step shows
+    pub events_grow : GrowsAt (λ g. events (labels_of m g)) (λ g. events (labels_of (moved m f x l d p) g)) f (events (l ∷ []))
+    events_grow = record {
+      few = (let few = one_shown l in let same = shown_length (l ∷ []) in omega arith);
+      own =
+          ap (λ (o : Option StartedFiber). events (labels_of_fiber o)) (still_itself m f x d p l) ∙ events_append x.labels (l ∷ [])
+          ∙ sym (ap (λ (o : Option StartedFiber). events (labels_of_fiber o) ++ events (l ∷ [])) at);
+      other = λ g ne. ap events (labels_of_other g ne);
+    }
 
     pub histories_kept : IsAnswered s m f l → HasHistories s (moved m f x l d p)
     histories_kept a = record {
@@ -199,7 +215,9 @@ module _ (s : ScriptView) (m : WholeMachine) (f : ℕ) (x : StartedFiber) (d : C
           ∙ ap (λ (t : Option QueueState). replayed_from (capacity_of s q) t (queue_events q f (events (l ∷ [])))) (h.legal q)
           ∙ (goes_on q l (step_tells st).proper a).legal;
       items = λ q. (goes_on q l (step_tells st).proper a).items_are;
-      cuts = cuts_kept;
+      cuts =
+          λ q. cuts_grow q (h.history q) (λ g. events (labels_of m g)) (λ g. events (labels_of (moved m f x l d p) g)) f (events (l ∷ [])) events_grow
+          (h.cuts q);
     }
 
     -- each history grows by what the step did to its queue

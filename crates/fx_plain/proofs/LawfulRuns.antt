@@ -14,7 +14,7 @@ use Rattle.fx_model.specs.Origin.{Origin}
 use Rattle.fx_model.specs.Step.{Progress, HasEnded, has_ended}
 use Rattle.fx_model.specs.Run.{events, first_counts}
 use Rattle.fx_model.specs.Origin.{main_origin}
-use Rattle.fx_term.specs.declared.item.Item.{Item}
+use Rattle.fx_term.specs.Element.{Element}
 use Rattle.fx_term.specs.Queue.{queue_events}
 use Rattle.fx_model.specs.Outside.{outcome_at, Outside, can_step}
 use Rattle.fx_term.specs.Forms.{IsCore}
@@ -105,31 +105,33 @@ id x = x.id
 abbrev asks_for : ℕ → FiberReportView → Bool
 asks_for f x = list_any (is_request_for f) x.trace
 
-abbrev fiber_report : ℕ → StartedFiber → FiberReportView
-fiber_report f y = record { id = f; parent = y.parent; has_ended = has_ended y.progress; trace = events y.labels }
+abbrev fiber_report : ℕ → List ℕ → StartedFiber → FiberReportView
+fiber_report f stamps y = record { id = f; parent = y.parent; has_ended = has_ended y.progress; trace = events y.labels; stamps = stamps }
 
 module _ (s : ScriptView) (m : WholeMachine) (r : ReportView) (rep : IsReportOf s m r) (kept : IsKept s m) where
   -- a fiber of the report is one of the whole machine
   record Of (f : ℕ) (x : FiberReportView) : Type 0 where
     pub fiber : StartedFiber
     pub at : m.fibers f ≡ Some fiber
-    pub is : x ≡ fiber_report f fiber
+    pub is : x ≡ fiber_report f (m.stamps.trace f) fiber
 
   of_machine : (f : ℕ) (x : FiberReportView) → fiber_in r f ≡ Some x → Of f x
   of_machine f x e = by_fiber (m.fibers f) refl
     where
       by_fiber : (o : Option StartedFiber) → m.fibers f ≡ o → Of f x
-      by_fiber None is = absurd (none-some x (sym (ap (report_of_fiber f) is) ∙ sym (rep.fibers f) ∙ e))
-      by_fiber (Some y) is = record { fiber = y; at = is; is = same_Some x (fiber_report f y) (sym e ∙ rep.fibers f ∙ ap (report_of_fiber f) is) }
+      by_fiber None is = absurd (none-some x (sym (ap (report_of_fiber f (m.stamps.trace f)) is) ∙ sym (rep.fibers f) ∙ e))
+      by_fiber (Some y) is =
+          let told = rep.fibers f ∙ ap (report_of_fiber f (m.stamps.trace f)) is in
+          record { fiber = y; at = is; is = same_Some x (fiber_report f (m.stamps.trace f) y) (sym e ∙ told) }
 
-  in_report : (f : ℕ) (y : StartedFiber) → m.fibers f ≡ Some y → fiber_in r f ≡ Some (fiber_report f y)
-  in_report f y e = rep.fibers f ∙ ap (report_of_fiber f) e
+  in_report : (f : ℕ) (y : StartedFiber) → m.fibers f ≡ Some y → fiber_in r f ≡ Some (fiber_report f (m.stamps.trace f) y)
+  in_report f y e = rep.fibers f ∙ ap (report_of_fiber f (m.stamps.trace f)) e
 
-  parent_of_told : (f : ℕ) (o : Option StartedFiber) → parent_of_report (report_of_fiber f o) ≡ parent_of_fiber o
+  parent_of_told : (f : ℕ) (o : Option StartedFiber) → parent_of_report (report_of_fiber f (m.stamps.trace f) o) ≡ parent_of_fiber o
   parent_of_told f None = refl
   parent_of_told f (Some y) = refl
 
-  trace_of_told : (f : ℕ) (o : Option StartedFiber) → trace_of_report (report_of_fiber f o) ≡ events (labels_of_fiber o)
+  trace_of_told : (f : ℕ) (o : Option StartedFiber) → trace_of_report (report_of_fiber f (m.stamps.trace f) o) ≡ events (labels_of_fiber o)
   trace_of_told f None = refl
   trace_of_told f (Some y) = refl
 
@@ -142,11 +144,11 @@ module _ (s : ScriptView) (m : WholeMachine) (r : ReportView) (rep : IsReportOf 
   starters_told : HasStarters r
   starters_told = record {
     ascending = rep.ascending;
-    main = (fiber_report 0 kept.family.main.0, in_report 0 kept.family.main.0 kept.family.main.1, kept.family.main.2);
+    main = (fiber_report 0 (m.stamps.trace 0) kept.family.main.0, in_report 0 kept.family.main.0 kept.family.main.1, kept.family.main.2);
     others = λ f x e ne.
         (let o = of_machine f x e in
         let h = kept.family.others f o.fiber o.at ne in
-        (h.0, fiber_report h.0 h.1, ap (λ (z : FiberReportView). z.parent) o.is ∙ h.2, in_report h.0 h.1 h.3));
+        (h.0, fiber_report h.0 (m.stamps.trace h.0) h.1, ap (λ (z : FiberReportView). z.parent) o.is ∙ h.2, in_report h.0 h.1 h.3));
     once = λ g y e f.
         (let o = of_machine g y e in
         ap (λ (z : FiberReportView). starts_of f z.trace) o.is ∙ kept.family.once g o.fiber o.at f
@@ -185,14 +187,14 @@ module _ (s : ScriptView) (m : WholeMachine) (r : ReportView) (rep : IsReportOf 
       back : m.requested f ≡ true → is_requested_in r f ≡ true
       back e = elim (kept.requests.asked f e) [
         | inl out ↦ or_right _ _ (rep.outside f ∙ out)
-        | inr a ↦ or_left _ _ (found_passes id a.number (asks_for f) r.fibers (fiber_report a.number a.fiber)
+        | inr a ↦ or_left _ _ (found_passes id a.number (asks_for f) r.fibers (fiber_report a.number (m.stamps.trace a.number) a.fiber)
             (in_report a.number a.fiber a.at) a.asks)
       ]
 
   outside_same : final_outside s r ≡ outside_of s m
   outside_same =
-      by_parts (fun_ext outcome_of_told) (fun_ext (λ q. ap (λ (xs : List Item). nat_lt (length xs) (slice_index s.capacities q)) (rep.left q)))
-      (fun_ext (λ q. ap (λ (xs : List Item). nat_lt 0 (length xs)) (rep.left q))) (fun_ext requested_told)
+      by_parts (fun_ext outcome_of_told) (fun_ext (λ q. ap (λ (xs : List Element). nat_lt (length xs) (slice_index s.capacities q)) (rep.left q)))
+      (fun_ext (λ q. ap (λ (xs : List Element). nat_lt 0 (length xs)) (rep.left q))) (fun_ext requested_told)
     where
       by_parts : {a a' : ℕ → Option Outcome} {b b' c c' d d' : ℕ → Bool} → a ≡ a' → b ≡ b' → c ≡ c' → d ≡ d'
           → ◌≡◌ {A = Outside} (record { outcome = a; has_room = b; has_element = c; is_requested = d })

@@ -9,6 +9,10 @@ pub mod RunLaws
 pub mod Moments
 pub mod CausesKept
 pub mod RunOrder
+pub mod MachineStampsGrow
+pub mod MachineStampsQueues
+pub mod MachineStampsKept
+pub mod MachineStampsRuns
 pub mod ChosenRuns
 pub mod StepsCan
 pub mod ComputedRuns
@@ -21,6 +25,7 @@ pub mod WholeMachineWork
 pub mod Capacities
 pub mod PutCounts
 pub mod WorldQueues
+pub mod WorldStamps
 pub mod Members
 pub mod Marks
 pub mod LeastMember

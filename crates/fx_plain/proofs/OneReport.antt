@@ -5,7 +5,7 @@ use Rattle.std.specs.Prelude.{◌==◌, if◌then◌else◌}
 use Rattle.std.specs.List.{find, list_any}
 use Rattle.std.specs.List.Sorted.{IsStrictlyIncreasing}
 use Rattle.std.proofs.lemmas.Bool.{cases_eq, eq-eqb, ne_eqb}
-use Rattle.fx_term.specs.declared.item.Item.{Item}
+use Rattle.fx_term.specs.Element.{Element}
 use Rattle.fx_term.specs.Script.{ScriptView}
 use Rattle.fx_model.specs.Report.{FiberReportView, ReportView}
 use Rattle.fx_text.specs.declared.pick.Pick.{Pick}
@@ -37,7 +37,7 @@ one_report s m r r' p p' = by_parts fibers left outside (p.in_time ∙ sym p'.in
         let same : list_any (λ g. g == f) r.outside ≡ list_any (λ g. g == f) r'.outside = p.outside f ∙ sym (p'.outside f) in
         found_number f r.outside ∙ ap (λ (b : Bool). if b then Some f else None) same ∙ sym (found_number f r'.outside))
 
-    same_parts : {a a' : List FiberReportView} {b b' : List (List Item)} {c c' : List ℕ} {d d' : ℕ} → a ≡ a' → b ≡ b' → c ≡ c' → d ≡ d'
+    same_parts : {a a' : List FiberReportView} {b b' : List (List Element)} {c c' : List ℕ} {d d' : ℕ} → a ≡ a' → b ≡ b' → c ≡ c' → d ≡ d'
         → ◌≡◌ {A = ReportView} (record { fibers = a; left = b; outside = c; late = d }) (record { fibers = a'; left = b'; outside = c'; late = d' })
     same_parts a b c d = cc
 

@@ -10,7 +10,8 @@ use Rattle.fx_term.specs.Script.{ScriptView, total}
 use Rattle.fx_text.specs.declared.pick.Pick.{Pick}
 use Rattle.fx_model.specs.Row.{Label, Silent, Shows}
 use Rattle.fx_model.specs.Step.{leaf_at}
-use Rattle.fx_fiber.specs.Fiber.{FiberView, progress}
+use Rattle.fx_fiber.specs.Fiber.{FiberView, clock, progress}
+use Rattle.fx_fiber.specs.StampedRun.{next_stamp}
 use Rattle.fx_fiber.specs.Bursts.{IsAlone, GoesAlone, Bursts}
 use Rattle.fx_fiber.specs.MakesStep.{MakesStep, Tells}
 use Rattle.fx_fiber.specs.declared.stepped.Stepped.TheVariants.{Went}
@@ -100,13 +101,13 @@ module _ {J : Type 0} (nodes : List Node) (s : ScriptView) (f : ℕ) where
         record { machine = on.1; on = goes come.on on.2 on.3 held.world; port_is = port ∙ come.port_is }
 
     -- a step of a burst tells the port nothing
-    tells_nothing : (v w : FiberView PortView) (l : Label) → IsAlone l
-        → Tells (plain_theory nodes) (leaf_at (progress nodes v)) l Went v.port p.world w.port p.world → w.port ≡ v.port
-    tells_nothing v w Silent alone told = told.0
-    tells_nothing v w (Shows (event.Acquired k)) alone told = told.0
-    tells_nothing v w (Shows (event.Begin k)) alone told = told.0
-    tells_nothing v w (Shows (event.End k)) alone told = told.0
-    tells_nothing v w _ alone told = absurd alone
+    tells_nothing : (v w : FiberView PortView) (stamp cause : ℕ) (l : Label) → IsAlone l
+        → Tells (plain_theory nodes) stamp cause (leaf_at (progress nodes v)) l Went v.port p.world w.port p.world → w.port ≡ v.port
+    tells_nothing v w stamp cause Silent alone told = told.0
+    tells_nothing v w stamp cause (Shows (event.Acquired k)) alone told = told.0
+    tells_nothing v w stamp cause (Shows (event.Begin k)) alone told = told.0
+    tells_nothing v w stamp cause (Shows (event.End k)) alone told = told.0
+    tells_nothing v w stamp cause _ alone told = absurd alone
 
     pub comes_alone : (n : ℕ) (v : FiberView PortView) → GoesAlone (plain_theory nodes) n x.fiber p.world v → (p' : PlainMachine J)
         → Holds v p' → Comes v p'
@@ -120,7 +121,8 @@ module _ {J : Type 0} (nodes : List Node) (s : ScriptView) (f : ℕ) where
         one_more h.0 v p.world p'
         (comes_alone n h.0 h.1 (with_fiber h.0)
         (record { after = record { parent = x.parent; fiber = h.0 }; fibers = refl; parent = refl; fiber = refl; world = refl }))
-        h.2.does (tells_nothing h.0 v h.2.does.label h.2.alone h.2.does.calls_are.told) refl held
+        h.2.does (tells_nothing h.0 v (next_stamp (clock (plain_theory nodes) h.0) h.2.does.cause) h.2.does.cause h.2.does.label h.2.alone
+        h.2.does.calls_are.told) refl held
 
     -- what a burst comes to
     pub bursts_go : (most n : ℕ) (v : FiberView PortView) (world' : WorldView) → Bursts (plain_theory nodes) most n x.fiber p.world v world'
@@ -134,7 +136,8 @@ module _ {J : Type 0} (nodes : List Node) (s : ScriptView) (f : ℕ) where
           (come.machine, come.on)
       | inr last ↦
           let told = subst
-          (λ (l : Label). Tells (plain_theory nodes) (leaf_at (progress nodes last.between)) l Went last.between.port p.world v.port world')
+          (λ (l : Label). Tells (plain_theory nodes) (next_stamp (clock (plain_theory nodes) last.between) last.sees.does.cause) last.sees.does.cause
+          (leaf_at (progress nodes last.between)) l Went last.between.port p.world v.port world')
           last.sees.by last.sees.does.calls_are.told in
           let come = one_more last.between v world' p'
           (comes_alone last.before last.between last.goes (with_fiber last.between)

@@ -14,9 +14,11 @@ use Rattle.fx_plain.specs.Started.{StartedView}
 use Rattle.fx_plain.specs.declared.plain_machine.PlainMachine.{PlainMachine}
 use Rattle.fx_plain.specs.WholeMachine.{begun, opening}
 use Rattle.fx_plain.specs.World.{HeldFiber, held_of, opening_world, opening_held}
-use Rattle.fx_plain.specs.PlainMachine.{held, all_held, IsNumbered, StandsForRun}
+use Rattle.fx_plain.specs.MachineStamps.{no_stamps}
+use Rattle.fx_plain.specs.PlainMachine.{held, all_held, IsNumbered, HasStampsAt, StandsForRun}
 use Rattle.fx_plain.proofs.WorldLaws.{opening_stands}
 use Rattle.fx_plain.proofs.WorldClasses.{opening_tells}
+use Rattle.fx_plain.proofs.WorldStamps.{opening_has_stamps}
 
 -- one more place
 pub one_more_of : {A : Type 0} (x a : A) (xs ys : List A) (n : ℕ) → xs ≡ x ∷ replicate n a → ys ≡ xs ++ a ∷ [] → ys ≡ x ∷ replicate (n + 1) a
@@ -32,7 +34,13 @@ module _ {J : Type 0} (nodes : List Node) (s : ScriptView) (p : PlainMachine J) 
 
   module _ (world : p.world ≡ opening_world s) (fibers : p.fibers.items ≡ Some x ∷ replicate (need s.term) None)
       (is : held nodes x ≡ held_of (begun None (main_origin s.term))) (number : x.fiber.port.number ≡ 0) (counts : x.fiber.port.put_counts ≡ [])
-      (trace : x.fiber.trace ≡ []) where
+      (trace : x.fiber.trace ≡ []) (began : x.fiber.port.beginning.stamp ≡ 0) (stamps : x.fiber.stamps ≡ []) where
+    none_there : (i : ℕ) → slice_index_or (replicate (need s.term) nobody) i None ≡ None
+    none_there i = elim (cases_lt i (need s.term)) [
+      | inl lt ↦ get_or-replicate (need s.term) i None None lt
+      | inr le ↦ get_or_past (replicate (need s.term) None) i None (let e = length-replicate {A = Option (StartedView J)} (need s.term) None in omega arith)
+    ]
+
     all_are : all_held nodes p ≡ opening_held s
     all_are = ap (map (option_map (held nodes))) fibers ∙ ap (λ (xs : List (Option HeldFiber)). Some (held nodes x) ∷ xs) (no_places (need s.term))
         ∙ ap (λ (h : HeldFiber). Some h ∷ replicate (need s.term) None) is
@@ -40,12 +48,10 @@ module _ {J : Type 0} (nodes : List Node) (s : ScriptView) (p : PlainMachine J) 
     numbered : (f : ℕ) → IsNumbered nodes f (slice_index_or (Some x ∷ replicate (need s.term) None) f None)
     numbered zero = (number, λ q. ap (λ (ns : List ℕ). slice_index ns q) counts ∙ sym (ap (λ (es : List Event). length (values_put q es)) trace))
     numbered (suc f) = subst (IsNumbered nodes (suc f)) (sym (none_there f)) tt
-      where
-        none_there : (i : ℕ) → slice_index_or (replicate (need s.term) nobody) i None ≡ None
-        none_there i = elim (cases_lt i (need s.term)) [
-          | inl lt ↦ get_or-replicate (need s.term) i None None lt
-          | inr le ↦ get_or_past (replicate (need s.term) None) i None (let e = length-replicate {A = Option (StartedView J)} (need s.term) None in omega arith)
-        ]
+
+    stamped : (f : ℕ) → HasStampsAt nodes no_stamps f (slice_index_or (Some x ∷ replicate (need s.term) None) f None)
+    stamped zero = (began, stamps)
+    stamped (suc f) = subst (HasStampsAt nodes no_stamps (suc f)) (sym (none_there f)) refl
 
     pub opening_stands_for : StandsForRun nodes s p (opening s)
     opening_stands_for = record {
@@ -54,4 +60,6 @@ module _ {J : Type 0} (nodes : List Node) (s : ScriptView) (p : PlainMachine J) 
       stands = rw (world, all_are) (opening_stands s);
       tells = rw world (opening_tells s);
       numbered = rw fibers numbered;
+      stamps = rw world (opening_has_stamps s);
+      stamped = rw fibers stamped;
     }

@@ -6,6 +6,7 @@ use Rattle.std.proofs.lemmas.Option.{none-some, same_Some}
 use Rattle.std.proofs.lemmas.List.{length-map}
 use Rattle.std.proofs.Math.ListN.{get_or-map}
 use Rattle.fx_term.specs.declared.node.Node.{Node}
+use Rattle.fx_term.specs.declared.begin.Begin.{Begin}
 use Rattle.fx_term.specs.declared.event.Event.{Event}
 use Rattle.fx_term.specs.Queue.{values_put}
 use Rattle.fx_term.specs.Script.{ScriptView, total}
@@ -13,7 +14,8 @@ use Rattle.fx_model.specs.Row.{Counts, Label, Starts}
 use Rattle.fx_model.specs.Origin.{Origin, origin_of}
 use Rattle.fx_model.specs.Step.{Progress, leaf_at, looks_first, Step}
 use Rattle.fx_model.specs.Run.{events}
-use Rattle.fx_fiber.specs.Fiber.{FiberView, progress}
+use Rattle.fx_fiber.specs.Fiber.{FiberView, clock, progress}
+use Rattle.fx_fiber.specs.StampedRun.{next_stamp, last_of, stamp_of_event}
 use Rattle.fx_fiber.specs.declared.stepped.Stepped.{Stepped}
 use Rattle.fx_fiber.specs.MakesStep.{Calls, MakesStep}
 use Rattle.fx_model.proofs.Runs.{events_append}
@@ -25,13 +27,15 @@ use Rattle.fx_plain.specs.Chosen.{ChosenStep}
 use Rattle.fx_plain.specs.declared.class.Class.{Class}
 use Rattle.fx_plain.specs.declared.class.Class.TheVariants.{Able}
 use Rattle.fx_plain.specs.ClassSets.{class_at, is_able}
-use Rattle.fx_plain.specs.World.{WorldView, HeldFiber, held_of, StandsFor}
+use Rattle.fx_plain.specs.MachineStamps.{stamp_of, stamps_after}
+use Rattle.fx_plain.specs.World.{WorldView, HeldFiber, held_of, StandsFor, HasStamps, world_after}
 use Rattle.fx_plain.specs.PlainCalls.{PortView, plain_theory}
-use Rattle.fx_plain.specs.PlainMachine.{held, all_held, IsNumbered, StandsForRun, Tries, steps}
+use Rattle.fx_plain.specs.PlainMachine.{held, all_held, IsNumbered, HasStampsAt, StandsForRun, Tries, steps}
 use Rattle.fx_term.proofs.MapLaws.{at_that, at_other}
 use Rattle.fx_plain.proofs.LawfulRuns.{IsKept, run_keeps}
 use Rattle.fx_plain.proofs.RunLaws.{start_finds}
 use Rattle.fx_plain.proofs.WorldClasses as classes
+use Rattle.fx_plain.proofs.WorldStamps.{cause_is, stamps_kept, began_of_other}
 use Rattle.fx_plain.proofs.WorldSteps.{world_is, counts_after, steps_so, chosen_so, stands_so}
 
 -- one more step at the end of a run
@@ -50,6 +54,9 @@ made_of parent b trace c p = record { parent = parent; origin = b; trace = trace
 pub same_made : {parent parent' : Option ℕ} {b b' : Origin} {trace trace' : List Event} {c c' : Counts} {p p' : Progress} → parent ≡ parent' → b ≡ b'
     → trace ≡ trace' → c ≡ c' → p ≡ p' → made_of parent b trace c p ≡ made_of parent' b' trace' c' p'
 same_made e f g h i = rw (e, f, g, h, i) refl
+
+same_next : {b b' c c' : ℕ} {ss ss' : List ℕ} → b ≡ b' → ss ≡ ss' → c ≡ c' → next_stamp (last_of b ss) c ≡ next_stamp (last_of b' ss') c'
+same_next e g h = rw (e, g, h) refl
 
 module _ {J : Type 0} (nodes : List Node) where
   -- the fiber of that number
@@ -114,17 +121,28 @@ module _ {J : Type 0} (nodes : List Node) where
       st : Step y.counts y.progress l new.counts (progress nodes new)
       st = rw (counts_are, progress_is) at made.step
 
-      calls : Calls (plain_theory nodes) (looks_first y.counts.known y.progress) (leaf_at y.progress) l answer x.fiber.port p.world new.port
+      -- the stamp of its event
+      abbrev pub own : ℕ
+      own = next_stamp (clock (plain_theory nodes) x.fiber) made.cause
+
+      calls : Calls (plain_theory nodes) own made.cause (looks_first y.counts.known y.progress) (leaf_at y.progress) l answer x.fiber.port p.world new.port
           w'
       calls = rw (counts_are, progress_is) at made.calls_are
 
       step_made : FiberSteps s m f l after
-      step_made = steps_so s p.world (all_held nodes p) m so.stands kept nodes f y l new.counts (progress nodes new) is.at st answer x.fiber.port
-          new.port w' own_number puts_counted_so calls
+      step_made = steps_so s p.world (all_held nodes p) m so.stands kept nodes f y l new.counts (progress nodes new) is.at st own made.cause answer
+          x.fiber.port new.port w' own_number puts_counted_so calls
 
       chosen : ChosenStep s m f l after
-      chosen = chosen_so s p.world (all_held nodes p) m so.stands kept nodes f y l new.counts (progress nodes new) is.at st answer x.fiber.port
-          new.port w' own_number puts_counted_so calls
+      chosen = chosen_so s p.world (all_held nodes p) m so.stands kept nodes f y l new.counts (progress nodes new) is.at st own made.cause answer
+          x.fiber.port new.port w' own_number puts_counted_so calls
+
+      -- which is that of the whole machine
+      pub own_is : own ≡ stamp_of m.stamps f l
+      own_is =
+          let has = rw here at (so.stamped f) in
+          same_next has.0 has.1 (cause_is s p.world m so.stamps f below_total nodes (leaf_at y.progress) x.fiber.port own_number own made.cause l answer
+          new.port w' (step_tells st).proper made.none calls.told)
 
       pub child_is_free : (g : ℕ) (b : Origin) → l ≡ Starts g b → (m.fibers g ≡ None) × (g < total s)
       child_is_free g b starts =
@@ -135,7 +153,8 @@ module _ {J : Type 0} (nodes : List Node) where
           (number : new.port.number ≡ x.fiber.port.number) (beginning : new.port.beginning ≡ x.fiber.port.beginning)
           (long : length p'.fibers.items ≡ length p.fibers.items) (there : at_number p' f ≡ Some x')
           (others : (h : ℕ) → (h ≡ f → ⊥) → held_option (at_number p' h) ≡ option_map held_of (fibers_after f l m.fibers h))
-          (numbered : (h : ℕ) → (h ≡ f → ⊥) → IsNumbered nodes h (at_number p' h)) where
+          (numbered : (h : ℕ) → (h ≡ f → ⊥) → IsNumbered nodes h (at_number p' h))
+          (stamped : (h : ℕ) → (h ≡ f → ⊥) → HasStampsAt nodes (stamps_after m.stamps f l) h (at_number p' h)) where
         trace_is : x'.fiber.trace ≡ events (y.labels ++ l ∷ [])
         trace_is =
             ap (λ (v : FiberView PortView). v.trace) fiber ∙ made.trace
@@ -162,8 +181,8 @@ module _ {J : Type 0} (nodes : List Node) where
         own_numbered = (
           ap (λ (v : FiberView PortView). v.port.number) fiber ∙ number ∙ own_number,
           λ q. ap (λ (v : FiberView PortView). slice_index v.port.put_counts q) fiber
-              ∙ counts_after nodes (leaf_at y.progress) f y.labels x.fiber.port own_number puts_counted_so l answer new.port p.world w' (step_tells st).proper
-              calls.told q
+              ∙ counts_after nodes own made.cause (leaf_at y.progress) f y.labels x.fiber.port own_number puts_counted_so l answer new.port p.world w'
+              (step_tells st).proper calls.told q
               ∙ sym (ap (λ (es : List Event). length (values_put q es)) trace_is),
         )
 
@@ -173,10 +192,30 @@ module _ {J : Type 0} (nodes : List Node) where
           | inr apart ↦ numbered h apart
         ]
 
+        -- no fiber starts itself
+        not_itself : (g : ℕ) (b : Origin) → l ≡ Starts g b → f ≡ g → ⊥
+        not_itself g b starts same = none-some y (sym (child_is_free g b starts).0 ∙ ap m.fibers (sym same) ∙ is.at)
+
+        own_stamped : HasStampsAt nodes (stamps_after m.stamps f l) f (Some x')
+        own_stamped =
+            let has = rw here at (so.stamped f) in (
+              ap (λ (v : FiberView PortView). v.port.beginning.stamp) fiber ∙ ap (λ (b : Begin). b.stamp) beginning ∙ has.0
+                  ∙ sym (began_of_other m.stamps f f l not_itself),
+              ap (λ (v : FiberView PortView). v.stamps) fiber ∙ made.stamps ∙ ap (λ (ss : List ℕ). ss ++ stamp_of_event own l) has.1
+                  ∙ ap (λ (t : ℕ). m.stamps.trace f ++ stamp_of_event t l) own_is
+                  ∙ sym (at_that f (m.stamps.trace f ++ stamp_of_event (stamp_of m.stamps f l) l) m.stamps.trace f refl),
+            )
+
+        all_stamped : (h : ℕ) → HasStampsAt nodes (stamps_after m.stamps f l) h (at_number p' h)
+        all_stamped h = elim (cases_eq h f) [
+          | inl same ↦ subst (λ (k : ℕ). HasStampsAt nodes (stamps_after m.stamps f l) k (at_number p' k)) (sym same) (rw there own_stamped)
+          | inr apart ↦ stamped h apart
+        ]
+
         stands : StandsFor s p'.world (all_held nodes p') after
         stands =
-            let t = stands_so s p.world (all_held nodes p) m so.stands kept nodes f y l new.counts (progress nodes new) is.at st answer x.fiber.port
-            new.port w' own_number puts_counted_so calls in
+            let t = stands_so s p.world (all_held nodes p) m so.stands kept nodes f y l new.counts (progress nodes new) is.at st own made.cause
+            answer x.fiber.port new.port w' own_number puts_counted_so calls in
             let long_before : length p.fibers.items ≡ total s = sym (length-map p.fibers.items held_option) ∙ so.stands.held_long in
             rw world (record {
               held_long = length-map p'.fibers.items held_option ∙ long ∙ long_before;
@@ -191,17 +230,26 @@ module _ {J : Type 0} (nodes : List Node) where
               queues = t.queues;
             })
 
+        left_world : p'.world ≡ world_after f y.labels own l p.world
+        left_world = world ∙ world_is nodes own made.cause (leaf_at y.progress) f y.labels x.fiber.port own_number puts_counted_so l answer new.port p.world w'
+            calls.told
+
+        stamps : HasStamps s p'.world (stamps_after m.stamps f l)
+        stamps = rw left_world (stamps_kept s p.world m so.stamps f below_total (all_held nodes p) so.stands y.labels own l step_made.answered own_is)
+
         -- it stands for that
         stands_after : is_able (class_at p.world.classes f) ≡ true → StandsForRun nodes s p' after
         stands_after able = record {
           moves = so.moves ++ Steps f l ∷ [];
           run = leads_one_more s (opening s) so.moves m f l after so.run step_made;
           stands = stands;
-          tells = rw (world ∙ world_is nodes (leaf_at y.progress) f y.labels x.fiber.port own_number puts_counted_so l answer new.port p.world w' calls.told)
-              (classes.step_tells s p.world m so.tells f y new.counts (progress nodes new) (able_class (class_at p.world.classes f) able) below_total
+          tells = rw left_world
+              (classes.step_tells s p.world m so.tells f y new.counts (progress nodes new) own (able_class (class_at p.world.classes f) able) below_total
               so.stands.outcomes_long l
               (λ g b starts. (child_is_free g b starts).1) st);
           numbered = all_numbered;
+          stamps = stamps;
+          stamped = all_stamped;
         }
 
         -- so the step leads on

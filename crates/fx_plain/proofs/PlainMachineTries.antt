@@ -16,7 +16,8 @@ use Rattle.fx_term.specs.Script.{ScriptView, total}
 use Rattle.fx_model.specs.Row.{Label, Silent, Shows, Learns, Starts}
 use Rattle.fx_model.specs.Origin.{Origin, origin_of}
 use Rattle.fx_model.specs.Step.{leaf_at}
-use Rattle.fx_fiber.specs.Fiber.{FiberView, progress, IsUnchanged, IsAtFirst}
+use Rattle.fx_fiber.specs.Fiber.{FiberView, clock, progress, IsUnchanged, IsAtFirst}
+use Rattle.fx_fiber.specs.StampedRun.{next_stamp}
 use Rattle.fx_model.specs.declared.source.Source.{Source}
 use Rattle.fx_fiber.specs.declared.stepped.Stepped.{Stepped}
 use Rattle.fx_fiber.specs.declared.stepped.Stepped.TheVariants.{Went, Child, Waits, Gave, Ended}
@@ -27,20 +28,22 @@ use Rattle.fx_plain.specs.declared.plain_machine.PlainMachine.{PlainMachine}
 use Rattle.fx_term.specs.Maps.{with_at}
 use Rattle.fx_plain.specs.WholeMachine.{StartedFiber, WholeMachine, begun, fibers_after}
 use Rattle.fx_plain.specs.Chosen.{ChosenStep}
+use Rattle.fx_plain.specs.MachineStamps.{MachineStamps, stamp_of, stamps_after}
 use Rattle.fx_plain.specs.PlainQueue.{have_room, have_element}
 use Rattle.fx_plain.specs.Classes.{is_ready}
 use Rattle.fx_plain.specs.ClassSets.{class_at, is_able}
 use Rattle.fx_plain.specs.World.{WorldView, is_ready_in, HeldFiber, held_of, StandsFor}
 use Rattle.fx_plain.specs.WorldClasses.{TellsWhoSteps}
 use Rattle.fx_plain.specs.PlainCalls.{PortView, plain_theory}
-use Rattle.fx_plain.specs.PlainMachine.{held, all_held, IsNumbered, able_count, StandsForRun, Tries, steps, waits}
+use Rattle.fx_plain.specs.PlainMachine.{held, all_held, IsNumbered, HasStampsAt, able_count, StandsForRun, Tries, steps, waits}
 use Rattle.fx_term.proofs.MapLaws.{at_that, at_other}
 use Rattle.fx_plain.proofs.Maps.{at_itself}
 use Rattle.fx_plain.proofs.WorldClasses.{unready_cannot}
 use Rattle.fx_plain.proofs.ClassSets.{class_at_set}
 use Rattle.fx_plain.proofs.WaitSteps.{refused_unready, noted_wait_tells}
+use Rattle.fx_plain.proofs.WorldStamps.{stamps_beside, began_of_other, trace_of_other}
 use Rattle.fx_plain.proofs.PlainMachineSteps.{at_number, held_option, held_at, same_made, IsFiber, is_fiber, below_total, own_number, child_is_free}
-use Rattle.fx_plain.proofs.PlainMachineSteps.{step_leads, step_is_tried}
+use Rattle.fx_plain.proofs.PlainMachineSteps.{own, own_is, step_leads, step_is_tried}
 
 -- what a step does, by another name of the world before it and of its answer
 pub does_as : (nodes : List Node) (old new : FiberView PortView) (w world w' : WorldView) (answer named : Stepped PortView WorldView) → w ≡ world
@@ -49,6 +52,10 @@ pub does_as : (nodes : List Node) (old new : FiberView PortView) (w world w' : W
 does_as nodes old new w world w' answer named same is h =
     subst (λ (v : WorldView). DoesStep (plain_theory nodes) old v named new w') same
     (subst (λ (a : Stepped PortView WorldView). DoesStep (plain_theory nodes) old w a new w') is h)
+
+-- a label starts one fiber
+same_start : {g h : ℕ} {b d : Origin} → Starts g b ≡ Starts h d → g ≡ h
+same_start e = cc
 
 plus_nothing : (n : ℕ) → n + 0 ≡ n
 plus_nothing n = omega arith
@@ -87,6 +94,17 @@ module _ (nodes : List Node) (leaf : Option Term) (f : ℕ) (fibers : ℕ → Op
   none_started (Shows v) answer e h = refl
   none_started (Learns g o v) answer e h = refl
 
+  starts_none : (l : Label) (answer : Stepped PortView WorldView) → is_child answer ≡ false → Answers nodes leaf l answer → (g : ℕ) (b : Origin)
+      → l ≡ Starts g b → ⊥
+  starts_none (Starts g b) (Child c) e h k d is = cc
+  starts_none (Starts g b) Went e h k d is = h
+  starts_none (Starts g b) (Waits wait) e h k d is = h
+  starts_none (Starts g b) Gave e h k d is = h
+  starts_none (Starts g b) Ended e h k d is = h
+  starts_none Silent answer e h k d is = cc
+  starts_none (Shows v) answer e h k d is = cc
+  starts_none (Learns g o v) answer e h k d is = cc
+
   -- what a step starts is told by its label
   record IsStart (l : Label) : Type 0 where
     pub number : ℕ
@@ -118,6 +136,21 @@ module _ {J : Type 0} (nodes : List Node) (s : ScriptView) (p : PlainMachine J) 
   others_held : (h : ℕ) → held_option nodes (at_number nodes p h) ≡ option_map held_of (m.fibers h)
   others_held h = sym (held_at nodes p h) ∙ so.stands.fibers h
 
+  -- the stamps of a fiber that neither makes the step nor is started by it
+  other_stamped : (l : Label) (h : ℕ) → (h ≡ f → ⊥) → ((g : ℕ) (b : Origin) → l ≡ Starts g b → h ≡ g → ⊥) → (z : Option (StartedView J))
+      → HasStampsAt nodes m.stamps h z → HasStampsAt nodes (stamps_after m.stamps f l) h z
+  other_stamped l h apart ne None has = trace_of_other m.stamps f h l apart ∙ has
+  other_stamped l h apart ne (Some z) has =
+      (has.0 ∙ sym (began_of_other m.stamps f h l ne), has.1 ∙ sym (trace_of_other m.stamps f h l apart))
+
+  -- one that has not started has none
+  unstarted_stamps : (g : ℕ) → m.fibers g ≡ None → m.stamps.trace g ≡ []
+  unstarted_stamps g free = by_place (at_number nodes p g) (others_held g ∙ ap (option_map held_of) free) (so.stamped g)
+    where
+      by_place : (z : Option (StartedView J)) → held_option nodes z ≡ None → HasStampsAt nodes m.stamps g z → m.stamps.trace g ≡ []
+      by_place None e has = has
+      by_place (Some z) e has = absurd (none-some (held nodes z) (sym e))
+
   -- what a step tells of the child that it starts
   pub record IsBeginning (l : Label) (c : FiberView PortView) : Type 0 where
     pub number : ℕ
@@ -129,13 +162,15 @@ module _ {J : Type 0} (nodes : List Node) (s : ScriptView) (p : PlainMachine J) 
     pub first : IsAtFirst nodes origin c
     pub free : m.fibers number ≡ None
     pub below : number < total s
+    pub stamped : c.port.beginning.stamp ≡ stamp_of m.stamps f l
 
   module _ (w' : WorldView) (new c : FiberView PortView) (made : MakesStep (plain_theory nodes) x.fiber p.world (Child c) new w') where
     pub is_beginning : IsBeginning made.label c
     is_beginning =
         let start = start_told nodes (leaf_at (progress nodes x.fiber)) f m.fibers made.label c made.answers in
-        let told : StartsChild (plain_theory nodes) start.number start.origin c.port x.fiber.port p.world new.port w' =
-        subst (λ (l : Label). Tells (plain_theory nodes) (leaf_at (progress nodes x.fiber)) l (Child c) x.fiber.port p.world new.port w')
+        let stamp = own nodes s p m so f x here is w' (Child c) new made in
+        let told : StartsChild (plain_theory nodes) stamp start.number start.origin c.port x.fiber.port p.world new.port w' =
+        subst (λ (l : Label). Tells (plain_theory nodes) stamp made.cause (leaf_at (progress nodes x.fiber)) l (Child c) x.fiber.port p.world new.port w')
         start.is made.calls_are.told in
         let free = child_is_free nodes s p m so f x here is w' (Child c) new made start.number start.origin start.is in
         record {
@@ -148,6 +183,8 @@ module _ {J : Type 0} (nodes : List Node) (s : ScriptView) (p : PlainMachine J) 
           first = subst (λ (l : Label). Answers {S = WorldView} nodes (leaf_at (progress nodes x.fiber)) l (Child c)) start.is made.answers;
           free = free.0;
           below = free.1;
+          stamped =
+              ap (λ (q : PortView). q.beginning.stamp) told.told.0 ∙ told.stamped ∙ own_is nodes s p m so f x here is w' (Child c) new made;
         }
 
     pub child_below : c.port.number < length p.fibers.items
@@ -195,7 +232,10 @@ module _ {J : Type 0} (nodes : List Node) (s : ScriptView) (p : PlainMachine J) 
           let on = step_leads nodes s p m so f x here is w' answer new made p' x' world parent fiber number beginning (same_long same) (same_there same)
           (λ h apart. ap (held_option nodes) (same_others same h apart) ∙ others_held h
           ∙ sym (ap (λ (fibers : ℕ → Option StartedFiber). option_map held_of (fibers h)) unstarted))
-          (λ h apart. subst (IsNumbered nodes h) (sym (same_others same h apart)) (so.numbered h)) able in
+          (λ h apart. subst (IsNumbered nodes h) (sym (same_others same h apart)) (so.numbered h))
+          (λ h apart. subst (HasStampsAt nodes (stamps_after m.stamps f made.label) h) (sym (same_others same h apart))
+          (other_stamped made.label h apart (λ g b starts e. starts_none nodes (leaf_at (progress nodes x.fiber)) f m.fibers made.label answer none made.answers
+          g b starts) (at_number nodes p h) (so.stamped h))) able in
           (made.label, on.0, on.1, on.2)
 
       pub tries_step : (answer : Stepped PortView WorldView) → IsQuiet nodes x.fiber new p.world w' answer
@@ -282,10 +322,29 @@ module _ {J : Type 0} (nodes : List Node) (s : ScriptView) (p : PlainMachine J) 
             | inr ne ↦ subst (IsNumbered nodes h) (sym (rest_there h apart ne)) (so.numbered h)
           ]
 
+          child_stamped : HasStampsAt nodes (stamps_after m.stamps f made.label) g (Some child)
+          child_stamped = (
+            ap (λ (v : FiberView PortView). v.port.beginning.stamp) its_fiber ∙ start.stamped
+                ∙ sym (ap (λ (l : Label). (stamps_after m.stamps f l).began g) start.is
+                ∙ at_that g (stamp_of m.stamps f (Starts g b)) m.stamps.began g refl ∙ ap (stamp_of m.stamps f) (sym start.is)),
+            ap (λ (v : FiberView PortView). v.stamps) its_fiber ∙ start.first.stamps ∙ sym (unstarted_stamps g start.free)
+                ∙ sym (trace_of_other m.stamps f g made.label (λ e. is_another (sym (start.number_is ∙ e)))),
+          )
+
+          others_stamped : (h : ℕ) → (h ≡ f → ⊥) → HasStampsAt nodes (stamps_after m.stamps f made.label) h (at_number nodes p' h)
+          others_stamped h apart = elim (cases_eq h g) [
+            | inl same ↦
+                subst (HasStampsAt nodes (stamps_after m.stamps f made.label) h) (sym (child_there h same))
+                (subst (λ (k : ℕ). HasStampsAt nodes (stamps_after m.stamps f made.label) k (Some child)) (sym same) child_stamped)
+            | inr ne ↦
+                subst (HasStampsAt nodes (stamps_after m.stamps f made.label) h) (sym (rest_there h apart ne))
+                (other_stamped made.label h apart (λ k d starts e. ne (e ∙ same_start (sym starts ∙ start.is))) (at_number nodes p h) (so.stamped h))
+          ]
+
           pub tries_start : p'.world ≡ w' → is_able (class_at p.world.classes f) ≡ true → Tries nodes s m f p p'
           tries_start world able =
               step_is_tried nodes s p m so f x here is w' (Child c) new made p' x' world parent fiber number beginning in_place_long fiber_there
-              others others_numbered able
+              others others_numbered others_stamped able
 
       -- where it has made none
       module _ (unchanged : IsUnchanged nodes x.fiber new) (same : p'.fibers.items ≡ middle) where
@@ -317,6 +376,19 @@ module _ {J : Type 0} (nodes : List Node) (s : ScriptView) (p : PlainMachine J) 
           | inr apart ↦ subst (IsNumbered nodes h) (sym (same_others same h apart)) (so.numbered h)
         ]
 
+        still_stamped : HasStampsAt nodes m.stamps f (Some x')
+        still_stamped =
+            let has = rw here at (so.stamped f) in (
+              ap (λ (v : FiberView PortView). v.port.beginning.stamp) fiber ∙ ap (λ (r : PortView). r.beginning.stamp) unchanged.port ∙ has.0,
+              ap (λ (v : FiberView PortView). v.stamps) fiber ∙ unchanged.stamps ∙ has.1,
+            )
+
+        all_stamped : (h : ℕ) → HasStampsAt nodes m.stamps h (at_number nodes p' h)
+        all_stamped h = elim (cases_eq h f) [
+          | inl e ↦ subst (λ (k : ℕ). HasStampsAt nodes m.stamps k (at_number nodes p' k)) (sym e) (rw (same_there same) still_stamped)
+          | inr apart ↦ subst (HasStampsAt nodes m.stamps h) (sym (same_others same h apart)) (so.stamped h)
+        ]
+
         -- it stands for the same
         pub still_stands : p'.world ≡ p.world → StandsForRun nodes s p' m
         still_stands world = record {
@@ -336,6 +408,8 @@ module _ {J : Type 0} (nodes : List Node) (s : ScriptView) (p : PlainMachine J) 
           });
           tells = rw world so.tells;
           numbered = all_numbered;
+          stamps = rw world so.stamps;
+          stamped = all_stamped;
         }
 
       -- after it was noted that it waits
@@ -366,7 +440,8 @@ module _ {J : Type 0} (nodes : List Node) (s : ScriptView) (p : PlainMachine J) 
         unready =
             rw world_is (ap (is_ready (have_room p.world.queues) (have_element p.world.queues)) (class_at_set p.world.classes f (class.Waits source)
             (let lt = below in let n = so.tells.long in omega arith) f ∙ at_itself f (class.Waits source) (class_at p.world.classes))
-            ∙ refused_unready p.world x.fiber.port (value_offered (leaf_at (progress nodes x.fiber))) source wait.refused)
+            ∙ refused_unready p.world x.fiber.port (next_stamp (clock (plain_theory nodes) x.fiber) 0) (value_offered (leaf_at (progress nodes x.fiber)))
+            source wait.refused)
 
         fewer : is_able (class_at p.world.classes f) ≡ true → able_count p'.world.classes < able_count p.world.classes
         fewer able =
@@ -382,4 +457,13 @@ module _ {J : Type 0} (nodes : List Node) (s : ScriptView) (p : PlainMachine J) 
 
         pub tries_waiting : is_able (class_at p.world.classes f) ≡ true → Tries nodes s m f p p'
         tries_waiting able = waits (unready_cannot s p'.world (all_held nodes p') m stands tells f unready)
-            (record { moves = so.moves; run = so.run; stands = stands; tells = tells; numbered = all_numbered wait.unchanged same }) (fewer able)
+            (record {
+              moves = so.moves;
+              run = so.run;
+              stands = stands;
+              tells = tells;
+              numbered = all_numbered wait.unchanged same;
+              stamps = rw world_is (stamps_beside s p.world (record p.world { classes = slice_set p.world.classes f (class.Waits source) }) m.stamps
+                  refl refl refl so.stamps);
+              stamped = all_stamped wait.unchanged same;
+            }) (fewer able)

@@ -14,6 +14,7 @@ use Rattle.fx_plain.specs.ClassSets.{class_at, is_able}
 use Rattle.fx_plain.specs.World.{WorldView, is_ready_in, after_start}
 use Rattle.fx_plain.specs.PlainMachine.{able_count, all_held, StandsForRun, StandsForSome, Tries, steps, waits}
 use Rattle.fx_plain.proofs.Maps.{at_itself}
+use Rattle.fx_plain.proofs.WorldStamps.{stamps_beside}
 use Rattle.fx_plain.proofs.ClassSets.{class_at_set}
 use Rattle.fx_plain.proofs.ReadyFibers.{IsGoing}
 use Rattle.fx_plain.proofs.LawfulRuns.{run_keeps}
@@ -65,6 +66,8 @@ module _ {J : Type 0} (nodes : List Node) (p : PlainMachine J) (f : ℕ) (w' : W
       });
       tells = rw world (wake_tells s p.world m so.tells f below going);
       numbered = so.numbered;
+      stamps = rw world (stamps_beside s p.world (after_start f p.world) m.stamps refl refl refl so.stamps);
+      stamped = so.stamped;
     }
 
     is_woken : is_able (class_at w'.classes f) ≡ true

@@ -14,6 +14,7 @@ use Rattle.fx_plain.specs.World.{WorldView, is_ready_in, after_request_from_outs
 use Rattle.fx_plain.specs.PlainMachine.{all_held, StandsForRun, StandsForSome, IsUnderWay, Tries, steps, waits}
 use Rattle.fx_plain.proofs.OnTheWay.{after_step, after_skipped_step, after_request, after_skipped_request, after_least}
 use Rattle.fx_plain.proofs.WorldLaws.{stands_after_request}
+use Rattle.fx_plain.proofs.WorldStamps.{stamps_beside}
 use Rattle.fx_plain.proofs.WorldClasses.{unready_cannot, request_tells}
 
 -- a request from outside at the end of a run
@@ -68,13 +69,23 @@ module _ {J : Type 0} (nodes : List Node) (s : ScriptView) where
         stands = rw world (stands_after_request s p.world (all_held nodes p) m f lt so.stands);
         tells = rw world (request_tells s p.world m so.tells f);
         numbered = so.numbered;
+        stamps = rw world (stamps_beside s p.world (after_request_from_outside f p.world) m.stamps refl refl refl so.stamps);
+        stamped = so.stamped;
       }
 
       past_stands : total s ≤ f → StandsForRun nodes s p' m
       past_stands le =
           let requested = so.stands.requested_long in let outside = so.stands.outside_long in let classes = so.tells.long in
           let same : w' ≡ p.world = world ∙ request_past p.world f (omega arith) (omega arith) (omega arith) in
-          record { moves = so.moves; run = so.run; stands = rw same so.stands; tells = rw same so.tells; numbered = so.numbered }
+          record {
+            moves = so.moves;
+            run = so.run;
+            stands = rw same so.stands;
+            tells = rw same so.tells;
+            numbered = so.numbered;
+            stamps = rw same so.stamps;
+            stamped = so.stamped;
+          }
 
       pub some_stands : StandsForSome nodes p'
       some_stands = elim (cases_lt f (total s)) [

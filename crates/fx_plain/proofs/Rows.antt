@@ -12,7 +12,7 @@ use Rattle.fx_term.specs.Term.{TryOffer, Take, TryTake}
 use Rattle.fx_text.specs.declared.pick.Pick.{Pick}
 use Rattle.fx_text.specs.declared.pick.Pick.TheVariants.{Step}
 use Rattle.fx_text.specs.declared.pick.Pick.TheVariants as pick
-use Rattle.fx_term.specs.declared.item.Item.{Item}
+use Rattle.fx_term.specs.Element.{Element}
 use Rattle.fx_term.specs.Script.{ScriptView}
 use Rattle.fx_model.specs.Report.{FiberReportView, ReportView, outcome_shown}
 use Rattle.fx_plain.specs.WholeMachine.{opening}
@@ -34,7 +34,7 @@ abbrev summary : ReportView → Summary
 summary r =
     record {
       fibers = map (λ (x : FiberReportView). outcome_shown x.trace) r.fibers;
-      left = map (λ (xs : List Item). map (λ (x : Item). x.value) xs) r.left;
+      left = map (λ (xs : List Element). map (λ (x : Element). x.value) xs) r.left;
       outside = r.outside;
     }
 

@@ -16,29 +16,33 @@ use Rattle.fx_plain.specs.SettledRun.{IsReportOf, HasSettledRun}
 use Rattle.fx_report.proofs.Keys.{passing_contained}
 use Rattle.fx_plain.proofs.FamilyKept.{labels_of}
 use Rattle.fx_plain.proofs.HistoriesKept.{opening_has_no_history, histories_grow}
-use Rattle.fx_plain.proofs.LawfulRuns.{IsKept, opening_is_kept, moved_keeps, request_keeps}
+use Rattle.fx_plain.proofs.LawfulRuns.{IsKept, opening_is_kept, after_step, moved_keeps, request_keeps}
 use Rattle.fx_plain.proofs.LawfulRuns.{trace_same, report_is_lawful, labels_told, queues_told, histories_told}
 use Rattle.fx_plain.proofs.WholeMachineSteps.{with_true}
 use Rattle.fx_plain.proofs.CausesKept.{trace_of, AreLeft, AreFromOutside, IsInOrder, opening_is_in_order, order_kept}
 
 -- what each machine of a run keeps, with one order of its events so far
-record KeptInOrder (s : ScriptView) (m : WholeMachine) : Type 0 where
+pub record KeptInOrder (s : ScriptView) (m : WholeMachine) : Type 0 where
   pub kept : IsKept s m
   pub order : IsInOrder s m kept.histories
 
-opening_in_order : (s : ScriptView) → KeptInOrder s (opening s)
+abbrev pub opening_in_order : (s : ScriptView) → KeptInOrder s (opening s)
 opening_in_order s = record { kept = opening_is_kept s; order = opening_is_in_order s (opening_is_kept s).histories (opening_has_no_history s) }
 
-step_in_order : (s : ScriptView) (m : WholeMachine) (f : ℕ) (l : Label) (m' : WholeMachine) → FiberSteps s m f l m' → KeptInOrder s m → KeptInOrder s m'
-step_in_order s m f l m' st k = rw st.after (record {
+abbrev pub moved_in_order : (s : ScriptView) (m : WholeMachine) (f : ℕ) (l : Label) (m' : WholeMachine) (st : FiberSteps s m f l m') → KeptInOrder s m
+    → KeptInOrder s (after_step st)
+moved_in_order s m f l m' st k = record {
   kept = moved_keeps s m f l m' st k.kept;
   order =
       order_kept s m f st.fiber st.counts st.progress st.started k.kept.ranges k.kept.histories l st.step (moved_keeps s m f l m' st k.kept).histories
       (histories_grow s m f st.fiber st.counts st.progress st.started k.kept.ranges k.kept.histories l st.step st.answered) k.kept.so k.kept.requests
       st.answered k.order;
-})
+}
 
-request_in_order : (s : ScriptView) (m : WholeMachine) (f : ℕ) → f < total s → KeptInOrder s m → KeptInOrder s (requested_from_outside f m)
+step_in_order : (s : ScriptView) (m : WholeMachine) (f : ℕ) (l : Label) (m' : WholeMachine) → FiberSteps s m f l m' → KeptInOrder s m → KeptInOrder s m'
+step_in_order s m f l m' st k = rw st.after (moved_in_order s m f l m' st k)
+
+abbrev pub request_in_order : (s : ScriptView) (m : WholeMachine) (f : ℕ) → f < total s → KeptInOrder s m → KeptInOrder s (requested_from_outside f m)
 request_in_order s m f lt k = record {
   kept = request_keeps s m f lt k.kept;
   order = record {
@@ -59,11 +63,11 @@ leads_in_order s m (Steps f l ∷ vs) last r k = leads_in_order s r.0 vs last r.
 leads_in_order s m (Requests f ∷ vs) last r k = leads_in_order s r.0 vs last r.2 (rw r.1.1 (request_in_order s m f r.1.0 k))
 
 module _ (s : ScriptView) (m : WholeMachine) (r : ReportView) (rep : IsReportOf s m r) (k : KeptInOrder s m) (none : IsSettled s m) where
-  lawful : IsLawfulReport s (λ f. true) r
+  unfoldable pub lawful : IsLawfulReport s (λ f. true) r
   lawful = report_is_lawful s m r rep k.kept none
 
   -- the order of the machine's events is one of those of its report
-  report_in_order : CausesComeFirst s (λ f. true) r lawful
+  unfoldable pub report_in_order : CausesComeFirst s (λ f. true) r lawful
   unfolding lawful
   report_in_order = record {
     moment = k.order.moment;
@@ -80,7 +84,7 @@ module _ (s : ScriptView) (m : WholeMachine) (r : ReportView) (rep : IsReportOf 
           (Contains r.outside) k.order.moment left (λ f is. passing_contained r.outside f (rep.outside f ∙ is)) k.order.in_order)
 
   -- and its list is one of the report's
-  report_is_in_order : IsLawfulInOneList s (λ f. true) r
+  unfoldable pub report_is_in_order : IsLawfulInOneList s (λ f. true) r
   unfolding lawful report_in_order
   report_is_in_order = record {
     in_order = record { lawful = lawful; causes = report_in_order };

@@ -11,12 +11,12 @@ use Rattle.fx_model.specs.Row.{Counts, Label, Row}
 use Rattle.fx_model.specs.Row as row
 use Rattle.fx_model.specs.Step.{Progress, Step}
 use Rattle.fx_model.specs.Step as step
-use Rattle.fx_term.specs.declared.item.Item.{Item}
+use Rattle.fx_term.specs.Element.{Element}
 use Rattle.fx_model.specs.Outside.{leaf_can_step, can_step}
 use Rattle.fx_term.specs.Script.{ScriptView}
 use Rattle.fx_plain.specs.WholeMachine.{WholeMachine, outside_of, can_step_fiber, can_step_in, front, IsAnswered, FiberSteps}
 
-front_is_there : (xs : List Item) (n : ℕ) → front xs ≡ Some n → nat_lt 0 (length xs) ≡ true
+front_is_there : (xs : List Element) (n : ℕ) → front xs ≡ Some n → nat_lt 0 (length xs) ≡ true
 front_is_there [] n e = absurd (none-some n e)
 front_is_there (x ∷ xs) n e = lt-ltb 0 (length (x ∷ xs)) (omega arith)
 

@@ -109,7 +109,7 @@ module _ (s : ScriptView) (w : WorldView) (m : WholeMachine) (tells : TellsWhoSt
       (put_into_class m f class Able (of_class {r = m.requested f} {z = Some going.fiber} {k = Able} refl going.at refl going.goes) tells.are)
       (moved_awaited outcomes class tells.to_come f Able refl)
 
-  module _ (f : ℕ) (x : StartedFiber) (d : Counts) (q : Progress)
+  module _ (f : ℕ) (x : StartedFiber) (d : Counts) (q : Progress) (stamp : ℕ)
       (able : class_at w.classes f ≡ Able) (below : f < total s) (outcomes_long : length w.outcomes ≡ total s) where
     outcomes_at_end : (o : outcome.Outcome) (g : ℕ) → slice_index_or (slice_set w.outcomes f (Some o)) g None ≡ with_at f (Some o) outcomes g
     outcomes_at_end o g = elim (cases_eq g f) [
@@ -121,21 +121,21 @@ module _ (s : ScriptView) (w : WorldView) (m : WholeMachine) (tells : TellsWhoSt
 
     -- after a step of an able fiber; the number that it starts is one of the script's
     pub step_tells : (l : Label) → ((g : ℕ) (b : Origin) → l ≡ Starts g b → g < total s) → Step x.counts x.progress l d q
-        → TellsWhoSteps s (world_after f x.labels l w) (moved m f x l d q)
+        → TellsWhoSteps s (world_after f x.labels stamp l w) (moved m f x l d q)
     step_tells (Starts g b) number st =
-        told_by s (world_after f x.labels (Starts g b) w) (moved m f x (Starts g b) d q) (with_at g Able class) outcomes
+        told_by s (world_after f x.labels stamp (Starts g b) w) (moved m f x (Starts g b) d q) (with_at g Able class) outcomes
         (length-set w.classes g Able ∙ tells.long) (class_at_set w.classes g Able (let n = tells.long in let lt = number g b refl in omega arith)) (λ h. refl)
         (step_classes_kept m f x d q class able tells.are (Starts g b) st) (moved_awaited outcomes class tells.to_come g Able refl)
     step_tells (Shows (event.Request g)) number st =
-        told_by s (world_after f x.labels (Shows (event.Request g)) w) (moved m f x (Shows (event.Request g)) d q) (requested_classes g class) outcomes
+        told_by s (world_after f x.labels stamp (Shows (event.Request g)) w) (moved m f x (Shows (event.Request g)) d q) (requested_classes g class) outcomes
         (length-set w.classes g (class_requested (class_at w.classes g)) ∙ tells.long) (class_at_request w.classes g) (λ h. refl)
         (step_classes_kept m f x d q class able tells.are (Shows (event.Request g)) st) (requested_awaited outcomes class tells.to_come g)
     step_tells (Shows (event.Ended o)) number st =
-        told_by s (world_after f x.labels (Shows (event.Ended o)) w) (moved m f x (Shows (event.Ended o)) d q)
+        told_by s (world_after f x.labels stamp (Shows (event.Ended o)) w) (moved m f x (Shows (event.Ended o)) d q)
         (ended_classes f class) (with_at f (Some o) outcomes)
         (length-set (map (class_at_end f) w.classes) f Over ∙ length-map w.classes (class_at_end f) ∙ tells.long)
         (class_at_end_of w.classes f (let n = tells.long in omega arith)) (outcomes_at_end o)
         (step_classes_kept m f x d q class able tells.are (Shows (event.Ended o)) st) (ended_awaited outcomes class tells.to_come f o)
     step_tells l number st =
-        told_by s (world_after f x.labels l w) (moved m f x l d q) class outcomes tells.long (λ h. refl) (λ h. refl)
+        told_by s (world_after f x.labels stamp l w) (moved m f x l d q) class outcomes tells.long (λ h. refl) (λ h. refl)
         (step_classes_kept m f x d q class able tells.are l st) tells.to_come

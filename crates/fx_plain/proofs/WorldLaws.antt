@@ -6,6 +6,7 @@ use Rattle.std.proofs.lemmas.Bool.{cases_eq}
 use Rattle.std.proofs.lemmas.List.{length-replicate}
 use Rattle.fx_term.specs.declared.outcome.Outcome.{Outcome}
 use Rattle.fx_term.specs.declared.event.Event.TheVariants as event
+use Rattle.fx_term.specs.Element.{elements_of}
 use Rattle.fx_term.specs.Need.{need}
 use Rattle.fx_term.specs.Script.{ScriptView, total}
 use Rattle.fx_model.specs.Origin.{Origin, main_origin}
@@ -29,7 +30,7 @@ use Rattle.fx_plain.proofs.LawfulRuns.{IsKept}
 use Rattle.fx_plain.proofs.WorldQueues.{capacities_after, items_after, opening_capacities, opening_items}
 
 module _ (s : ScriptView) (w : WorldView) (held : List (Option HeldFiber)) (m : WholeMachine) (stands : StandsFor s w held m) (kept : IsKept s m)
-    (f : ℕ) (x : StartedFiber) (d : Counts) (q : Progress) (at : m.fibers f ≡ Some x) where
+    (f : ℕ) (x : StartedFiber) (d : Counts) (q : Progress) (at : m.fibers f ≡ Some x) (stamp : ℕ) where
   lt : f < total s
   lt = kept.ranges.started_below f x at
 
@@ -76,7 +77,7 @@ module _ (s : ScriptView) (w : WorldView) (held : List (Option HeldFiber)) (m : 
         ∙ sym (ap (option_map held_of) (at_other f (Some (stepped x l d q)) (fibers_after f l m.fibers) h apart))
   ]
 
-  requested_after_step : (l : Label) (h : ℕ) → h < total s → is_requested_in (world_after f x.labels l w) h ≡ requested_after l m.requested h
+  requested_after_step : (l : Label) (h : ℕ) → h < total s → is_requested_in (world_after f x.labels stamp l w) h ≡ requested_after l m.requested h
   requested_after_step (Shows (event.Request g)) h below = elim (cases_eq h g) [
     | inl same ↦
         ap (λ (k : ℕ). slice_index_or (slice_set w.requested g true) k false) same
@@ -108,22 +109,23 @@ module _ (s : ScriptView) (w : WorldView) (held : List (Option HeldFiber)) (m : 
       by_outcome None e = e
       by_outcome (Some o) e = absurd (no_step_after_end o st e)
 
-  own_outcome : (l : Label) → Step x.counts x.progress l d q → outcome_in (world_after f x.labels l w) f ≡ end_of l
+  own_outcome : (l : Label) → Step x.counts x.progress l d q → outcome_in (world_after f x.labels stamp l w) f ≡ end_of l
   own_outcome (Shows (event.Ended o)) st = get_or-set_same w.outcomes f (Some o) None (let n = stands.outcomes_long in let p = lt in omega arith)
   own_outcome (Shows (event.Request g)) st = stands.outcomes f ∙ none_before (Shows (event.Request g)) st
   own_outcome (Starts g b) st = stands.outcomes f ∙ none_before (Starts g b) st
   own_outcome l st = stands.outcomes f ∙ none_before l st
 
-  other_outcome : (l : Label) (h : ℕ) → (h ≡ f → ⊥) → outcome_in (world_after f x.labels l w) h ≡ outcome_in w h
+  other_outcome : (l : Label) (h : ℕ) → (h ≡ f → ⊥) → outcome_in (world_after f x.labels stamp l w) h ≡ outcome_in w h
   other_outcome (Shows (event.Ended o)) h ne = get_or-set_other w.outcomes f h (Some o) None ne
   other_outcome (Shows (event.Request g)) h ne = refl
   other_outcome (Starts g b) h ne = refl
   other_outcome _ h ne = refl
 
-  outcomes_after_step : (l : Label) → Step x.counts x.progress l d q → (h : ℕ) → outcome_in (world_after f x.labels l w) h ≡ outcome_of (moved m f x l d q) h
+  outcomes_after_step : (l : Label) → Step x.counts x.progress l d q → (h : ℕ)
+      → outcome_in (world_after f x.labels stamp l w) h ≡ outcome_of (moved m f x l d q) h
   outcomes_after_step l st h = elim (cases_eq h f) [
     | inl same ↦
-        ap (outcome_in (world_after f x.labels l w)) same ∙ own_outcome l st ∙ sym (step_end_of st)
+        ap (outcome_in (world_after f x.labels stamp l w)) same ∙ own_outcome l st ∙ sym (step_end_of st)
         ∙ sym (ap outcome_of_fiber (at_that f (Some (stepped x l d q)) (fibers_after f l m.fibers) h same))
     | inr apart ↦ other_outcome l h apart ∙ stands.outcomes h ∙ sym (outcome_of_other l st h apart)
   ]
@@ -134,7 +136,7 @@ module _ (s : ScriptView) (w : WorldView) (held : List (Option HeldFiber)) (m : 
     pub requested_long : length w'.requested ≡ length w.requested
     pub outcomes_long : length w'.outcomes ≡ length w.outcomes
 
-  keeps : (l : Label) → Keeps (world_after f x.labels l w)
+  keeps : (l : Label) → Keeps (world_after f x.labels stamp l w)
   keeps (Shows (event.Request g)) = record { from_outside = refl; requested_long = length-set w.requested g true; outcomes_long = refl }
   keeps (Shows (event.Ended o)) = record { from_outside = refl; requested_long = refl; outcomes_long = length-set w.outcomes f (Some o) }
   keeps (Starts g b) = record { from_outside = refl; requested_long = refl; outcomes_long = refl }
@@ -142,7 +144,7 @@ module _ (s : ScriptView) (w : WorldView) (held : List (Option HeldFiber)) (m : 
 
   -- the world after a step stands for the whole machine after it
   pub stands_after : (l : Label) → Step x.counts x.progress l d q → IsAnswered s m f l
-      → StandsFor s (world_after f x.labels l w) (held_after f x l d q held) (moved m f x l d q)
+      → StandsFor s (world_after f x.labels stamp l w) (held_after f x l d q held) (moved m f x l d q)
   stands_after l st answered =
       let k = keeps l in
       record {
@@ -154,8 +156,8 @@ module _ (s : ScriptView) (w : WorldView) (held : List (Option HeldFiber)) (m : 
         requested = requested_after_step l;
         from_outside = λ h below. ap (λ (bs : List Bool). slice_index_or bs h false) k.from_outside ∙ stands.from_outside h below;
         outcomes = outcomes_after_step l st;
-        capacities = capacities_after s m w.queues stands.capacities stands.queues w refl f x.labels l;
-        queues = items_after s m w.queues stands.capacities stands.queues w refl f x.labels l answered;
+        capacities = capacities_after s m w.queues stands.capacities stands.queues w refl f x.labels stamp l;
+        queues = items_after s m w.queues stands.capacities stands.queues w refl f x.labels stamp l answered;
       }
 
 -- the world after a request from outside stands for the whole machine after it
@@ -195,7 +197,7 @@ opening_stands s = record {
   from_outside = λ f lt. replicated (total s) f false;
   outcomes = λ f. replicated (total s) f None ∙ no_outcome f;
   capacities = opening_capacities s.capacities;
-  queues = opening_items s.capacities;
+  queues = λ q. ap elements_of (opening_items s.capacities q);
 }
   where
     fiber_at : (f : ℕ) → slice_index_or (opening_held s) f None ≡ option_map held_of ((opening s).fibers f)

@@ -7,6 +7,7 @@ use Rattle.fx_term.specs.declared.node.Arg.TheVariants.{Number}
 use Rattle.fx_term.specs.declared.event.Event.TheVariants as event
 use Rattle.fx_term.specs.Term.{Term, First}
 use Rattle.fx_term.specs.declared.item.Item.{Item}
+use Rattle.fx_term.specs.Element.{elements_of}
 use Rattle.fx_term.specs.Queue.{values_put}
 use Rattle.fx_term.specs.Script.{ScriptView, total}
 use Rattle.fx_model.specs.Row.{Counts, Label, Shows, Learns, Starts}
@@ -18,6 +19,7 @@ use Rattle.fx_fiber.specs.declared.stepped.Stepped.TheVariants.{Went, Child, Wai
 use Rattle.fx_fiber.specs.MakesStep.{LooksBefore, PeeksLeft, Tells, Calls}
 use Rattle.fx_plain.specs.WholeMachine.{StartedFiber, WholeMachine, front, IsAnswered, moved, FiberSteps}
 use Rattle.fx_plain.specs.Chosen.{LooksLeftFirst, ChosenStep}
+use Rattle.fx_plain.specs.PlainQueue.{queue_at, IsFront}
 use Rattle.fx_plain.specs.PutCounts.{one_more_put}
 use Rattle.fx_plain.specs.World.{WorldView, after_put, world_after, HeldFiber, held_after, StandsFor}
 use Rattle.fx_plain.specs.PlainCalls.{PortView, plain_calls, plain_theory}
@@ -28,18 +30,23 @@ use Rattle.fx_plain.proofs.PutCounts.{count_after}
 use Rattle.fx_plain.proofs.WorldQueues.{room_is, puts_counted}
 use Rattle.fx_plain.proofs.WorldLaws.{stands_after}
 
-abbrev item_of : ℕ → ℕ → ℕ → Item
-item_of f i n = record { fiber = f; nth = i; value = n }
+abbrev item_of : ℕ → ℕ → ℕ → ℕ → Item
+item_of f i n stamp = record { fiber = f; nth = i; value = n; stamp = stamp }
+
+-- the element at the front
+front_is : (n stamp : ℕ) (xs : List Item) → IsFront n stamp xs → front (elements_of xs) ≡ Some n
+front_is n stamp [] h = absurd h
+front_is n stamp (x ∷ xs) h = ap Some h.0
 
 -- the element that the port puts next is the fiber's next
-same_item : {f g n : ℕ} {i j : ℕ} → f ≡ g → i ≡ j → item_of f i n ≡ item_of g j n
+same_item : {f g n : ℕ} {i j stamp : ℕ} → f ≡ g → i ≡ j → item_of f i n stamp ≡ item_of g j n stamp
 same_item e h = rw (e, h) refl
 
-module _ (nodes : List Node) (leaf : Option Term) (f : ℕ) (ls : List Label) (p : PortView) (own : p.number ≡ f)
+module _ (nodes : List Node) (stamp cause : ℕ) (leaf : Option Term) (f : ℕ) (ls : List Label) (p : PortView) (own : p.number ≡ f)
     (counted : (q : ℕ) → slice_index p.put_counts q ≡ length (values_put q (events ls))) where
   -- the calls of a step leave the world as its label says
   pub world_is : (l : Label) (answer : Stepped PortView WorldView) (p' : PortView) (w w' : WorldView)
-      → Tells (plain_theory nodes) leaf l answer p w p' w' → w' ≡ world_after f ls l w
+      → Tells (plain_theory nodes) stamp cause leaf l answer p w p' w' → w' ≡ world_after f ls stamp l w
   world_is (Learns g o e) answer p' w w' h = h.2
   world_is (Shows (event.Request g)) answer p' w w' h = h.1
   world_is (Shows event.Seen) answer p' w w' h = h.2
@@ -73,7 +80,7 @@ module _ (nodes : List Node) (leaf : Option Term) (f : ℕ) (ls : List Label) (p
 
   -- and the port, which goes on to count what its fiber puts
   counted_one : (l : Label) (answer : Stepped PortView WorldView) (p' : PortView) (w w' : WorldView) → IsProper l
-      → Tells (plain_theory nodes) leaf l answer p w p' w' → (q : ℕ)
+      → Tells (plain_theory nodes) stamp cause leaf l answer p w p' w' → (q : ℕ)
       → slice_index p'.put_counts q ≡ length (values_put q (events ls)) + length (values_put q (events (l ∷ [])))
   counted_one (Learns g o (event.Joined k v)) answer p' w w' proper h q = unchanged p'.put_counts q (ap (λ (r : PortView). r.put_counts) h.1)
   counted_one (Learns g o (event.Awaited k)) answer p' w w' proper h q = unchanged p'.put_counts q (ap (λ (r : PortView). r.put_counts) h.1)
@@ -95,41 +102,41 @@ module _ (nodes : List Node) (leaf : Option Term) (f : ℕ) (ls : List Label) (p
   counted_one _ answer p' w w' proper h q = unchanged p'.put_counts q (ap (λ (r : PortView). r.put_counts) h.0)
 
   pub counts_after : (l : Label) (answer : Stepped PortView WorldView) (p' : PortView) (w w' : WorldView) → IsProper l
-      → Tells (plain_theory nodes) leaf l answer p w p' w' → (q : ℕ)
+      → Tells (plain_theory nodes) stamp cause leaf l answer p w p' w' → (q : ℕ)
       → slice_index p'.put_counts q ≡ length (values_put q (events (ls ++ l ∷ [])))
   counts_after l answer p' w w' proper h q = counted_one l answer p' w w' proper h q ∙ sym (puts_counted q ls l)
 
 module _ (s : ScriptView) (w : WorldView) (held : List (Option HeldFiber)) (m : WholeMachine) (stands : StandsFor s w held m) (nodes : List Node)
-    (f : ℕ) (lt : f < total s) (p : PortView) (own : p.number ≡ f) where
+    (f : ℕ) (lt : f < total s) (p : PortView) (own : p.number ≡ f) (stamp cause : ℕ) where
   -- the answers of the world are those of the whole machine
   answers_are_so : (leaf : Option Term) (l : Label) (answer : Stepped PortView WorldView) (p' : PortView) (w' : WorldView)
-      → Tells (plain_theory nodes) leaf l answer p w p' w' → IsAnswered s m f l
-  answers_are_so leaf (Learns g o e) answer p' w' h = sym (stands.outcomes g) ∙ sym h.0
-  answers_are_so leaf (Shows event.Seen) answer p' w' h = sym (stands.requested f lt) ∙ sym (rw own at h.0)
+      → Tells (plain_theory nodes) stamp cause leaf l answer p w p' w' → IsAnswered s m f l
+  answers_are_so leaf (Learns g o e) answer p' w' h = sym (stands.outcomes g) ∙ h.0
+  answers_are_so leaf (Shows event.Seen) answer p' w' h = sym (stands.requested f lt) ∙ rw own at h.0
   answers_are_so leaf (Shows (event.Put q n)) answer p' w' h = sym (room_is s m w.queues stands.capacities stands.queues q) ∙ h.0
-  answers_are_so leaf (Shows (event.Got q n)) answer p' w' h = ap front (sym (stands.queues q)) ∙ h.0
+  answers_are_so leaf (Shows (event.Got q n)) answer p' w' h = ap front (sym (stands.queues q)) ∙ front_is n cause (queue_at w.queues q).items h.0
   answers_are_so leaf (Shows (event.Refused q)) answer p' w' h = sym (room_is s m w.queues stands.capacities stands.queues q) ∙ h.0
-  answers_are_so leaf (Shows (event.Empty q)) answer p' w' h = sym (stands.queues q) ∙ h.0
+  answers_are_so leaf (Shows (event.Empty q)) answer p' w' h = sym (stands.queues q) ∙ ap elements_of h.0
   answers_are_so leaf _ answer p' w' h = tt
 
   -- a request that is there is seen, where a look is due
   looks_are_so : (due : Bool) (l : Label) → LooksBefore plain_calls due l p w → due ≡ true → m.requested f ≡ true → l ≡ Shows event.Seen
   looks_are_so true (Shows event.Seen) h due asked = refl
-  looks_are_so true l h due asked = absurd (let e : true ≡ false = sym asked ∙ sym (stands.requested f lt) ∙ sym (rw own at h.0) in cc)
+  looks_are_so true l h due asked = absurd (let e : true ≡ false = sym asked ∙ sym (stands.requested f lt) ∙ rw own at h.0 in cc)
   looks_are_so false l h due asked = absurd cc
 
   -- the left fiber of `first` is asked before the right one
   left_is_so : (l : Label) (leaf : Option Term) → PeeksLeft plain_calls l leaf p w → LooksLeftFirst m l leaf
-  left_is_so (Learns g o (event.First (suc n))) (Some (First (Number h) k)) e = sym (stands.outcomes h) ∙ sym e.0
+  left_is_so (Learns g o (event.First (suc n))) (Some (First (Number h) k)) e = sym (stands.outcomes h) ∙ e.0
   left_is_so _ leaf e = tt
 
 module _ (s : ScriptView) (w : WorldView) (held : List (Option HeldFiber)) (m : WholeMachine) (stands : StandsFor s w held m) (kept : IsKept s m)
     (nodes : List Node) (f : ℕ) (x : StartedFiber) (l : Label) (d : Counts) (q : Progress) (at : m.fibers f ≡ Some x)
-    (st : Step x.counts x.progress l d q) (answer : Stepped PortView WorldView) (p p' : PortView) (w' : WorldView) (own : p.number ≡ f)
+    (st : Step x.counts x.progress l d q) (stamp cause : ℕ) (answer : Stepped PortView WorldView) (p p' : PortView) (w' : WorldView) (own : p.number ≡ f)
     (counted : (r : ℕ) → slice_index p.put_counts r ≡ length (values_put r (events x.labels)))
-    (calls : Calls (plain_theory nodes) (looks_first x.counts.known x.progress) (leaf_at x.progress) l answer p w p' w') where
+    (calls : Calls (plain_theory nodes) stamp cause (looks_first x.counts.known x.progress) (leaf_at x.progress) l answer p w p' w') where
   answered : IsAnswered s m f l
-  answered = answers_are_so s w held m stands nodes f (kept.ranges.started_below f x at) p own (leaf_at x.progress) l answer p' w' calls.told
+  answered = answers_are_so s w held m stands nodes f (kept.ranges.started_below f x at) p own stamp cause (leaf_at x.progress) l answer p' w' calls.told
 
   pub steps_so : FiberSteps s m f l (moved m f x l d q)
   steps_so =
@@ -141,7 +148,7 @@ module _ (s : ScriptView) (w : WorldView) (held : List (Option HeldFiber)) (m : 
         progress = q;
         step = st;
         answered = answered;
-        seen_first = looks_are_so s w held m stands nodes f lt p own (looks_first x.counts.known x.progress) l calls.looked;
+        seen_first = looks_are_so s w held m stands nodes f lt p own stamp cause (looks_first x.counts.known x.progress) l calls.looked;
         after = refl;
       }
 
@@ -152,10 +159,10 @@ module _ (s : ScriptView) (w : WorldView) (held : List (Option HeldFiber)) (m : 
       record {
         can = steps_can s m f l (moved m f x l d q) steps_so;
         steps = steps_so;
-        left_first = left_is_so s w held m stands nodes f lt p own l (leaf_at x.progress) calls.left_first;
+        left_first = left_is_so s w held m stands nodes f lt p own stamp cause l (leaf_at x.progress) calls.left_first;
       }
 
   pub stands_so : StandsFor s w' (held_after f x l d q held) (moved m f x l d q)
   stands_so =
-      rw (world_is nodes (leaf_at x.progress) f x.labels p own counted l answer p' w w' calls.told)
-      (stands_after s w held m stands kept f x d q at l st answered)
+      rw (world_is nodes stamp cause (leaf_at x.progress) f x.labels p own counted l answer p' w w' calls.told)
+      (stands_after s w held m stands kept f x d q at stamp l st answered)

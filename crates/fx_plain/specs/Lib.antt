@@ -1,5 +1,7 @@
+pub mod MachineStamps
 pub mod WholeMachine
 pub mod SettledRun
+pub mod StampedList
 pub mod Chosen
 pub mod Waits
 pub mod NumberSet

@@ -12,11 +12,10 @@ use Rattle.fx_fiber.specs.Theory.{Theory}
 use Rattle.fx_model.specs.Origin.{main_begin_of}
 use Rattle.fx_model.specs.Row.{Range}
 use Rattle.fx_model.specs.declared.source.Source.{Source}
-use Rattle.fx_plain.specs.WholeMachine.{front}
-use Rattle.fx_plain.specs.PlainQueue.{queue_at, have_room}
+use Rattle.fx_plain.specs.PlainQueue.{queue_at, have_room, IsFront}
 use Rattle.fx_plain.specs.PutCounts.{one_more_put}
-use Rattle.fx_plain.specs.World.{WorldView, is_requested_in, outcome_in, after_request, after_request_from_outside, after_start, after_end, after_put}
-use Rattle.fx_plain.specs.World.{after_take}
+use Rattle.fx_plain.specs.World.{WorldView, is_requested_in, asked_in, outcome_in, ended_in, after_request, after_request_from_outside, after_start}
+use Rattle.fx_plain.specs.World.{after_end, after_put, after_take}
 
 -- a port: its fiber's number, what that began with, the numbers that it has left, how many elements it has put into each queue, and whether its end was
 -- told
@@ -40,34 +39,37 @@ facts_of = λ p. record {
 abbrev pub new_port : ℕ → Begin → PortView
 new_port f begin = record { number = f; beginning = begin; range = first_range begin; put_counts = []; has_finished = false }
 
--- the element that it puts next into queue q
-abbrev pub next_of : PortView → ℕ → ℕ → Item
-next_of p q n = record { fiber = p.number; nth = slice_index p.put_counts q; value = n }
+-- the element that it puts next into queue q, by an event with this stamp
+abbrev pub next_of : PortView → ℕ → ℕ → ℕ → Item
+next_of p q n stamp = record { fiber = p.number; nth = slice_index p.put_counts q; value = n; stamp = stamp }
 
--- the calls of these ports, over this world
-abbrev pub LooksIn : PortView → WorldView → Bool → PortView → WorldView → Type 0
-LooksIn p w found p' w' = (found ≡ is_requested_in w p.number) × (p' ≡ p) × (w' ≡ w)
+-- the calls of these ports, over this world: a request that is seen has the greatest stamp of those so far, an end that is learnt its own, and an element that
+-- is taken that of its put
+abbrev pub LooksIn : PortView → WorldView → Option ℕ → PortView → WorldView → Type 0
+LooksIn p w (Some stamp) p' w' = (is_requested_in w p.number ≡ true) × (p' ≡ p) × (w' ≡ w) × (asked_in w p.number ≡ stamp)
+LooksIn p w None p' w' = (is_requested_in w p.number ≡ false) × (p' ≡ p) × (w' ≡ w)
 
-abbrev pub RequestsIn : PortView → WorldView → ℕ → PortView → WorldView → Type 0
-RequestsIn p w g p' w' = (p' ≡ p) × (w' ≡ after_request g w)
+abbrev pub RequestsIn : PortView → WorldView → ℕ → ℕ → PortView → WorldView → Type 0
+RequestsIn p w g stamp p' w' = (p' ≡ p) × (w' ≡ after_request g stamp w)
 
-abbrev pub PeeksIn : PortView → WorldView → ℕ → Option Outcome → PortView → WorldView → Type 0
-PeeksIn p w g answer p' w' = (answer ≡ outcome_in w g) × (p' ≡ p) × (w' ≡ w)
+abbrev pub PeeksIn : PortView → WorldView → ℕ → Option (Outcome × ℕ) → PortView → WorldView → Type 0
+PeeksIn p w g (Some end) p' w' = (outcome_in w g ≡ Some end.0) × (p' ≡ p) × (w' ≡ w) × (ended_in w g ≡ end.1)
+PeeksIn p w g None p' w' = (outcome_in w g ≡ None) × (p' ≡ p) × (w' ≡ w)
 
-abbrev pub OffersIn : PortView → WorldView → ℕ → ℕ → Offered → PortView → WorldView → Type 0
-OffersIn p w q n Done p' w' =
-    (have_room w.queues q ≡ true) × (p' ≡ record p { put_counts = one_more_put q p.put_counts }) × (w' ≡ after_put q (next_of p q n) w)
-OffersIn p w q n Full p' w' = (have_room w.queues q ≡ false) × (p' ≡ p) × (w' ≡ w)
+abbrev pub OffersIn : PortView → WorldView → ℕ → ℕ → ℕ → Offered → PortView → WorldView → Type 0
+OffersIn p w q n stamp Done p' w' =
+    (have_room w.queues q ≡ true) × (p' ≡ record p { put_counts = one_more_put q p.put_counts }) × (w' ≡ after_put q (next_of p q n stamp) w)
+OffersIn p w q n stamp Full p' w' = (have_room w.queues q ≡ false) × (p' ≡ p) × (w' ≡ w)
 
-abbrev pub TakesIn : PortView → WorldView → ℕ → Option ℕ → PortView → WorldView → Type 0
-TakesIn p w q (Some n) p' w' = (front (queue_at w.queues q).items ≡ Some n) × (p' ≡ p) × (w' ≡ after_take q w)
+abbrev pub TakesIn : PortView → WorldView → ℕ → Option (ℕ × ℕ) → PortView → WorldView → Type 0
+TakesIn p w q (Some element) p' w' = IsFront element.0 element.1 (queue_at w.queues q).items × (p' ≡ p) × (w' ≡ after_take q w)
 TakesIn p w q None p' w' = ((queue_at w.queues q).items ≡ []) × (p' ≡ p) × (w' ≡ w)
 
 abbrev pub StartsIn : PortView → WorldView → ℕ → Begin → PortView → PortView → WorldView → Type 0
 StartsIn p w g begin child p' w' = (child ≡ new_port g begin) × (p' ≡ record p { range = range_after begin p.range }) × (w' ≡ after_start g w)
 
-abbrev pub FinishesIn : PortView → WorldView → Outcome → PortView → WorldView → Type 0
-FinishesIn p w o p' w' = (p' ≡ record p { has_finished = true }) × (w' ≡ after_end p.number o w)
+abbrev pub FinishesIn : PortView → WorldView → Outcome → ℕ → PortView → WorldView → Type 0
+FinishesIn p w o stamp p' w' = (p' ≡ record p { has_finished = true }) × (w' ≡ after_end p.number o stamp w)
 
 abbrev pub OutsidesIn : PortView → WorldView → ℕ → PortView → WorldView → Type 0
 OutsidesIn p w g p' w' = (p' ≡ p) × (w' ≡ after_request_from_outside g w)

@@ -1,5 +1,5 @@
 -- All fibers of a script as code holds them, and the whole machine that they and their world stand for.
-use Rattle.std.specs.Prelude.{◌≡◌, ℕ, ◌<◌, false, if◌then◌else◌, Option, Some, None, option_map, option_and_then, List, length, map, slice_index}
+use Rattle.std.specs.Prelude.{◌≡◌, ℕ, ◌<◌, false, if◌then◌else◌, Option, Some, None, option_map, option_and_then, List, [], length, map, slice_index}
 use Rattle.std.specs.Prelude.{slice_index_or}
 use Rattle.std.specs.List.{filter_map, sum_by}
 use Rattle.fx_term.specs.declared.node.Node.{Node}
@@ -17,11 +17,12 @@ use Rattle.fx_text.specs.declared.pick.Pick.{Pick}
 use Rattle.fx_report.specs.declared.wait.Wait.{Wait}
 use Rattle.fx_plain.specs.Started.{StartedView, reported, wait_of}
 use Rattle.fx_plain.specs.declared.plain_machine.PlainMachine.{PlainMachine}
+use Rattle.fx_plain.specs.MachineStamps.{MachineStamps}
 use Rattle.fx_plain.specs.WholeMachine.{WholeMachine, Move, can_step_in, IsWholeMachineRun}
 use Rattle.fx_plain.specs.Chosen.{ChosenStep}
 use Rattle.fx_plain.specs.declared.class.Class.{Class}
 use Rattle.fx_plain.specs.ClassSets.{is_able}
-use Rattle.fx_plain.specs.World.{WorldView, HeldFiber, is_ready_in, StandsFor}
+use Rattle.fx_plain.specs.World.{WorldView, HeldFiber, is_ready_in, StandsFor, HasStamps}
 use Rattle.fx_plain.specs.PlainCalls.{PortView, plain_theory}
 use Rattle.fx_plain.specs.WorldClasses.{TellsWhoSteps}
 use Rattle.fx_plain.specs.OnTheWay.{IsOnTheWay}
@@ -62,6 +63,11 @@ module _ {J : Type 0} (nodes : List Node) where
   IsNumbered f None = Unit {0}
   IsNumbered f (Some x) = (x.fiber.port.number ≡ f) × ((q : ℕ) → slice_index x.fiber.port.put_counts q ≡ length (values_put q x.fiber.trace))
 
+  -- these are the stamp that the fiber with this number began with, and those of its trace; one that has not started has none
+  abbrev pub HasStampsAt : MachineStamps → ℕ → Option (StartedView J) → Type 0
+  HasStampsAt stamps f None = stamps.trace f ≡ []
+  HasStampsAt stamps f (Some x) = (x.fiber.port.beginning.stamp ≡ stamps.began f) × (x.fiber.stamps ≡ stamps.trace f)
+
   -- a fiber has started at the place, and has not ended
   abbrev pub IsGoingAt : Option (StartedView J) → Type 0
   IsGoingAt None = ⊥
@@ -96,6 +102,8 @@ module _ {J : Type 0} (nodes : List Node) where
     pub stands : StandsFor s p.world (all_held p) m
     pub tells : TellsWhoSteps s p.world m
     pub numbered : (f : ℕ) → IsNumbered f (slice_index_or p.fibers.items f None)
+    pub stamps : HasStamps s p.world m.stamps
+    pub stamped : (f : ℕ) → HasStampsAt m.stamps f (slice_index_or p.fibers.items f None)
 
   -- it stands for some
   abbrev pub StandsForSome : PlainMachine J → Type 0

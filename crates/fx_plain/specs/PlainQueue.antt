@@ -1,5 +1,5 @@
 -- A bounded queue on one thread.
-use Rattle.std.specs.Prelude.{ℕ, Bool, nat_lt, Option, Some, None, List, [], ◌∷◌, ◌++◌, length, drop, slice_index_or}
+use Rattle.std.specs.Prelude.{◌≡◌, ℕ, Bool, nat_lt, Option, Some, None, List, [], ◌∷◌, ◌++◌, length, drop, map, slice_index_or}
 use Rattle.fx_term.specs.declared.item.Item.{Item}
 
 -- how many elements it has room for, and those that it has, from front to back
@@ -39,6 +39,15 @@ front_of q = first q.items
     first : List Item → Option Item
     first [] = None
     first (x ∷ xs) = Some x
+
+-- the element at the front of these has this value and that stamp
+abbrev pub IsFront : ℕ → ℕ → List Item → Type 0
+IsFront value stamp [] = ⊥
+IsFront value stamp (x ∷ xs) = (x.value ≡ value) × (x.stamp ≡ stamp)
+
+-- the stamps of the puts of these elements
+abbrev pub put_stamps : List Item → List ℕ
+put_stamps xs = map (λ (x : Item). x.stamp) xs
 
 -- the queue with this element at the back
 abbrev pub with_item : Item → QueueView → QueueView

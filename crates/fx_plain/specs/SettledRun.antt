@@ -8,15 +8,17 @@ use Rattle.fx_model.specs.Run.{events}
 use Rattle.fx_model.specs.Report.{FiberReportView, ReportView, fiber_in, left_in}
 use Rattle.fx_plain.specs.WholeMachine.{StartedFiber, WholeMachine, Move, IsSettled, IsWholeMachineRun}
 
--- what is reported of fiber f
-abbrev pub report_of_fiber : ℕ → Option StartedFiber → Option FiberReportView
-report_of_fiber f None = None
-report_of_fiber f (Some x) = Some (record { id = f; parent = x.parent; has_ended = has_ended x.progress; trace = events x.labels })
+-- what is reported of fiber f, whose trace has these stamps
+abbrev pub report_of_fiber : ℕ → List ℕ → Option StartedFiber → Option FiberReportView
+report_of_fiber f stamps None = None
+report_of_fiber f stamps (Some x) =
+    Some (record { id = f; parent = x.parent; has_ended = has_ended x.progress; trace = events x.labels; stamps = stamps })
 
--- the report of a whole machine: each fiber that has started, and no other, with its trace; what is left; the requests from outside; and nobody late
+-- the report of a whole machine: each fiber that has started, and no other, with its trace and its stamps; what is left; the requests from outside; and nobody
+-- late
 pub record IsReportOf (s : ScriptView) (m : WholeMachine) (r : ReportView) : Type 0 where
   pub ascending : IsStrictlyIncreasing (map (λ (x : FiberReportView). x.id) r.fibers)
-  pub fibers : (f : ℕ) → fiber_in r f ≡ report_of_fiber f (m.fibers f)
+  pub fibers : (f : ℕ) → fiber_in r f ≡ report_of_fiber f (m.stamps.trace f) (m.fibers f)
   pub left_by_queue : length r.left ≡ length s.capacities
   pub left : (q : ℕ) → left_in r q ≡ m.queues q
   pub outside_ascending : IsStrictlyIncreasing r.outside

@@ -1,6 +1,7 @@
 -- A fiber that has started: who started it, and what it is, also where only its report is kept.
 use Rattle.std.specs.Prelude.{◌≡◌, ℕ, true, Option, option_map, option_and_then, List}
 use Rattle.fx_term.specs.declared.node.Node.{Node}
+use Rattle.fx_term.specs.Stamped.{events_in, stamps_in}
 use Rattle.fx_model.specs.Step.{has_ended, leaf_at}
 use Rattle.fx_model.specs.Waiting.{wait_at}
 use Rattle.fx_model.specs.Report.{FiberReportView}
@@ -24,7 +25,8 @@ fiber_of (Over kept) = kept.was.value
 -- what is kept of a fiber is what is told of it, and it has ended
 pub record IsKeptOf {J : Type 0} (nodes : List Node) (kept : Ended J) (fiber : FiberView PortView) : Type 0 where
   pub id : kept.id ≡ fiber.port.number
-  pub trace : kept.trace.items ≡ fiber.trace
+  pub trace : events_in kept.trace.items ≡ fiber.trace
+  pub stamps : stamps_in kept.trace.items ≡ fiber.stamps
   pub over : has_ended (progress nodes fiber) ≡ true
 
 -- a stage that keeps only what is told keeps that
@@ -40,6 +42,7 @@ module _ {J : Type 0} (nodes : List Node) where
     parent = x.parent;
     has_ended = has_ended (progress nodes x.fiber);
     trace = x.fiber.trace;
+    stamps = x.fiber.stamps;
   }
 
   -- that it waits, if its leaf is one that can wait

@@ -3,7 +3,7 @@ use Rattle.std.specs.Prelude.{◌≡◌, ℕ, ◌+◌, ◌<◌, ◌≤◌, nat_l
 use Rattle.std.specs.Prelude.{slice_index}
 use Rattle.fx_term.specs.declared.outcome.Outcome.{Outcome}
 use Rattle.fx_term.specs.declared.event.Event.TheVariants as event
-use Rattle.fx_term.specs.declared.item.Item.{Item}
+use Rattle.fx_term.specs.Element.{Element}
 use Rattle.fx_term.specs.Maps.{with_at}
 use Rattle.fx_term.specs.Script.{ScriptView, total}
 use Rattle.fx_term.specs.Queue.{values_put}
@@ -14,6 +14,7 @@ use Rattle.fx_model.specs.Run.{first_counts, events}
 use Rattle.fx_model.specs.Origin.{main_origin}
 use Rattle.fx_model.specs.Outside.{Outside, outcome_at, can_step}
 use Rattle.fx_model.specs.NeedLeft.{TakesItsRange}
+use Rattle.fx_plain.specs.MachineStamps.{MachineStamps, no_stamps, stamps_after}
 
 -- a fiber that has started: who started it, what it began with, and the labels of its steps; what it keeps beside its term, and how far it is
 pub record StartedFiber : Type 0 where
@@ -23,12 +24,14 @@ pub record StartedFiber : Type 0 where
   pub counts : Counts
   pub progress : Progress
 
--- the fibers by number, none where it has not started; which are requested, and which of these from outside; and the queues by number, from front to back
+-- the fibers by number, none where it has not started; which are requested, and which of these from outside; the queues by number, from front to back; and the
+-- stamps
 pub record WholeMachine : Type 0 where
   pub fibers : ℕ → Option StartedFiber
   pub requested : ℕ → Bool
   pub from_outside : ℕ → Bool
-  pub queues : ℕ → List Item
+  pub queues : ℕ → List Element
+  pub stamps : MachineStamps
 
 -- a fiber before its first step
 abbrev pub begun : Option ℕ → Origin → StartedFiber
@@ -41,6 +44,7 @@ opening s = record {
   requested = λ f. false;
   from_outside = λ f. false;
   queues = λ q. [];
+  stamps = no_stamps;
 }
 
 abbrev pub outcome_of_fiber : Option StartedFiber → Option Outcome
@@ -74,7 +78,7 @@ can_step_in s m f = can_step_fiber (outside_of s m) f (m.fibers f)
 abbrev pub IsSettled : ScriptView → WholeMachine → Type 0
 IsSettled s m = (f : ℕ) → can_step_in s m f ≡ false
 
-abbrev pub front : List Item → Option ℕ
+abbrev pub front : List Element → Option ℕ
 front [] = None
 front (x ∷ xs) = Some x.value
 
@@ -98,10 +102,10 @@ requested_after (Shows (event.Request g)) requested = with_at g true requested
 requested_after _ requested = requested
 
 -- the element that fiber f puts next into queue q, after steps with these labels
-abbrev pub next_item : ℕ → List Label → ℕ → ℕ → Item
+abbrev pub next_item : ℕ → List Label → ℕ → ℕ → Element
 next_item f ls q n = record { fiber = f; nth = length (values_put q (events ls)); value = n }
 
-abbrev pub queues_after : ℕ → List Label → Label → (ℕ → List Item) → ℕ → List Item
+abbrev pub queues_after : ℕ → List Label → Label → (ℕ → List Element) → ℕ → List Element
 queues_after f ls (Shows (event.Put q n)) queues = with_at q (queues q ++ next_item f ls q n ∷ []) queues
 queues_after f ls (Shows (event.Got q n)) queues = with_at q (drop 1 (queues q)) queues
 queues_after f ls _ queues = queues
@@ -117,6 +121,7 @@ moved m f x l c p = record {
   requested = requested_after l m.requested;
   from_outside = m.from_outside;
   queues = queues_after f x.labels l m.queues;
+  stamps = stamps_after m.stamps f l;
 }
 
 -- fiber f makes a step of its own; where a look comes first, a request is seen before any other step

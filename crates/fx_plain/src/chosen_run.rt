@@ -4,7 +4,9 @@ ghost use Rattle.fx_model.specs.LawfulReport.{IsLawfulReport};
 ghost use Rattle.fx_model.specs.Happenings.{IsLawfulInOneList};
 ghost use Rattle.fx_model.specs.Headline.{KeepsWhatIsPromised};
 ghost use Rattle.fx_text.specs.View.{meaning};
+ghost use Rattle.fx_model.specs.ReportStamps.{IsStampedReport};
 ghost use Rattle.fx_plain.specs.Chosen.{IsReplay};
+ghost use Rattle.fx_plain.specs.StampedList.{IsStampedInOneList};
 ghost use Rattle.fx_plain.specs.Waits.{IsReplayWithWaits};
 ghost use Rattle.fx_report.specs.Script.{script_of};
 ghost use Rattle.fx_report.specs.Text.{queue_names, IsWritable};
@@ -80,6 +82,10 @@ pub fn replay(alloc: Global, script: &Script, picks: &[Pick]) -> Result<Report, 
         (λ report. IsLawfulReport (script_of (meaning script.now)) (λ f. true) report) }
     ensures causes { IfOk result
         (λ report. IsLawfulInOneList (script_of (meaning script.now)) (λ f. true) report) }
+    ensures in_list { IfOk result
+        (λ report. IsStampedInOneList (script_of (meaning script.now)) (λ f. true) report) }
+    ensures stamped { IfOk result
+        (λ report. IsStampedReport (script_of (meaning script.now)) (λ f. true) report) }
     ensures promised { IfOk result
         (λ report. KeepsWhatIsPromised (script_of (meaning script.now)) (λ f. true) report) }
     ensures writable { script.now.code.queues ≤ length script.now.queues.items

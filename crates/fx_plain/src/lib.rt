@@ -9,6 +9,7 @@
 //! | fibers | by number: none where that one has not started; else who started it, its origin, and how far its run is |
 //! | requests | by number: whether the fiber's cancellation was requested, and whether from outside |
 //! | queues | by number: a list of elements, from front to back |
+//! | stamps | those of all events, and of what the next ones stand on |
 //!
 //! Its rules:
 //!
@@ -44,11 +45,15 @@
 //! who is not ready cannot step. Who is able may still wait: it is asked once, and then noted so.
 //! One that is woken at a queue mostly waits there again soon, so it is moved only once another one is.
 //!
+//! For the stamps it keeps the greatest one of the requests for each fiber, that of each end, and with each
+//! element that of its put. A request from outside has no stamp: a fiber that sees it and none of another
+//! fiber's goes by 0.
+//!
 //! A fiber that has ended gives back all memory but that of its trace, and the next one that starts may
 //! have it.
 //!
 //! The report of that run has each fiber that started, ascending by number, with its parent, whether it
-//! has ended, and its trace; what is left in each queue; and which numbers were requested from outside.
+//! has ended, and its trace with the stamps; what is left in each queue; and which numbers were requested from outside.
 //! Beside it [`replay_to_halt`] says what each fiber waits for that has not ended.
 //!
 //! What never happens: two fibers of one number; a start that finds its number taken, or no room for

@@ -60,20 +60,30 @@ impl<J: CodeBrand> Port for PlainPort<J> {
 
     ghost theory = { plain_theory J.nodes };
 
-    fn look(&mut self, world: &mut PlainWorld) -> bool {
-        world.is_requested(self.id)
+    fn look(&mut self, world: &mut PlainWorld) -> Option<u64> {
+        if !world.is_requested(self.id) {
+            return None;
+        }
+        Some(world.asked(self.id))
     }
 
-    fn request(&mut self, world: &mut PlainWorld, id: u32) {
-        world.request(id);
+    fn request(&mut self, world: &mut PlainWorld, id: u32, stamp: u64) {
+        world.request(id, stamp);
     }
 
-    fn peek(&mut self, world: &mut PlainWorld, id: u32) -> Option<Outcome> {
-        world.outcome(id)
+    fn peek(&mut self, world: &mut PlainWorld, id: u32) -> Option<(Outcome, u64)> {
+        let outcome = world.outcome(id)?;
+        Some((outcome, world.ended(id)))
     }
 
     #[inline(always)]
-    fn offer(&mut self, world: &mut PlainWorld, queue: u8, value: u64) -> Result<Offered, Memory> {
+    fn offer(
+        &mut self,
+        world: &mut PlainWorld,
+        queue: u8,
+        value: u64,
+        stamp: u64,
+    ) -> Result<Offered, Memory> {
         if !world.has_room(queue) {
             return Ok(Offered::Full);
         }
@@ -83,6 +93,7 @@ impl<J: CodeBrand> Port for PlainPort<J> {
             fiber: self.id,
             nth: self.puts.count(queue),
             value,
+            stamp,
         };
         world.put(queue, item)?;
         self.puts.add(queue);
@@ -90,8 +101,9 @@ impl<J: CodeBrand> Port for PlainPort<J> {
     }
 
     #[inline(always)]
-    fn take(&mut self, world: &mut PlainWorld, queue: u8) -> Option<u64> {
-        world.take(queue)
+    fn take(&mut self, world: &mut PlainWorld, queue: u8) -> Option<(u64, u64)> {
+        let item = world.take(queue)?;
+        Some((item.value, item.stamp))
     }
 
     fn start(
@@ -105,9 +117,9 @@ impl<J: CodeBrand> Port for PlainPort<J> {
         Ok(PlainPort::new(self.puts.allocator(), id, begin))
     }
 
-    fn finish(&mut self, world: &mut PlainWorld, outcome: Outcome) {
+    fn finish(&mut self, world: &mut PlainWorld, outcome: Outcome, stamp: u64) {
         self.has_finished = Snapshot::of(&true);
-        world.finish(self.id, outcome);
+        world.finish(self.id, outcome, stamp);
     }
 
     fn outside(&mut self, world: &mut PlainWorld, id: u32) {

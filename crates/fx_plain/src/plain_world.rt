@@ -1,6 +1,6 @@
 //! What the fibers of one thread share.
 ghost use Rattle.std.specs.Prelude.{◌≡◌, ◌<◌, ◌≤◌, List, Some, true, false, IfOk, IfSome, IfNone, OnOk, OnErr};
-ghost use Rattle.std.specs.Prelude.{option_map, length, map, slice_index_or, slice_set};
+ghost use Rattle.std.specs.Prelude.{length, map, slice_index_or, slice_set};
 ghost use Rattle.std.specs.List.{filter, range_with_len};
 ghost use Rattle.fx_plain.specs.declared.class.Class.TheVariants.{Able, Waits};
 ghost use Rattle.fx_plain.specs.NumberSet.{IsLeastOf};
@@ -13,8 +13,8 @@ ghost use Rattle.fx_model.specs.Origin.{main_begin_of};
 ghost use Rattle.fx_text.specs.View.{meaning};
 ghost use Rattle.fx_plain.specs.PlainCalls.{new_port};
 ghost use Rattle.fx_report.specs.Script.{script_of};
-ghost use Rattle.fx_plain.specs.World.{is_requested_in, outcome_in, is_ready_in, after_request};
-ghost use Rattle.fx_plain.specs.World.{after_request_from_outside, after_start, after_end};
+ghost use Rattle.fx_plain.specs.World.{is_requested_in, asked_in, outcome_in, ended_in, is_ready_in, after_request};
+ghost use Rattle.fx_plain.specs.World.{with_mark, after_request_from_outside, after_start, after_end};
 ghost use Rattle.fx_plain.specs.World.{after_put, after_take, opening_world};
 
 use crate::class::Class;
@@ -29,15 +29,19 @@ use fx_text::{QueueDecl, Script};
 use std::alloc::Global;
 use std::marker::Model;
 
-/// By fiber number: who is requested, who of these from outside, how each ended, and the class of each;
-/// and the queues by their numbers. A number that is not one of the script's is not requested, and has no
-/// outcome; a queue that there is not has neither room nor an element. No call but the first and a put
-/// takes memory.
+/// By fiber number: who is requested, who of these from outside, the greatest stamp of the requests that
+/// fibers made, how each ended, the stamp of that, and the class of each; and the queues by their numbers.
+/// A number that is not one of the script's is not requested, and has no outcome; a queue that there is
+/// not has neither room nor an element. No call but the first and a put takes memory.
 #[derive(Drop)]
 pub struct PlainWorld {
     requested: Vec<bool>,
     from_outside: Vec<bool>,
+    // 0 where no fiber has requested it
+    asked: Vec<u64>,
     outcomes: Vec<Option<Outcome>>,
+    // 0 where it has not ended
+    ended: Vec<u64>,
     classes: WokenClasses,
     queues: Vec<PlainQueue>,
     // the least fiber that is ready, where it is known
@@ -100,14 +104,18 @@ impl Model for PlainWorld {
     ghost view = { λ w. record {
       requested = w.requested.items;
       from_outside = w.from_outside.items;
+      asked = w.asked.items;
       outcomes = w.outcomes.items;
+      ended = w.ended.items;
       classes = w.classes.of;
       queues = w.queues.items;
     } };
 
     ghost invariant = { λ w. (length w.requested.items ≡ length w.classes.of)
         × (length w.from_outside.items ≡ length w.classes.of)
+        × (length w.asked.items ≡ length w.classes.of)
         × (length w.outcomes.items ≡ length w.classes.of)
+        × (length w.ended.items ≡ length w.classes.of)
         × (length w.queues.items ≡ w.classes.queues)
         × IfSome w.found (λ n. IsLeastOf (λ f. is_ready (have_room w.queues.items)
         (have_element w.queues.items) (class_at w.classes.of f)) (Some n)) };
@@ -132,7 +140,9 @@ impl PlainWorld {
         Ok(PlainWorld {
             requested: vec![in alloc; false; long]?,
             from_outside: vec![in alloc; false; long]?,
+            asked: vec![in alloc; 0; long]?,
             outcomes: vec![in alloc; None; long]?,
+            ended: vec![in alloc; 0; long]?,
             classes,
             queues,
             found: None,
@@ -219,18 +229,17 @@ impl PlainWorld {
         Ok(())
     }
 
-    /// Takes the front of the queue, if it has one, and answers its value.
+    /// Takes the front of the queue, if it has one.
     #[inline(always)]
-    pub fn take(&mut self, queue: u8) -> Option<u64>
-        ensures value { result
-            ≡ option_map (λ item. item.value) (front_of (queue_at self.old.queues queue)) }
+    pub fn take(&mut self, queue: u8) -> Option<Item>
+        ensures front { result ≡ front_of (queue_at self.old.queues queue) }
         ensures world { self.new ≡ after_take queue self.old }
         ensures none { IfNone result (self.new ≡ self.old) }
     {
         let own = self.queues.get_mut(queue as usize)?;
         let item = own.take()?;
         self.found = found_after(self.found, &self.classes, queue, own);
-        Some(item.value)
+        Some(item)
     }
 
     /// What is left in each queue, from front to back.
@@ -277,6 +286,13 @@ impl PlainWorld {
         self.requested.get(fiber as usize).copied().unwrap_or(false)
     }
 
+    /// The greatest stamp of the requests for the fiber that fibers made; 0 where there is none.
+    pub fn asked(&self, fiber: u32) -> u64
+        ensures { result ≡ asked_in self.now fiber }
+    {
+        self.asked.get(fiber as usize).copied().unwrap_or(0)
+    }
+
     /// How the fiber ended, if it has.
     pub fn outcome(&self, fiber: u32) -> Option<Outcome>
         ensures { result ≡ outcome_in self.now fiber }
@@ -284,9 +300,16 @@ impl PlainWorld {
         self.outcomes.get(fiber as usize).copied().flatten()
     }
 
-    /// Requests the fiber.
-    pub fn request(&mut self, fiber: u32)
-        ensures { self.new ≡ after_request fiber self.old }
+    /// The stamp of the fiber's end; 0 where it has not ended.
+    pub fn ended(&self, fiber: u32) -> u64
+        ensures { result ≡ ended_in self.now fiber }
+    {
+        self.ended.get(fiber as usize).copied().unwrap_or(0)
+    }
+
+    /// The fiber is requested.
+    fn mark(&mut self, fiber: u32)
+        ensures { self.new ≡ with_mark fiber self.old }
     {
         if let Some(requested) = self.requested.get_mut(fiber as usize) {
             *requested = true;
@@ -295,14 +318,24 @@ impl PlainWorld {
         self.classes.request(fiber);
     }
 
-    /// Requests the fiber from outside.
+    /// Requests the fiber, by an event with this stamp.
+    pub fn request(&mut self, fiber: u32, stamp: u64)
+        ensures { self.new ≡ after_request fiber stamp self.old }
+    {
+        if let Some(asked) = self.asked.get_mut(fiber as usize) {
+            *asked = stamp.max(*asked);
+        }
+        self.mark(fiber);
+    }
+
+    /// Requests the fiber from outside, which has no stamp.
     pub fn request_from_outside(&mut self, fiber: u32)
         ensures { self.new ≡ after_request_from_outside fiber self.old }
     {
         if let Some(from_outside) = self.from_outside.get_mut(fiber as usize) {
             *from_outside = true;
         }
-        self.request(fiber);
+        self.mark(fiber);
     }
 
     /// The fiber starts.
@@ -324,10 +357,13 @@ impl PlainWorld {
         }
     }
 
-    /// The fiber ends so.
-    pub fn finish(&mut self, fiber: u32, outcome: Outcome)
-        ensures { self.new ≡ after_end fiber outcome self.old }
+    /// The fiber ends so, by an event with this stamp.
+    pub fn finish(&mut self, fiber: u32, outcome: Outcome, stamp: u64)
+        ensures { self.new ≡ after_end fiber outcome stamp self.old }
     {
+        if let Some(ended) = self.ended.get_mut(fiber as usize) {
+            *ended = stamp;
+        }
         if let Some(own) = self.outcomes.get_mut(fiber as usize) {
             *own = Some(outcome);
         }

@@ -11,7 +11,7 @@ use crate::plain_port::PlainPort;
 use crate::plain_world::PlainWorld;
 use fx_fiber::{Fiber, FiberReport, State, Stepped};
 use fx_report::Wait;
-use fx_term::{Code, CodeBrand, Event, Memory};
+use fx_term::{Code, CodeBrand, Memory, Stamped};
 use std::marker::Model;
 use std::snapshot::Snapshot;
 
@@ -19,7 +19,7 @@ use std::snapshot::Snapshot;
 #[derive(Drop)]
 pub(crate) struct Ended<J: CodeBrand> {
     id: u32,
-    trace: Vec<Event>,
+    trace: Vec<Stamped>,
     was: Snapshot<Fiber<PlainPort<J>>>,
 }
 

@@ -3,18 +3,30 @@ use Outcome::{Canceled, Succeeded};
 use Pick::Step;
 use fx_fiber::Report;
 use fx_plain::replay;
-use fx_term::{Event, Item, Outcome};
+use fx_term::{Event, Item, Outcome, Stamped};
 use fx_text::{Pick, Script, parse};
 use std::alloc::Global;
 use std::process::Abort;
 use std::test::Fail;
 
+/// The events of a trace, and the stamp of each.
+type Told<'a> = (&'a [Event], &'a [u64]);
+
 /// A script's text, a schedule, the trace of each fiber, and what is left in each queue.
 struct Row<'a> {
     script: &'a [u8],
     picks: &'a [Pick],
-    traces: &'a [&'a [Event]],
+    traces: &'a [Told<'a>],
     left: &'a [&'a [Item]],
+}
+
+/// Whether the trace has these events with these stamps.
+fn is_told(trace: &[Stamped], told: Told) -> bool {
+    let (events, stamps) = told;
+    trace.len() == events.len()
+        && trace.len() == stamps.len()
+        && trace.iter().zip(events).all(|(x, &event)| x.event == event)
+        && trace.iter().zip(stamps).all(|(x, &stamp)| x.stamp == stamp)
 }
 
 /// Whether each fiber of the report has its trace, and each queue what is left in it.
@@ -25,7 +37,7 @@ fn tells(report: &Report, row: &Row) -> bool {
             .fibers
             .iter()
             .zip(row.traces)
-            .all(|(fiber, &trace)| fiber.trace.as_slice() == trace)
+            .all(|(fiber, &told)| is_told(&fiber.trace, told))
         && report
             .left
             .iter()
@@ -53,19 +65,25 @@ static REQUESTS: [Row; 2] = [
         script: b"(queue q 1) (main (start h (seq (offer q 4) (never)) (seq (cancel h) (take q))))",
         picks: &[Step(0), Step(1)],
         traces: &[
-            &[
-                Event::Start(1),
-                Event::Request(1),
-                Event::Awaited(1),
-                Event::Got(0, 4),
-                Event::Ended(Succeeded(4)),
-            ],
-            &[
-                Event::Put(0, 4),
-                Event::Seen,
-                Event::Cancelled,
-                Event::Ended(Canceled),
-            ],
+            (
+                &[
+                    Event::Start(1),
+                    Event::Request(1),
+                    Event::Awaited(1),
+                    Event::Got(0, 4),
+                    Event::Ended(Succeeded(4)),
+                ],
+                &[1, 2, 6, 7, 8],
+            ),
+            (
+                &[
+                    Event::Put(0, 4),
+                    Event::Seen,
+                    Event::Cancelled,
+                    Event::Ended(Canceled),
+                ],
+                &[2, 3, 4, 5],
+            ),
         ],
         left: &[&[]],
     },
@@ -73,8 +91,14 @@ static REQUESTS: [Row; 2] = [
         script: b"(queue q 1) (main (start h (seq (offer q 4) (never)) (seq (cancel h) (take q))))",
         picks: &[],
         traces: &[
-            &[Event::Start(1), Event::Request(1), Event::Awaited(1)],
-            &[Event::Seen, Event::Cancelled, Event::Ended(Canceled)],
+            (
+                &[Event::Start(1), Event::Request(1), Event::Awaited(1)],
+                &[1, 2, 6],
+            ),
+            (
+                &[Event::Seen, Event::Cancelled, Event::Ended(Canceled)],
+                &[3, 4, 5],
+            ),
         ],
         left: &[&[]],
     },
@@ -102,19 +126,25 @@ static IN_ORDER: Row = Row {
         Step(1),
     ],
     traces: &[
-        &[
-            Event::Start(1),
-            Event::Put(0, 5),
-            Event::Refused(0),
-            Event::Got(0, 6),
-            Event::Empty(0),
-            Event::Ended(Succeeded(9)),
-        ],
-        &[
-            Event::Put(0, 6),
-            Event::Got(0, 5),
-            Event::Ended(Succeeded(5)),
-        ],
+        (
+            &[
+                Event::Start(1),
+                Event::Put(0, 5),
+                Event::Refused(0),
+                Event::Got(0, 6),
+                Event::Empty(0),
+                Event::Ended(Succeeded(9)),
+            ],
+            &[1, 2, 3, 4, 5, 6],
+        ),
+        (
+            &[
+                Event::Put(0, 6),
+                Event::Got(0, 5),
+                Event::Ended(Succeeded(5)),
+            ],
+            &[2, 3, 4],
+        ),
     ],
     left: &[&[]],
 };
@@ -130,35 +160,41 @@ static LEFT: Row = Row {
         (offer q 7) (offer p 3) (tryoffer p 8) (tryoffer r 9) (trytake r x (pure x) (pure 4)))))",
     picks: &[Step(0), Step(0), Step(1)],
     traces: &[
-        &[
-            Event::Start(1),
-            Event::Put(1, 5),
-            Event::Got(1, 5),
-            Event::Put(1, 7),
-            Event::Put(0, 3),
-            Event::Refused(0),
-            Event::Refused(2),
-            Event::Empty(2),
-            Event::Ended(Succeeded(4)),
-        ],
-        &[Event::Put(1, 6), Event::Ended(Succeeded(0))],
+        (
+            &[
+                Event::Start(1),
+                Event::Put(1, 5),
+                Event::Got(1, 5),
+                Event::Put(1, 7),
+                Event::Put(0, 3),
+                Event::Refused(0),
+                Event::Refused(2),
+                Event::Empty(2),
+                Event::Ended(Succeeded(4)),
+            ],
+            &[1, 2, 3, 4, 5, 6, 7, 8, 9],
+        ),
+        (&[Event::Put(1, 6), Event::Ended(Succeeded(0))], &[2, 3]),
     ],
     left: &[
         &[Item {
             fiber: 0,
             nth: 0,
             value: 3,
+            stamp: 5,
         }],
         &[
             Item {
                 fiber: 1,
                 nth: 0,
                 value: 6,
+                stamp: 2,
             },
             Item {
                 fiber: 0,
                 nth: 1,
                 value: 7,
+                stamp: 4,
             },
         ],
     ],

@@ -1,7 +1,7 @@
 //! The world of one thread: after each change of it the least fiber that may step.
 ghost use Rattle.std.specs.Prelude.{◌≡◌};
 
-use Step::{Does, Knows, Takes};
+use Step::{Does, Knows, Stamps, Takes};
 use fx_fiber::Source;
 use fx_plain::PlainWorld;
 use fx_term::{CodeBrand, Item, Memory, Outcome};
@@ -25,7 +25,10 @@ enum Deed {
     Starts(u32),
     Waits(u32, Source),
     Request(u32),
+    /// A request with this stamp; all others have 4.
+    RequestAt(u64, u32),
     RequestFromOutside(u32),
+    /// An end, which has the stamp 6.
     Ends(u32),
     Put,
     Take,
@@ -39,9 +42,10 @@ fn does(world: &mut PlainWorld, deed: Deed) -> Result<(), Memory> {
                 world.wait(fiber, source);
             }
         }
-        Deed::Request(fiber) => world.request(fiber),
+        Deed::Request(fiber) => world.request(fiber, 4),
+        Deed::RequestAt(stamp, fiber) => world.request(fiber, stamp),
         Deed::RequestFromOutside(fiber) => world.request_from_outside(fiber),
-        Deed::Ends(fiber) => world.finish(fiber, Outcome::Canceled),
+        Deed::Ends(fiber) => world.finish(fiber, Outcome::Canceled, 6),
         Deed::Put => put(world)?,
         Deed::Take => {
             let _ = world.take(0);
@@ -58,6 +62,7 @@ fn put(world: &mut PlainWorld) -> Result<(), Memory> {
                 fiber: 0,
                 nth: 0,
                 value: 7,
+                stamp: 3,
             },
         )?;
     }
@@ -71,8 +76,16 @@ enum Step {
     Does(Deed, Option<u32>),
     /// Whether this fiber is requested, and how it has ended.
     Knows(u32, bool, Option<Outcome>),
-    /// What is taken out of this queue.
-    Takes(u8, Option<u64>),
+    /// The greatest stamp of the requests for this fiber, and that of its end.
+    Stamps(u32, u64, u64),
+    /// What is taken out of this queue, and the stamp of its put.
+    Takes(u8, Option<(u64, u64)>),
+}
+
+/// The value and the stamp of what is taken out of the queue.
+fn taken(world: &mut PlainWorld, queue: u8) -> Option<(u64, u64)> {
+    let item = world.take(queue)?;
+    Some((item.value, item.stamp))
 }
 
 /// Makes the step: whether the world answers so.
@@ -85,7 +98,10 @@ fn answers(world: &mut PlainWorld, step: Step) -> Result<bool, Memory> {
         Knows(fiber, is_requested, outcome) => Ok(
             world.is_requested(fiber) == is_requested && world.outcome(fiber) == outcome,
         ),
-        Takes(queue, value) => Ok(world.take(queue) == value),
+        Stamps(fiber, asked, ended) => Ok(
+            world.asked(fiber) == asked && world.ended(fiber) == ended,
+        ),
+        Takes(queue, element) => Ok(taken(world, queue) == element),
     }
 }
 
@@ -237,11 +253,40 @@ fn requests_and_outcomes_are_by_number(rt: HostRuntime) -> Result<(), Fail> {
     assert_steps(&rt, rt.alloc(), THREE, &OF_THE_THIRD)
 }
 
+/// Of the stamps of several requests the greatest counts, in whatever order they come, and none of a
+/// request from outside, which has none.
+static ASKED: [Step; 8] = [
+    Does(Deed::RequestAt(5, 2), Some(0)),
+    Does(Deed::RequestAt(7, 2), Some(0)),
+    Does(Deed::RequestAt(6, 2), Some(0)),
+    Does(Deed::RequestFromOutside(2), Some(0)),
+    Stamps(2, 7, 0),
+    Does(Deed::RequestFromOutside(1), Some(0)),
+    Stamps(1, 0, 0),
+    Stamps(3, 0, 0),
+];
+
+/// An end has its own stamp, whatever its fiber was requested with.
+static ENDED: [Step; 4] = [
+    Does(Deed::RequestAt(9, 2), Some(0)),
+    Does(Deed::Ends(2), Some(0)),
+    Stamps(2, 9, 6),
+    Stamps(1, 0, 0),
+];
+
+#[test]
+fn the_greatest_stamp_of_requests_counts_and_an_end_has_its_own(
+    rt: HostRuntime,
+) -> Result<(), Fail> {
+    assert_steps(&rt, rt.alloc(), THREE, &ASKED)?;
+    assert_steps(&rt, rt.alloc(), THREE, &ENDED)
+}
+
 /// Queue 0 has the element, and there is no queue 1.
 static TAKEN: [Step; 4] = [
     Does(Deed::Put, Some(0)),
     Takes(1, None),
-    Takes(0, Some(7)),
+    Takes(0, Some((7, 3))),
     Takes(0, None),
 ];
 

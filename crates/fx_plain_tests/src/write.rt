@@ -5,11 +5,12 @@ ghost use Rattle.fx_text.specs.View.{meaning};
 ghost use Rattle.fx_report.specs.Text.{queue_names, ends};
 ghost use Rattle.fx_report.specs.Text.{IsWritableFiber, IsWritable};
 ghost use Rattle.fx_term.specs.QueuesNamed.{NamesQueueBelow};
+ghost use Rattle.fx_term.specs.Stamped.{events_in};
 
 use crate::full::Full;
 use fx_fiber::{FiberReport, Report, State};
 use fx_plain::{OutFault, write_report, write_trace};
-use fx_term::{Event, Item, Outcome};
+use fx_term::{Event, Item, Outcome, Stamped};
 use fx_text::{QueueDecl, Script, parse};
 use std::alloc::Global;
 use std::process::Abort;
@@ -17,8 +18,8 @@ use std::test::Fail;
 
 mod rows;
 
-/// A fiber: its number, how it is at the end, and its trace.
-type Told<'a> = (u32, State, &'a [Event]);
+/// A fiber: its number, how it is at the end, its trace, and the stamps of that.
+type Told<'a> = (u32, State, &'a [Event], &'a [u64]);
 
 /// The fibers of a report, what is left in each queue, and the two texts.
 #[derive(Clone, Copy)]
@@ -49,20 +50,33 @@ fn items(alloc: Global, values: &[u64]) -> Result<Vec<Item>, Fail> {
             fiber: 0,
             nth: 0,
             value: *value,
+            stamp: 1,
         })?;
     }
     Ok(items)
 }
 
+/// These events, each with its stamp.
+fn stamped(alloc: Global, events: &[Event], stamps: &[u64]) -> Result<Vec<Stamped>, Fail> {
+    let mut trace = Vec::new(alloc);
+    for (event, stamp) in events.iter().zip(stamps) {
+        trace.push(Stamped {
+            event: *event,
+            stamp: *stamp,
+        })?;
+    }
+    Ok(trace)
+}
+
 /// The fibers of a report of which this is told.
 fn fibers_of(alloc: Global, told: &[Told]) -> Result<Vec<FiberReport>, Fail> {
     let mut fibers = Vec::new(alloc);
-    for (id, state, trace) in told {
+    for (id, state, events, stamps) in told {
         fibers.push(FiberReport {
             id: *id,
             parent: None,
             state: *state,
-            trace: Vec::from_slice(alloc, trace)?,
+            trace: stamped(alloc, events, stamps)?,
         })?;
     }
     Ok(fibers)
@@ -96,11 +110,11 @@ fn names_queue_below(queues: usize, event: Event) -> bool
     }
 }
 
-fn trace_names_below(queues: usize, trace: &[Event]) -> bool
-    ensures { OnTrue result (All (NamesQueueBelow queues) trace.now) }
+fn trace_names_below(queues: usize, trace: &[Stamped]) -> bool
+    ensures { OnTrue result (All (NamesQueueBelow queues) (events_in trace.now)) }
 {
-    for event in trace {
-        if !names_queue_below(queues, *event) {
+    for stamped in trace {
+        if !names_queue_below(queues, stamped.event) {
             return false;
         }
     }
@@ -110,7 +124,10 @@ fn trace_names_below(queues: usize, trace: &[Event]) -> bool
 fn tells_its_end(fiber: &FiberReport) -> bool
     ensures { OnTrue result (ends fiber.now.trace ≡ fiber.now.has_ended) }
 {
-    let ends = matches!(fiber.trace.last(), Some(Event::Ended(_)));
+    let ends = match fiber.trace.last() {
+        Some(stamped) => matches!(stamped.event, Event::Ended(_)),
+        None => false,
+    };
     match fiber.state {
         State::Ended => ends,
         State::Blocked => !ends,
@@ -212,7 +229,7 @@ fn assert_prefix(
 }
 
 static BLOCKED: Row<'static> = Row {
-    fibers: &[(0, State::Blocked, &[])],
+    fibers: &[(0, State::Blocked, &[], &[])],
     left: &[&[6]],
     report: "fiber 0 blocked\nqueue q left 6\n",
     traces: "",

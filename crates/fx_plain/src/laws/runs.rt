@@ -9,9 +9,12 @@ ghost use Rattle.fx_model.specs.Report.{ReportView};
 ghost use Rattle.fx_model.specs.LawfulReport.{IsLawfulReport};
 ghost use Rattle.fx_model.specs.Happenings.{IsLawfulInOneList};
 ghost use Rattle.fx_model.specs.Headline.{KeepsWhatIsPromised};
+ghost use Rattle.fx_model.specs.Stamps.{IsLawfulWithStamps};
 ghost use Rattle.fx_text.specs.declared.pick.Pick.{Pick};
 ghost use Rattle.fx_plain.specs.WholeMachine.{WholeMachine, Move, opening, can_step_in, FiberSteps, IsWholeMachineRun, steps_in, FindsItsNumber};
 ghost use Rattle.fx_plain.specs.SettledRun.{HasSettledRun};
+ghost use Rattle.fx_model.specs.ReportStamps.{stamp_in};
+ghost use Rattle.fx_plain.specs.StampedList.{IsStampedInOneList};
 ghost use Rattle.fx_plain.specs.Chosen.{IsChosen, IsReplay};
 
 /// The report of a run of the whole machine is lawful, whoever chose its steps, where at its end no fiber
@@ -40,6 +43,18 @@ pub fn settled_run_has_one_order()
         → IsLawfulInOneList s (λ f. true) r }
 {}
 
+/// The stamps of that report, one for each event, are those of the definition, by the runs and histories
+/// of such a list: each is one more than the greater of the stamp before it in its fiber and that of its
+/// cause, the put of what was taken, the end that was learnt, or, where a request is seen, the greatest
+/// of those before it in the list. So they put the events in an order in which causes come first, unless
+/// one has come to the greatest number.
+pub fn stamps_of_a_run_are_stamps()
+    ensures in_list { (s : ScriptView) (r : ReportView) → HasSettledRun s r
+        → IsStampedInOneList s (λ f. true) r }
+    ensures in_order { (s : ScriptView) (r : ReportView) → HasSettledRun s r
+        → IsLawfulWithStamps s (λ f. true) r (stamp_in r) }
+{}
+
 /// The run that picks choose is such a run: at its end no fiber can step.
 pub fn replay_is_settled()
     ensures { (s : ScriptView) (ps : List Pick) (r : ReportView) → IsReplay s ps r
@@ -62,6 +77,14 @@ pub fn replay_keeps_what_is_promised()
 pub fn replay_has_one_order()
     ensures { (s : ScriptView) (ps : List Pick) (r : ReportView) → IsReplay s ps r
         → IsLawfulInOneList s (λ f. true) r }
+{}
+
+/// Its stamps are those of the definition.
+pub fn stamps_of_a_replay_are_stamps()
+    ensures in_list { (s : ScriptView) (ps : List Pick) (r : ReportView) → IsReplay s ps r
+        → IsStampedInOneList s (λ f. true) r }
+    ensures in_order { (s : ScriptView) (ps : List Pick) (r : ReportView) → IsReplay s ps r
+        → IsLawfulWithStamps s (λ f. true) r (stamp_in r) }
 {}
 
 /// A run that picks choose is a run of the whole machine.

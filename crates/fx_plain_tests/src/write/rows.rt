@@ -6,13 +6,18 @@ const CANCELED: Event = Event::Ended(Outcome::Canceled);
 
 static NUMBERS_AND_STATES: [Row; 3] = [
     Row {
-        fibers: &[(0, State::Ended, &[Event::Ended(Outcome::Succeeded(5))])],
+        fibers: &[(
+            0,
+            State::Ended,
+            &[Event::Ended(Outcome::Succeeded(5))],
+            &[1],
+        )],
         left: &[],
         report: "fiber 0 succeeded 5\n",
-        traces: "0 ended succeeded 5\n",
+        traces: "0 1 ended succeeded 5\n",
     },
     Row {
-        fibers: &[(0, State::Blocked, &[])],
+        fibers: &[(0, State::Blocked, &[], &[])],
         left: &[],
         report: "fiber 0 blocked\n",
         traces: "",
@@ -20,13 +25,18 @@ static NUMBERS_AND_STATES: [Row; 3] = [
     // a race whose sides both canceled themselves, under a mask
     Row {
         fibers: &[
-            (0, State::Blocked, &[Event::Start(1), Event::Start(2)]),
-            (1, State::Ended, &[Event::Cancelled, CANCELED]),
-            (2, State::Ended, &[Event::Cancelled, CANCELED]),
+            (
+                0,
+                State::Blocked,
+                &[Event::Start(1), Event::Start(2)],
+                &[1, 2],
+            ),
+            (1, State::Ended, &[Event::Cancelled, CANCELED], &[2, 3]),
+            (2, State::Ended, &[Event::Cancelled, CANCELED], &[3, 4]),
         ],
         left: &[],
         report: "fiber 0 blocked\nfiber 1 canceled\nfiber 2 canceled\n",
-        traces: "0 start 1\n0 start 2\n1 cancelled\n1 ended canceled\n2 cancelled\n2 ended canceled\n",
+        traces: "0 1 start 1\n0 2 start 2\n1 2 cancelled\n1 3 ended canceled\n2 3 cancelled\n2 4 ended canceled\n",
     },
 ];
 
@@ -36,9 +46,9 @@ fn fibers_are_told_by_number_and_state(rt: HostRuntime) -> Result<(), Fail> {
 }
 
 /// A main fiber that was canceled, and its traces.
-const ALONE: &[Told] = &[(0, State::Ended, &[Event::Cancelled, CANCELED])];
+const ALONE: &[Told] = &[(0, State::Ended, &[Event::Cancelled, CANCELED], &[1, 2])];
 
-const ALONE_TRACES: &str = "0 cancelled\n0 ended canceled\n";
+const ALONE_TRACES: &str = "0 1 cancelled\n0 2 ended canceled\n";
 
 static ONE_QUEUE: [Row; 3] = [
     Row {
@@ -87,10 +97,11 @@ static WORKED: [Row; 2] = [
                 Event::End(0),
                 Event::Ended(Outcome::Errored(3)),
             ],
+            &[1, 2, 3, 4, 5],
         )],
         left: &[&[7]],
         report: "fiber 0 errored 3\nqueue q left 7\n",
-        traces: "0 acquired 0\n0 begin 0\n0 put q 7\n0 end 0\n0 ended errored 3\n",
+        traces: "0 1 acquired 0\n0 2 begin 0\n0 3 put q 7\n0 4 end 0\n0 5 ended errored 3\n",
     },
     // a queue of capacity 1 that is tried once too often at each side
     Row {
@@ -104,10 +115,11 @@ static WORKED: [Row; 2] = [
                 Event::Empty(0),
                 Event::Ended(Outcome::Succeeded(0)),
             ],
+            &[1, 2, 3, 4, 5],
         )],
         left: &[&[]],
         report: "fiber 0 succeeded 0\nqueue q left\n",
-        traces: "0 put q 1\n0 refused q\n0 got q 1\n0 empty q\n0 ended succeeded 0\n",
+        traces: "0 1 put q 1\n0 2 refused q\n0 3 got q 1\n0 4 empty q\n0 5 ended succeeded 0\n",
     },
 ];
 
@@ -138,14 +150,37 @@ const EACH: &[Event] = &[
     CANCELED,
 ];
 
+/// A stamp for each of these; at the greatest one it stays.
+const STAMPS: &[u64] = &[
+    11,
+    12,
+    20,
+    21,
+    22,
+    23,
+    24,
+    25,
+    100,
+    101,
+    102,
+    103,
+    104,
+    105,
+    106,
+    107,
+    18446744073709551615,
+    18446744073709551615,
+];
+
 static EVENTS: [Row; 1] = [Row {
-    fibers: &[(10, State::Ended, EACH)],
+    fibers: &[(10, State::Ended, EACH, STAMPS)],
     left: &[&[], &[]],
     report: "fiber 10 canceled\nqueue q left\nqueue r left\n",
-    traces: "10 start 11\n10 request 12\n10 awaited 13\n10 joined 14 succeeded 1\n\
-                10 joined 15 errored 2\n10 joined 16 canceled\n10 first 1\n10 put q 3\n10 got r 4\n\
-                10 refused q\n10 empty r\n10 acquired 5\n10 begin 6\n10 end 7\n10 seen\n\
-                10 selfrequest\n10 cancelled\n10 ended canceled\n",
+    traces: "10 11 start 11\n10 12 request 12\n10 20 awaited 13\n10 21 joined 14 succeeded 1\n\
+                10 22 joined 15 errored 2\n10 23 joined 16 canceled\n10 24 first 1\n10 25 put q 3\n\
+                10 100 got r 4\n10 101 refused q\n10 102 empty r\n10 103 acquired 5\n10 104 begin 6\n\
+                10 105 end 7\n10 106 seen\n10 107 selfrequest\n10 18446744073709551615 cancelled\n\
+                10 18446744073709551615 ended canceled\n",
 }];
 
 #[test]

@@ -34,3 +34,5 @@ returns-clause-stands g c =
     (ap (λ (q : PortView). q.number) port)
     (ap (λ (q : PortView). q.put_counts) port)
     c.in_ok-fiber.ensures.trace
+    (ap (λ (q : PortView). q.beginning.stamp) port)
+    c.in_ok-fiber.ensures.stamps
