@@ -29,6 +29,7 @@ fn exchange_alone<R: Wait>(rt: &R, queue: &FiberQueue, mut pass: QueuePass, fibe
             fiber,
             nth,
             value: nth,
+            stamp: 0,
         };
         match queue.offer_as(rt, &mut pass, item) {
             Ok(()) => {
@@ -51,6 +52,7 @@ fn exchange_unruled<R: Wait>(rt: &R, ring: &ArrayQueue<Item>, count: u32) {
             fiber: 0,
             nth,
             value: nth,
+            stamp: 0,
         };
         match ring.push(rt, item) {
             Ok(()) => {
@@ -79,6 +81,7 @@ fn put<R: Wait>(rt: &R, queue: &FiberQueue, mut pass: QueuePass, fiber: u32, cou
             fiber,
             nth,
             value: nth,
+            stamp: 0,
         };
         match queue.offer_as(rt, &mut pass, item) {
             Ok(()) => {

@@ -33,7 +33,7 @@ fn make(words: &Words, mut seat: WordSeat, call: Call, count: u32) -> WordSeat
         Call::Nothing => {}
         Call::Request => {
             'requesting: for _ in 0..count {
-                words.request(&mut seat, 4);
+                words.request(&mut seat, 4, 1);
             }
         }
         Call::Look => {
@@ -120,6 +120,7 @@ fn begin_of(alloc: Global, id: u32) -> Begin
         slots: Registers::new(alloc),
         next: id + 1,
         end: id + 1,
+        stamp: 1,
     }
 }
 
@@ -159,7 +160,7 @@ fn run<R: Threads + Sync>(rt: &R, alloc: Global, asked: Asked) -> Result<(), Mem
     let three = words.split(&mut main, 3, &begin_of(alloc, 3));
     let mut four = words.split(&mut main, 4, &begin_of(alloc, 4));
     if asked.is_ended {
-        words.finish(&mut four, Outcome::Succeeded(7));
+        words.finish(&mut four, Outcome::Succeeded(7), 1);
     }
     match asked.threads {
         1 => {

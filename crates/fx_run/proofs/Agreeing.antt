@@ -82,8 +82,8 @@ module _ (f : ℕ) (e : Entry) (noted : ℕ → Bool) (ds : List Deed) (h : Word
     ended = λ o p. more ds (Started e.next b) (Ended o) (h.ended o p);
   }
 
-  request_agrees : (g : ℕ) → WordsAgree f (asking g e) noted (ds ++ Requested g ∷ [])
-  request_agrees g =
+  request_agrees : (g t : ℕ) → WordsAgree f (asking g t e) noted (ds ++ Requested g ∷ [])
+  request_agrees g t =
       let kept = untold_agrees (Requested g) tt in
       record {
         number = h.number;
@@ -99,8 +99,8 @@ module _ (f : ℕ) (e : Entry) (noted : ℕ → Bool) (ds : List Deed) (h : Word
       }
 
   -- a request from outside adds no deed
-  outside_agrees : (g : ℕ) → WordsAgree f (asking g e) (with_at g true noted) ds
-  outside_agrees g = record {
+  outside_agrees : (g t : ℕ) → WordsAgree f (asking g t e) (with_at g true noted) ds
+  outside_agrees g t = record {
     number = h.number;
     started = h.started;
     parts = h.parts;
@@ -116,8 +116,8 @@ module _ (f : ℕ) (e : Entry) (noted : ℕ → Bool) (ds : List Deed) (h : Word
     ended = h.ended;
   }
 
-  look_agrees : WordsAgree f (looking true e) noted (ds ++ Saw ∷ [])
-  look_agrees = record {
+  look_agrees : (t : ℕ) → WordsAgree f (looking (Some t) e) noted (ds ++ Saw ∷ [])
+  look_agrees t = record {
     number = h.number;
     started = λ g c i. h.started g c (before ds Saw (Started g c) (λ p. cc) i);
     parts = λ g c i. more ds Saw (Started g c) (h.parts g c i);
@@ -127,8 +127,8 @@ module _ (f : ℕ) (e : Entry) (noted : ℕ → Bool) (ds : List Deed) (h : Word
     ended = λ o p. more ds Saw (Ended o) (h.ended o p);
   }
 
-  peek_agrees : (g : ℕ) (o : Outcome) → WordsAgree f (peeked g o e) noted (ds ++ FoundEnded g o ∷ [])
-  peek_agrees g o = record {
+  peek_agrees : (g : ℕ) (o : Outcome) (t : ℕ) → WordsAgree f (peeked g o t e) noted (ds ++ FoundEnded g o ∷ [])
+  peek_agrees g o t = record {
     number = h.number;
     started = λ k c i. h.started k c (before ds (FoundEnded g o) (Started k c) (λ p. cc) i);
     parts = λ k c i. more ds (FoundEnded g o) (Started k c) (h.parts k c i);
@@ -141,8 +141,8 @@ module _ (f : ℕ) (e : Entry) (noted : ℕ → Bool) (ds : List Deed) (h : Word
     ended = λ v p. more ds (FoundEnded g o) (Ended v) (h.ended v p);
   }
 
-  finish_agrees : (o : Outcome) → WordsAgree f (finished o e) noted (ds ++ Ended o ∷ [])
-  finish_agrees o =
+  finish_agrees : (o : Outcome) (t : ℕ) → WordsAgree f (finished o t e) noted (ds ++ Ended o ∷ [])
+  finish_agrees o t =
       let kept = untold_agrees (Ended o) tt in
       record {
         number = h.number;
@@ -170,8 +170,9 @@ module _ (q f : ℕ) (e : pass.Entry) (ds : List Deed) (h : QueueAgrees q f e ds
   elsewhere_agrees : (d : Deed) → queue_deed q f d ≡ None → QueueAgrees q f e (ds ++ d ∷ [])
   elsewhere_agrees d none = record { number = h.number; acts = same_acts d none; parts = parts_more d }
 
-  event_agrees : (d : Deed) (x : QueueEvent) (e' : pass.Entry) → queue_deed q f d ≡ Some x → HasOneMore x e e' → QueueAgrees q f e' (ds ++ d ∷ [])
-  event_agrees d x e' is has = record {
+  event_agrees : (d : Deed) (x y : QueueEvent) (e' : pass.Entry) → queue_deed q f d ≡ Some x → HasOneMore x y e e'
+      → QueueAgrees q f e' (ds ++ d ∷ [])
+  event_agrees d x y e' is has = record {
     number = has.number ∙ h.number;
     acts =
         has.acts ∙ ap (λ (xs : List QueueEvent). xs ++ x ∷ []) h.acts
@@ -210,10 +211,10 @@ first_agrees f begin next end passes noted fresh = record {
 }
 
 -- the event that a deed is, at its own queue and at another one
-event_here : (q : ℕ) (x : QueueEvent) → (if q == q then Some x else None) ≡ Some x
+pub event_here : (q : ℕ) (x : QueueEvent) → (if q == q then Some x else None) ≡ Some x
 event_here q x = rw (eq-eqb q q refl) refl
 
-no_event : (q r : ℕ) (x : QueueEvent) → r ≢ q → (if q == r then Some x else None) ≡ None
+pub no_event : (q r : ℕ) (x : QueueEvent) → r ≢ q → (if q == r then Some x else None) ≡ None
 no_event q r x apart = rw (ne_eqb q r (λ e. apart (sym e))) refl
 
 module _ (f : ℕ) (e : Entry) (noted : ℕ → Bool) (passes : ℕ → pass.Entry) (ds : List Deed) (h : PortAgrees f e noted passes ds) where
@@ -229,23 +230,23 @@ module _ (f : ℕ) (e : Entry) (noted : ℕ → Bool) (passes : ℕ → pass.Ent
     queues_agree = λ q. split_agrees q f (passes q) ds (h.queues_agree q) e.next b (passes' q) (split q);
   }
 
-  pub port_requests : (g : ℕ) → PortAgrees f (asking g e) noted passes (ds ++ Requested g ∷ [])
-  port_requests g = on_words (asking g e) (Requested g) (λ q. refl) (request_agrees f e noted ds h.words_agree g)
+  pub port_requests : (g t : ℕ) → PortAgrees f (asking g t e) noted passes (ds ++ Requested g ∷ [])
+  port_requests g t = on_words (asking g t e) (Requested g) (λ q. refl) (request_agrees f e noted ds h.words_agree g t)
 
   pub port_asks_nobody : (g : ℕ) → PortAgrees f e noted passes (ds ++ Requested g ∷ [])
   port_asks_nobody g = on_words e (Requested g) (λ q. refl) (untold_agrees f e noted ds h.words_agree (Requested g) tt)
 
-  pub port_notes : (g : ℕ) → PortAgrees f (asking g e) (with_at g true noted) passes ds
-  port_notes g = record { words_agree = outside_agrees f e noted ds h.words_agree g; queues_agree = h.queues_agree }
+  pub port_notes : (g : ℕ) → PortAgrees f (asking g 0 e) (with_at g true noted) passes ds
+  port_notes g = record { words_agree = outside_agrees f e noted ds h.words_agree g 0; queues_agree = h.queues_agree }
 
-  pub port_sees : PortAgrees f (looking true e) noted passes (ds ++ Saw ∷ [])
-  port_sees = on_words (looking true e) Saw (λ q. refl) (look_agrees f e noted ds h.words_agree)
+  pub port_sees : (t : ℕ) → PortAgrees f (looking (Some t) e) noted passes (ds ++ Saw ∷ [])
+  port_sees t = on_words (looking (Some t) e) Saw (λ q. refl) (look_agrees f e noted ds h.words_agree t)
 
-  pub port_finds : (g : ℕ) (o : Outcome) → PortAgrees f (peeked g o e) noted passes (ds ++ FoundEnded g o ∷ [])
-  port_finds g o = on_words (peeked g o e) (FoundEnded g o) (λ q. refl) (peek_agrees f e noted ds h.words_agree g o)
+  pub port_finds : (g : ℕ) (o : Outcome) (t : ℕ) → PortAgrees f (peeked g o t e) noted passes (ds ++ FoundEnded g o ∷ [])
+  port_finds g o t = on_words (peeked g o t e) (FoundEnded g o) (λ q. refl) (peek_agrees f e noted ds h.words_agree g o t)
 
-  pub port_finishes : (o : Outcome) → PortAgrees f (finished o e) noted passes (ds ++ Ended o ∷ [])
-  port_finishes o = on_words (finished o e) (Ended o) (λ q. refl) (finish_agrees f e noted ds h.words_agree o)
+  pub port_finishes : (o : Outcome) (t : ℕ) → PortAgrees f (finished o t e) noted passes (ds ++ Ended o ∷ [])
+  port_finishes o t = on_words (finished o t e) (Ended o) (λ q. refl) (finish_agrees f e noted ds h.words_agree o t)
 
   pub port_finds_full : (q : ℕ) → PortAgrees f e noted passes (ds ++ FoundFull q ∷ [])
   port_finds_full q = on_words e (FoundFull q) (λ r. refl) (untold_agrees f e noted ds h.words_agree (FoundFull q) tt)
@@ -254,25 +255,27 @@ module _ (f : ℕ) (e : Entry) (noted : ℕ → Bool) (passes : ℕ → pass.Ent
   port_finds_empty q = on_words e (FoundEmpty q) (λ r. refl) (untold_agrees f e noted ds h.words_agree (FoundEmpty q) tt)
 
   -- one more event of a queue
-  with_one_more : (q : ℕ) (x : QueueEvent) (d : Deed) (passes' : ℕ → pass.Entry) → IsUntold d → queue_deed q f d ≡ Some x
-      → ((r : ℕ) → r ≢ q → queue_deed r f d ≡ None) → AddsEvent q x passes passes' → PortAgrees f e noted passes' (ds ++ d ∷ [])
-  with_one_more q x d passes' untold here none adds =
+  with_one_more : (q : ℕ) (x y : QueueEvent) (d : Deed) (passes' : ℕ → pass.Entry) → IsUntold d → queue_deed q f d ≡ Some x
+      → ((r : ℕ) → r ≢ q → queue_deed r f d ≡ None) → AddsEvent q x y passes passes' → PortAgrees f e noted passes' (ds ++ d ∷ [])
+  with_one_more q x y d passes' untold here none adds =
       record { words_agree = untold_agrees f e noted ds h.words_agree d untold; queues_agree = λ r. by_queue r (cases_eq r q) }
     where
       by_queue : (r : ℕ) → (r ≡ q) ⊎ (r ≢ q) → QueueAgrees r f (passes' r) (ds ++ d ∷ [])
       by_queue r (inl same) =
           subst (λ (k : ℕ). QueueAgrees k f (passes' k) (ds ++ d ∷ [])) (sym same)
-          (event_agrees q f (passes q) ds (h.queues_agree q) d x (passes' q) here adds.here)
+          (event_agrees q f (passes q) ds (h.queues_agree q) d x y (passes' q) here adds.here)
       by_queue r (inr apart) =
           subst (λ (y : pass.Entry). QueueAgrees r f y (ds ++ d ∷ [])) (sym (adds.others r apart))
           (elsewhere_agrees r f (passes r) ds (h.queues_agree r) d (none r apart))
 
-  pub port_puts : (q n : ℕ) (passes' : ℕ → pass.Entry) → AddsEvent q (queue_event.Put f n) passes passes'
+  pub port_puts : (q n t : ℕ) (passes' : ℕ → pass.Entry) → AddsEvent q (queue_event.Put f n) (queue_event.Put f t) passes passes'
       → PortAgrees f e noted passes' (ds ++ Put q n ∷ [])
-  port_puts q n passes' adds =
-      with_one_more q (queue_event.Put f n) (Put q n) passes' tt (event_here q (queue_event.Put f n)) (λ r apart. no_event q r (queue_event.Put f n) apart) adds
+  port_puts q n t passes' adds =
+      with_one_more q (queue_event.Put f n) (queue_event.Put f t) (Put q n) passes' tt (event_here q (queue_event.Put f n))
+      (λ r apart. no_event q r (queue_event.Put f n) apart) adds
 
-  pub port_takes : (q n : ℕ) (passes' : ℕ → pass.Entry) → AddsEvent q (queue_event.Got f n) passes passes'
+  pub port_takes : (q n t : ℕ) (passes' : ℕ → pass.Entry) → AddsEvent q (queue_event.Got f n) (queue_event.Got f t) passes passes'
       → PortAgrees f e noted passes' (ds ++ Got q n ∷ [])
-  port_takes q n passes' adds =
-      with_one_more q (queue_event.Got f n) (Got q n) passes' tt (event_here q (queue_event.Got f n)) (λ r apart. no_event q r (queue_event.Got f n) apart) adds
+  port_takes q n t passes' adds =
+      with_one_more q (queue_event.Got f n) (queue_event.Got f t) (Got q n) passes' tt (event_here q (queue_event.Got f n))
+      (λ r apart. no_event q r (queue_event.Got f n) apart) adds

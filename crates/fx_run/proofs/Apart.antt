@@ -8,16 +8,17 @@ use Rattle.fx_term.specs.declared.event.Event.{Event}
 use Rattle.fx_model.specs.Row.{Counts}
 use Rattle.fx_model.specs.Step.{Progress}
 use Rattle.fx_fiber.specs.Deed.{Deed, Started}
+use Rattle.fx_fiber.specs.StampedDeed.{StampedDeed, deeds_of}
 use Rattle.fx_fiber.specs.Bare.{BareView, reached}
 use Rattle.fx_fiber.specs.Fiber.{FiberView, IsLawful}
 use Rattle.fx_word.specs.Words.{WordsId}
 use Rattle.fx_queue.specs.Queues.{QueueId, HeldPass}
 use Rattle.fx_port.specs.Marks.{is_marked}
-use Rattle.fx_port.specs.PassesAgree.{started_by, starts, acts_by, PassesAgree}
+use Rattle.fx_port.specs.PassesAgree.{started_by, starts, acts_by, stamps_by, PassesAgree}
 use Rattle.fx_port.specs.PortView.{PortView, IsOfRun, beginning_in}
 use Rattle.fx_port.specs.ThreadCalls.{ThreadAgrees}
 use Rattle.fx_port.proofs.RunLaws.{numbers_are}
-use Rattle.fx_run.specs.Agreement.{QueueAgrees, PortAgrees}
+use Rattle.fx_run.specs.Agreement.{QueueAgrees, StampedPortAgrees}
 use Rattle.fx_run.specs.Apart.{Apart, without_port, entry_by, entry_at}
 use Rattle.fx_run.specs.Parted.{Parted}
 use Rattle.fx_run.proofs.Members.{source}
@@ -46,29 +47,46 @@ module _ (words : WordsId) (queues : List QueueId) (may : ℕ → Bool) (p : Por
         parts = λ g i. started_so ds g (subst (Among g) (h.parts q s is) i);
       }
 
-  pub agrees_so : (ds : List Deed) → ThreadAgrees p ds → PortAgrees p.words.own.id p.words.own (is_marked p.noted) (λ q. entry_at q p) ds
+  pub agrees_so : (ds : List StampedDeed) → ThreadAgrees p ds
+      → StampedPortAgrees p.words.own.id p.words.own (is_marked p.noted) (λ q. entry_at q p) ds
   agrees_so ds h = record {
-    words_agree = record {
-      number = refl;
-      started = λ g b i. (h.words.started g b).1 i;
-      parts = λ g b i. (h.words.started g b).0 i;
-      asked = λ g i. ⊎_elim (λ t. inl t.1) inr ((h.words.asked g).0 i);
-      saw = h.words.saw.1;
-      found = λ g o i. (h.words.found g o).1 i;
-      ended = λ o e. (h.words.ended o).0 e;
+    plain = record {
+      words_agree = record {
+        number = refl;
+        started = λ g b i. (h.words.started g b).1 i;
+        parts = λ g b i. (h.words.started g b).0 i;
+        asked = λ g i. ⊎_elim (λ t. inl t.1) inr ((h.words.asked g).0 i);
+        saw = h.words.saw.1;
+        found = λ g o i. (h.words.found g o).1 i;
+        ended = λ o e. (h.words.ended o).0 e;
+      };
+      queues_agree = queue_agrees (deeds_of ds) h.passes;
     };
-    queues_agree = queue_agrees ds h.passes;
+    stamps_agree = record {
+      asked = h.words_stamps.asked;
+      saw = h.words_stamps.saw;
+      found = h.words_stamps.found;
+      ended = h.words_stamps.ended;
+    };
+    queue_stamps = λ q. by_pass (slice_get p.passes q) ∙ sym (h.passes_stamps.stamps q);
   }
+    where
+      by_pass : (o : Option HeldPass) → (entry_by p.words.own.id o).stamps ≡ stamps_by o
+      by_pass None = refl
+      by_pass (Some s) = refl
 
 -- a port that agrees with less is as lawful
-pub lawful_as : {A B : List Deed → Type 0} (nodes : List Node) (begin : Begin) (trace : List Event) (counts : Counts) (progress : Progress)
-    → ((ds : List Deed) → A ds → B ds) → IsLawful nodes begin A trace counts progress → IsLawful nodes begin B trace counts progress
-lawful_as nodes begin trace counts progress weaker h = record {
+pub lawful_as : {A B : List StampedDeed → Type 0} (nodes : List Node) (begin : Begin) (trace : List Event) (stamps : List ℕ) (counts : Counts)
+    (progress : Progress) → ((ds : List StampedDeed) → A ds → B ds) → IsLawful nodes begin A trace stamps counts progress
+    → IsLawful nodes begin B trace stamps counts progress
+lawful_as nodes begin trace stamps counts progress weaker h = record {
   labels = h.labels;
   run = h.run;
   traced = h.traced;
   deeds = h.deeds;
   are_deeds = h.are_deeds;
+  causes = h.causes;
+  stamped = h.stamped;
   agreed = weaker h.deeds h.agreed;
 }
 
@@ -79,15 +97,16 @@ module _ (nodes : List Node) (words : WordsId) (queues : List QueueId) where
     words = a.port.words.own;
     noted = is_marked a.port.noted;
     passes = λ q. entry_at q a.port;
-    lawful = lawful_as a.bare.nodes (beginning_in a.bare.nodes a.port.words.own.begin) a.bare.trace a.bare.counts (reached a.bare)
-        (λ ds h. subst (λ (f : ℕ). PortAgrees f a.port.words.own (is_marked a.port.noted) (λ q. entry_at q a.port) ds) (sym a.number)
+    lawful = lawful_as a.bare.nodes (beginning_in a.bare.nodes a.port.words.own.begin) a.bare.trace a.bare.stamps a.bare.counts
+        (reached a.bare) (λ ds h. subst (λ (f : ℕ). StampedPortAgrees f a.port.words.own (is_marked a.port.noted) (λ q. entry_at q a.port) ds) (sym a.number)
         (agrees_so words queues (λ f. true) a.port a.of_run ds h)) a.lawful;
   }
 
   -- what `part` tells of a fiber and its port
   abbrev pub apart_of : (may : ℕ → Bool) (fiber : FiberView PortView) (bare : BareView) (port : PortView) → bare ≡ without_port nodes fiber
       → port ≡ fiber.port → IsOfRun words queues may port
-      → IsLawful nodes (beginning_in nodes port.words.own.begin) (ThreadAgrees port) bare.trace bare.counts (reached bare) → Apart nodes words queues
+      → IsLawful nodes (beginning_in nodes port.words.own.begin) (ThreadAgrees port) bare.trace bare.stamps bare.counts (reached bare)
+      → Apart nodes words queues
   apart_of may fiber bare port is whole of_run lawful = record {
     bare = bare;
     port = port;
@@ -102,6 +121,7 @@ module _ (nodes : List Node) (words : WordsId) (queues : List QueueId) where
       marks = of_run.marks;
       allowed = λ f m. refl;
     };
-    lawful = subst (λ (ns : List Node). IsLawful ns (beginning_in ns port.words.own.begin) (ThreadAgrees port) bare.trace bare.counts (reached bare))
+    lawful = subst
+        (λ (ns : List Node). IsLawful ns (beginning_in ns port.words.own.begin) (ThreadAgrees port) bare.trace bare.stamps bare.counts (reached bare))
         (sym (ap (λ (b : BareView). b.nodes) is)) lawful;
   }

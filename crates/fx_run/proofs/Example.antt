@@ -1,10 +1,10 @@
 -- The premises of the laws are met by the example.
-use Rattle.std.proofs.Common.{◌≡◌, ℕ, zero, suc, ◌+◌, ◌<◌, ◌≤◌, Bool, true, false, Some, None, List, [], ◌∷◌, refl, sym, ◌∙◌, ap, subst, arith, inl, inr}
+use Rattle.std.proofs.Common.{◌≡◌, ℕ, zero, suc, ◌+◌, ◌<◌, ◌≤◌, Bool, true, false, Some, None, List, [], ◌∷◌, ◌++◌, refl, sym, ◌∙◌, ap, subst, arith, inl, inr}
 use Rattle.std.specs.Prelude.{◌≢◌, ◌==◌, slice_index, slice_index_or}
 use Rattle.std.proofs.lemmas.Bool.{ne_eqb}
 use Rattle.std.proofs.lemmas.Option.{none-some}
 use Rattle.fx_term.specs.declared.begin.Begin.{Begin}
-use Rattle.fx_term.specs.declared.item.Item.{Item}
+use Rattle.fx_term.specs.Element.{Element}
 use Rattle.fx_term.specs.declared.outcome.Outcome.{Outcome}
 use Rattle.fx_term.specs.declared.outcome.Outcome.TheVariants.{Succeeded, Canceled}
 use Rattle.fx_term.specs.declared.event.Event.{Event}
@@ -12,12 +12,14 @@ use Rattle.fx_term.specs.declared.event.Event.TheVariants as event
 use Rattle.fx_term.specs.declared.queue_event.QueueEvent.{QueueEvent}
 use Rattle.fx_term.specs.declared.queue_event.QueueEvent.TheVariants as queue_event
 use Rattle.fx_term.specs.Forms.{IsCore}
-use Rattle.fx_term.specs.Queue.{cut}
+use Rattle.fx_term.specs.Queue.{cut, Leaves}
 use Rattle.fx_model.specs.Row.{known_canceled}
 use Rattle.fx_model.specs.Origin.{Origin, main_origin}
 use Rattle.fx_model.specs.Step.{HasEnded}
-use Rattle.fx_model.specs.Run.{IsRun}
-use Rattle.fx_fiber.specs.Deed.{Deed, Started, Requested, Saw, Put, Got, FoundEnded, Ended, AreDeeds}
+use Rattle.fx_model.specs.Run.{IsRun, shown}
+use Rattle.fx_fiber.specs.Deed.{Started, Requested, Saw, Put, Got, FoundEnded, Ended, AreDeeds}
+use Rattle.fx_fiber.specs.StampedDeed.{StampedDeed, stamped_deed, deeds_of}
+use Rattle.fx_fiber.specs.StampedRun.{AreStamped}
 use Rattle.fx_model.specs.Outside.{can_step}
 use Rattle.fx_model.specs.Report.{FiberReportView, capacity_of, final_outside, AllEnded}
 use Rattle.fx_model.proofs.Beginnings.{main_begins}
@@ -36,7 +38,7 @@ use Rattle.fx_queue.specs.PassView as queue
 use Rattle.fx_queue.specs.History.{Begins}
 use Rattle.fx_queue.specs.declared.entry.Handed.{Handed}
 use Rattle.fx_queue.specs.Told.{IsHandedOn, IsRest}
-use Rattle.fx_run.specs.Agreement.{PortAgrees}
+use Rattle.fx_run.specs.Agreement.{StampedPortAgrees}
 use Rattle.fx_run.specs.Changes.{IsNewPass, AreSplitFor, AddsEvent}
 use Rattle.fx_run.specs.Parted.{Parted}
 use Rattle.fx_run.specs.Reported.{bare_at, IsLost, NoneIsUnsettled}
@@ -45,27 +47,28 @@ use Rattle.fx_run.specs.Example.{example_nodes, example_script, example_report}
 use Rattle.fx_run.proofs.Members.{all_among, found_is}
 use Rattle.fx_run.proofs.Answered.{none_is_lost}
 use Rattle.fx_run.proofs.Gathering.{gathers_first, gathers_one}
-use Rattle.fx_run.proofs.Agreeing.{first_agrees, port_starts, port_requests, port_sees, port_finds, port_puts, port_takes, port_finishes}
+use Rattle.fx_run.proofs.AgreeingStamps.{no_end, stamped_first, stamped_starts, stamped_requests, stamped_sees, stamped_finds, stamped_puts, stamped_takes}
+use Rattle.fx_run.proofs.AgreeingStamps.{stamped_finishes}
 use Rattle.fx_run.proofs.PassChanges.{acts_once, split_is_for}
 use Rattle.fx_run.proofs.ExampleRuns.{main_reads, child_begin, child_reads, main_labels, counts_at, main_run, child_labels}
 use Rattle.fx_run.proofs.ExampleRuns.{child_run}
 
 -- what the words know of the two
 abbrev main_entry : Entry
-main_entry = finished (Succeeded 7) (peeked 1 Canceled (asking 1 (splitting child_begin (new_entry 0 None 1 2))))
+main_entry = finished (Succeeded 7) 8 (peeked 1 Canceled 6 (asking 1 3 (splitting child_begin (new_entry 0 None 1 2))))
 
 abbrev child_entry : Entry
-child_entry = finished Canceled (looking true (new_entry 1 (Some (0, child_begin)) 2 2))
+child_entry = finished Canceled 6 (looking (Some 3) (new_entry 1 (Some (0, child_begin)) 2 2))
 
 -- what the queue knows of them: the main fiber put, and then split its pass
 abbrev put_view : PassView
-put_view = queue.with_act (queue.first_view 1 2) [] (queue_event.Put 0 3)
+put_view = queue.with_act (queue.first_view 1 2) [] (queue_event.Put 0 3) (queue_event.Put 0 1)
 
 abbrev main_view : PassView
 main_view = queue.kept_part 2 put_view
 
 abbrev child_view : PassView
-child_view = queue.with_act (queue.given_part 2 put_view) (queue_event.Put 0 3 ∷ []) (queue_event.Got 1 3)
+child_view = queue.with_act (queue.given_part 2 put_view) (queue_event.Put 0 3 ∷ []) (queue_event.Got 1 3) (queue_event.Got 1 1)
 
 -- an entry for that queue, and one of no events for each other number
 abbrev with_first : pass.Entry → pass.Entry → ℕ → pass.Entry
@@ -78,17 +81,17 @@ main_other = queue_entry.new_entry 0 1 2 []
 abbrev child_other : pass.Entry
 child_other = queue_entry.new_entry 1 2 2 []
 
-adds_event : (x : QueueEvent) (log : List QueueEvent) (e other : pass.Entry)
-    → AddsEvent 0 x (with_first e other) (with_first (queue_entry.acting log x e) other)
-adds_event x log e other = record { here = acts_once log x e; others = others }
+adds_event : (a b : QueueEvent) (log : List QueueEvent) (e other : pass.Entry)
+    → AddsEvent 0 a b (with_first e other) (with_first (queue_entry.acting log a b e) other)
+adds_event a b log e other = record { here = acts_once log a b e; others = others }
   where
-    others : (r : ℕ) → r ≢ 0 → with_first (queue_entry.acting log x e) other r ≡ with_first e other r
+    others : (r : ℕ) → r ≢ 0 → with_first (queue_entry.acting log a b e) other r ≡ with_first e other r
     others zero apart = absurd (apart refl)
     others (suc r) apart = refl
 
 are_split : AreSplitFor 1 (with_first put_view.own main_other) (with_first main_view.own main_other)
 are_split zero = split_is_for put_view 2
-are_split (suc q) = record { number = refl; acts = refl; parts = λ i k. inl k }
+are_split (suc q) = record { number = refl; acts = refl; stamps = refl; parts = λ i k. inl k }
 
 are_new : (f : ℕ) (e other : pass.Entry) → IsNewPass f e → IsNewPass f other → (q : ℕ) → IsNewPass f (with_first e other q)
 are_new f e other a b zero = a
@@ -103,32 +106,113 @@ child_passes = with_first child_view.own child_other
 abbrev nobody : ℕ → Bool
 nobody f = false
 
-abbrev main_deeds : List Deed
-main_deeds = Put 0 3 ∷ Started 1 child_begin ∷ Requested 1 ∷ FoundEnded 1 Canceled ∷ Ended (Succeeded 7) ∷ []
+-- what they did before they ended, and all that they did
+abbrev main_before : List StampedDeed
+main_before = stamped_deed (Put 0 3) 1 ∷ stamped_deed (Started 1 child_begin) 2 ∷ stamped_deed (Requested 1) 3 ∷ stamped_deed (FoundEnded 1 Canceled) 6 ∷ []
 
-abbrev child_deeds : List Deed
-child_deeds = Got 0 3 ∷ Saw ∷ Ended Canceled ∷ []
+abbrev child_before : List StampedDeed
+child_before = stamped_deed (Got 0 3) 1 ∷ stamped_deed Saw 3 ∷ []
+
+abbrev main_deeds : List StampedDeed
+main_deeds = main_before ++ stamped_deed (Ended (Succeeded 7)) 8 ∷ []
+
+abbrev child_deeds : List StampedDeed
+child_deeds = child_before ++ stamped_deed (Ended Canceled) 6 ∷ []
 
 fresh : (f next end : ℕ) (seen : List QueueEvent) → IsNewPass f (queue_entry.new_entry f next end seen)
-fresh f next end seen = record { number = refl; acts = refl; parts = refl }
+fresh f next end seen = record { number = refl; acts = refl; stamps = refl; parts = refl }
 
-main_agrees : PortAgrees 0 main_entry nobody main_passes main_deeds
+main_agrees : StampedPortAgrees 0 main_entry nobody main_passes main_deeds
 main_agrees =
-    let first = first_agrees 0 None 1 2 (with_first main_other main_other) nobody (are_new 0 main_other main_other (fresh 0 1 2 []) (fresh 0 1 2 [])) in
-    let put = port_puts 0 _ nobody _ _ first 0 3 (with_first put_view.own main_other) (adds_event (queue_event.Put 0 3) [] main_other main_other) in
-    let started = port_starts 0 _ nobody _ _ put child_begin main_passes are_split in
-    port_finishes 0 _ nobody _ _ (port_finds 0 _ nobody _ _ (port_requests 0 _ nobody _ _ started 1) 1 Canceled) (Succeeded 7)
+    let first = stamped_first 0 None 1 2 (with_first main_other main_other) nobody (are_new 0 main_other main_other (fresh 0 1 2 []) (fresh 0 1 2 [])) in
+    let put = stamped_puts 0 _ nobody _ _ first 0 3 1 (with_first put_view.own main_other)
+    (adds_event (queue_event.Put 0 3) (queue_event.Put 0 1) [] main_other main_other) in
+    let started = stamped_starts 0 _ nobody _ _ put child_begin 2 main_passes are_split in
+    let found = stamped_finds 0 _ nobody _ _ (stamped_requests 0 _ nobody _ _ started 1 3) 1 Canceled 6 in
+    stamped_finishes 0 _ nobody _ _ found (Succeeded 7) 8 (no_end main_before (refl, (refl, (refl, (refl, tt)))))
 
-child_agrees : PortAgrees 1 child_entry nobody child_passes child_deeds
+child_agrees : StampedPortAgrees 1 child_entry nobody child_passes child_deeds
 child_agrees =
     let own : pass.Entry = (queue.given_part 2 put_view).own in
-    let first = first_agrees 1 (Some (0, child_begin)) 2 2 (with_first own child_other) nobody
+    let first = stamped_first 1 (Some (0, child_begin)) 2 2 (with_first own child_other) nobody
     (are_new 1 own child_other (fresh 1 2 2 (queue_event.Put 0 3 ∷ [])) (fresh 1 2 2 [])) in
-    let got = port_takes 1 _ nobody _ _ first 0 3 child_passes (adds_event (queue_event.Got 1 3) (queue_event.Put 0 3 ∷ []) own child_other) in
-    port_finishes 1 _ nobody _ _ (port_sees 1 _ nobody _ _ got) Canceled
+    let got = stamped_takes 1 _ nobody _ _ first 0 3 1 child_passes
+    (adds_event (queue_event.Got 1 3) (queue_event.Got 1 1) (queue_event.Put 0 3 ∷ []) own child_other) in
+    stamped_finishes 1 _ nobody _ _ (stamped_sees 1 _ nobody _ _ got 3) Canceled 6 (no_end child_before (refl, (refl, tt)))
+
+-- the events of the main fiber have these stamps, each one more than the one before it but that of the end that it awaited, which is one more than that end
+main_stamped : AreStamped example_nodes 0 (shown main_labels) (1 ∷ 2 ∷ 3 ∷ 7 ∷ 8 ∷ []) (0 ∷ 0 ∷ 0 ∷ 6 ∷ 0 ∷ []) main_deeds
+main_stamped = (
+  stamped_deed (Put 0 3) 1 ∷ [],
+  stamped_deed (Started 1 child_begin) 2 ∷ stamped_deed (Requested 1) 3 ∷ stamped_deed (FoundEnded 1 Canceled) 6 ∷ stamped_deed (Ended (Succeeded 7)) 8 ∷ [],
+  record { event = event.Put 0 3; shows = refl; is = refl; none = λ h. refl },
+  record { are_deeds = refl; are_numbered = (record { is = refl; begins = tt }, tt) },
+  (
+    stamped_deed (Started 1 child_begin) 2 ∷ [],
+    stamped_deed (Requested 1) 3 ∷ stamped_deed (FoundEnded 1 Canceled) 6 ∷ stamped_deed (Ended (Succeeded 7)) 8 ∷ [],
+    record { event = event.Start 1; shows = refl; is = refl; none = λ h. refl },
+    record { are_deeds = (child_begin, child_reads, refl); are_numbered = (record { is = refl; begins = refl }, tt) },
+    (
+      stamped_deed (Requested 1) 3 ∷ [],
+      stamped_deed (FoundEnded 1 Canceled) 6 ∷ stamped_deed (Ended (Succeeded 7)) 8 ∷ [],
+      record { event = event.Request 1; shows = refl; is = refl; none = λ h. refl },
+      record { are_deeds = refl; are_numbered = (record { is = refl; begins = tt }, tt) },
+      (
+        stamped_deed (FoundEnded 1 Canceled) 6 ∷ [],
+        stamped_deed (Ended (Succeeded 7)) 8 ∷ [],
+        record { event = event.Awaited 1; shows = refl; is = refl; none = λ h. absurd h },
+        record { are_deeds = refl; are_numbered = (record { is = refl; begins = tt }, tt) },
+        (
+          stamped_deed (Ended (Succeeded 7)) 8 ∷ [],
+          [],
+          record { event = event.Ended (Succeeded 7); shows = refl; is = refl; none = λ h. refl },
+          record { are_deeds = refl; are_numbered = (record { is = refl; begins = tt }, tt) },
+          refl,
+          refl,
+        ),
+        refl,
+      ),
+      refl,
+    ),
+    refl,
+  ),
+  refl,
+)
+
+-- those of its child, which begins with the stamp of its start: its get comes after the put, and what it sees after the request
+child_stamped : AreStamped example_nodes 2 (shown child_labels) (3 ∷ 4 ∷ 5 ∷ 6 ∷ []) (1 ∷ 3 ∷ 0 ∷ 0 ∷ []) child_deeds
+child_stamped = (
+  stamped_deed (Got 0 3) 1 ∷ [],
+  stamped_deed Saw 3 ∷ stamped_deed (Ended Canceled) 6 ∷ [],
+  record { event = event.Got 0 3; shows = refl; is = refl; none = λ h. absurd h },
+  record { are_deeds = refl; are_numbered = (record { is = refl; begins = tt }, tt) },
+  (
+    stamped_deed Saw 3 ∷ [],
+    stamped_deed (Ended Canceled) 6 ∷ [],
+    record { event = event.Seen; shows = refl; is = refl; none = λ h. absurd h },
+    record { are_deeds = refl; are_numbered = (record { is = refl; begins = tt }, tt) },
+    (
+      [],
+      stamped_deed (Ended Canceled) 6 ∷ [],
+      record { event = event.Cancelled; shows = refl; is = refl; none = λ h. refl },
+      record { are_deeds = refl; are_numbered = tt },
+      (
+        stamped_deed (Ended Canceled) 6 ∷ [],
+        [],
+        record { event = event.Ended Canceled; shows = refl; is = refl; none = λ h. refl },
+        record { are_deeds = refl; are_numbered = (record { is = refl; begins = tt }, tt) },
+        refl,
+        refl,
+      ),
+      refl,
+    ),
+    refl,
+  ),
+  refl,
+)
 
 -- the deeds of the labels, one after the other
-main_did : AreDeeds example_nodes main_labels main_deeds
+main_did : AreDeeds example_nodes main_labels (deeds_of main_deeds)
 main_did = (
   Put 0 3 ∷ [],
   Started 1 child_begin ∷ Requested 1 ∷ FoundEnded 1 Canceled ∷ Ended (Succeeded 7) ∷ [],
@@ -173,7 +257,7 @@ main_did = (
   refl,
 )
 
-child_did : AreDeeds example_nodes child_labels child_deeds
+child_did : AreDeeds example_nodes child_labels (deeds_of child_deeds)
 child_did = (
   Got 0 3 ∷ [],
   Saw ∷ Ended Canceled ∷ [],
@@ -205,6 +289,7 @@ main_bare = record {
   nodes = example_nodes;
   id = 0;
   trace = event.Put 0 3 ∷ event.Start 1 ∷ event.Request 1 ∷ event.Awaited 1 ∷ event.Ended (Succeeded 7) ∷ [];
+  stamps = 1 ∷ 2 ∷ 3 ∷ 7 ∷ 8 ∷ [];
   counts = counts_at 2;
   registers = [];
   frames = [];
@@ -218,6 +303,7 @@ child_bare = record {
   nodes = example_nodes;
   id = 1;
   trace = event.Got 0 3 ∷ event.Seen ∷ event.Cancelled ∷ event.Ended Canceled ∷ [];
+  stamps = 3 ∷ 4 ∷ 5 ∷ 6 ∷ [];
   counts = known_canceled (counts_at 2);
   registers = [];
   frames = [];
@@ -239,6 +325,8 @@ main_parted = record {
     traced = refl;
     deeds = main_deeds;
     are_deeds = main_did;
+    causes = 0 ∷ 0 ∷ 0 ∷ 6 ∷ 0 ∷ [];
+    stamped = main_stamped;
     agreed = main_agrees;
   };
 }
@@ -255,6 +343,8 @@ child_parted = record {
     traced = refl;
     deeds = child_deeds;
     are_deeds = child_did;
+    causes = 1 ∷ 3 ∷ 0 ∷ 0 ∷ [];
+    stamped = child_stamped;
     agreed = child_agrees;
   };
 }
@@ -283,6 +373,10 @@ settled = record {
       (λ same. of_two (λ (y : Entry). 1 ≡ y.id → child_entry ≡ y) main_entry child_entry (λ z. absurd (omega arith)) (λ z. refl) e j same) d i;
   requested = λ e i. of_two (λ (x : Entry). x.seen ≡ true → (d : Entry) × In d seat_view × Among x.id d.asked) main_entry child_entry
       (λ no. absurd (let wrong : false ≡ true = no in cc)) (λ yes. (main_entry, inl refl, inl refl)) e i;
+  requested_with = λ e i. of_two (λ (x : Entry). (t : ℕ) → Among t x.loaded → (d : Entry) × In d seat_view × Among (x.id, t) d.asked_with)
+      main_entry child_entry
+      (λ t j. absurd j)
+      (λ t j. elim j [ inl same ↦ (main_entry, inl refl, inl (ap (λ (n : ℕ). (1, n)) same)) | inr none ↦ absurd none ]) e i;
   ended = λ e i. of_two (λ (x : Entry). (f : ℕ) (o : Outcome) → Among (f, o) x.learnt → (d : Entry) × In d seat_view × (d.id ≡ f) × (d.ended ≡ Some o))
       main_entry child_entry
       (λ f o j. elim j [
@@ -290,6 +384,14 @@ settled = record {
         | inr k ↦ absurd k
       ])
       (λ f o j. absurd j) e i;
+  ended_with = λ e i. of_two
+      (λ (x : Entry). (f t : ℕ) → Among (f, t) x.learnt_stamps → (d : Entry) × In d seat_view × (d.id ≡ f) × (d.stored_stamp ≡ Some t))
+      main_entry child_entry
+      (λ f t j. elim j [
+        | inl p ↦ (child_entry, inr (inl refl), sym (ap (λ (x : ℕ × ℕ). x.0) p), ap (λ (x : ℕ × ℕ). Some x.1) (sym p))
+        | inr k ↦ absurd k
+      ])
+      (λ f t j. absurd j) e i;
   main = λ e i. of_two (λ (x : Entry). x.id ≡ 0 → x.begin ≡ None) main_entry child_entry (λ yes. refl) (λ no. absurd (omega arith)) e i;
   started = λ e i. of_two (λ (x : Entry). x.id ≢ 0 → (d : Entry) × (b : Begin) × In d seat_view × Among (x.id, b) d.parts) main_entry child_entry
       (λ ne. absurd (ne refl)) (λ ne. (main_entry, child_begin, inl refl, inl refl)) e i;
@@ -315,8 +417,16 @@ words_end = record {
 abbrev history : List QueueEvent
 history = queue_event.Put 0 3 ∷ queue_event.Got 1 3 ∷ []
 
-abbrev item : Item
-item = record { fiber = 0; nth = 0; value = 3 }
+-- the same with stamps in place of values
+abbrev stamps : List QueueEvent
+stamps = queue_event.Put 0 1 ∷ queue_event.Got 1 1 ∷ []
+
+abbrev element : ℕ → Element
+element n = record { fiber = 0; nth = 0; value = n }
+
+-- a put of the main fiber that the child takes leaves nothing
+leaves_taken : (n : ℕ) → Leaves 1 (queue_event.Put 0 n ∷ queue_event.Got 1 n ∷ []) []
+leaves_taken n = leaves_got 1 (queue_event.Put 0 n ∷ []) (element n) [] 1 (leaves_put 1 [] [] 0 n (leaves_nothing 1) (omega arith))
 
 abbrev queue_view : PassView
 queue_view = queue.joined main_view child_view
@@ -334,9 +444,13 @@ handed_to_child h k same = elim k [ inl is ↦ (ap (λ (x : Handed). x.seen) (sy
 rest : IsRest queue_view []
 rest = record {
   log = history;
-  legal = leaves_got 1 (queue_event.Put 0 3 ∷ []) item [] 1 (leaves_put 1 [] [] 0 3 (leaves_nothing 1) (omega arith));
+  stamps = stamps;
+  legal = leaves_taken 3;
+  legal_stamps = leaves_taken 1;
+  alike = refl;
   begins = λ e i. of_two (λ (x : pass.Entry). Begins history x.seen) main_view.own child_view.own (queue_event.Got 1 3 ∷ [], refl) ([], refl) e i;
   cuts = λ e i. of_two (λ (x : pass.Entry). cut x.id history ≡ x.acts) main_view.own child_view.own refl refl e i;
+  cuts_stamps = λ e i. of_two (λ (x : pass.Entry). cut x.id stamps ≡ x.stamps) main_view.own child_view.own refl refl e i;
   only = λ f apart.
       (let main : (0 == f) ≡ false = ne_eqb 0 f (λ e. apart main_view.own (inl refl) e) in
       let child : (1 == f) ≡ false = ne_eqb 1 f (λ e. apart child_view.own (inr (inl refl)) e) in

@@ -30,7 +30,7 @@ unfolding read term_of
 main_reads = refl
 
 abbrev pub child_begin : Begin
-child_begin = record { node = node_id 2; slots = []; next = 2; end = 2 }
+child_begin = record { node = node_id 2; slots = []; next = 2; end = 2; stamp = 2 }
 
 abbrev pub child_origin_is : Origin
 child_origin_is = record { term = child_term; next = 2; end = 2 }

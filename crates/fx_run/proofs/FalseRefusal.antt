@@ -8,7 +8,7 @@ use Rattle.std.proofs.lemmas.List.Elements.{All-nil, All-cons}
 use Rattle.fx_term.specs.declared.event.Event.TheVariants as event
 use Rattle.fx_term.specs.declared.outcome.Outcome.TheVariants.{Succeeded}
 use Rattle.fx_term.specs.declared.done.Done.TheVariants.{Val}
-use Rattle.fx_term.specs.declared.item.Item.{Item}
+use Rattle.fx_term.specs.Element.{Element}
 use Rattle.fx_term.specs.declared.queue_event.QueueEvent.{QueueEvent}
 use Rattle.fx_term.specs.Term.{Finished}
 use Rattle.fx_term.specs.Queue.{QueueState, empty_queue, queue_events, Leaves}
@@ -89,7 +89,7 @@ nothing (suc q) = refl
 history : (q : ℕ) → HasHistory false_report q (capacity_of false_script q)
 history q = record {
   history = [];
-  leaves = subst (λ (xs : List Item). Leaves (capacity_of false_script q) [] xs) (sym (nothing q)) (leaves_nothing (capacity_of false_script q));
+  leaves = subst (λ (xs : List Element). Leaves (capacity_of false_script q) [] xs) (sym (nothing q)) (leaves_nothing (capacity_of false_script q));
   cuts = no_events q;
 }
 
@@ -114,7 +114,7 @@ is_alone : IsOnlyFiber false_report 0
 is_alone g x e = (is_that g x e).0
 
 -- nothing leaves a queue empty
-leaves_none : (capacity : ℕ) (items : List Item) → Leaves capacity [] items → items ≡ []
+leaves_none : (capacity : ℕ) (items : List Element) → Leaves capacity [] items → items ≡ []
 leaves_none capacity items l = sym l.rest_is ∙ sym (ap (λ (s : QueueState). s.items) (same_Some empty_queue l.last l.legal))
 
 pub false_is_refused : (may : ℕ → Bool) → IsLawfulWithRefusals false_script may false_report → ⊥

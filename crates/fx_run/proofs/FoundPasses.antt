@@ -9,14 +9,14 @@ use Rattle.fx_term.specs.declared.begin.Begin.{Begin}
 use Rattle.fx_term.specs.declared.node.Node.{Node}
 use Rattle.fx_term.specs.declared.event.Event.{Event}
 use Rattle.fx_term.specs.declared.event.Event.TheVariants as event
-use Rattle.fx_term.specs.declared.item.Item.{Item}
+use Rattle.fx_term.specs.Element.{Element}
 use Rattle.fx_term.specs.declared.queue_event.QueueEvent.{QueueEvent}
 use Rattle.fx_term.specs.Queue.{queue_events, cut, Leaves}
 use Rattle.fx_term.specs.Script.{ScriptView, total}
 use Rattle.fx_term.proofs.LeavesLaws.{leaves_nothing}
 use Rattle.fx_model.specs.Report.{capacity_of}
-use Rattle.fx_model.specs.Run.{events}
 use Rattle.fx_fiber.specs.Deed.{Deed, Started, queue_deed, queue_deeds}
+use Rattle.fx_fiber.specs.StampedDeed.{deeds_of}
 use Rattle.fx_word.specs.Words as word
 use Rattle.fx_queue.specs.declared.entry.Entry.{Entry}
 use Rattle.fx_queue.specs.declared.entry.Handed.{Handed}
@@ -65,7 +65,7 @@ backed_by Empty f q passes earlier h = h
 -- what a pass had found at one moment at queue q, after these events of its fiber
 pub record FoundBy (s : ScriptView) (k : Refusal) (q f : ℕ) (e : Entry) (before : List Event) : Type 0 where
   pub log : List QueueEvent
-  pub items : List Item
+  pub items : List Element
   pub seen : List QueueEvent
   pub legal : Leaves (capacity_of s q) log items
   pub found : length items ≡ held k (capacity_of s q)
@@ -136,8 +136,9 @@ module _ (nodes : List Node) (words : word.WordsId) (queues : List QueueId) (s :
       f : ℕ
       f = a.port.words.own.id
 
-      at : FoundAt a.lawful.deeds (found_so k q) f before
-      at = found_at a.bare.nodes f k q _ a.bare.counts _ _ a.lawful.labels a.lawful.deeds a.lawful.run a.lawful.are_deeds before after (a.lawful.traced ∙ is)
+      at : FoundAt (deeds_of a.lawful.deeds) (found_so k q) f before
+      at = found_at a.bare.nodes f k q _ a.bare.counts _ _ a.lawful.labels (deeds_of a.lawful.deeds) a.lawful.run a.lawful.are_deeds before after
+          (a.lawful.traced ∙ is)
 
       backed : IsBacked f a.port.passes at.earlier (found_so k q)
       backed = a.lawful.agreed.passes.refusals at.earlier at.later (found_so k q) at.is
@@ -184,8 +185,9 @@ module _ (nodes : List Node) (words : word.WordsId) (queues : List QueueId) (s :
       g : ℕ
       g = a.port.words.own.id
 
-      at : (b : Begin) × FoundAt a.lawful.deeds (Started f b) g before
-      at = started_at a.bare.nodes g f _ a.bare.counts _ _ a.lawful.labels a.lawful.deeds a.lawful.run a.lawful.are_deeds before after (a.lawful.traced ∙ is)
+      at : (b : Begin) × FoundAt (deeds_of a.lawful.deeds) (Started f b) g before
+      at = started_at a.bare.nodes g f _ a.bare.counts _ _ a.lawful.labels (deeds_of a.lawful.deeds) a.lawful.run a.lawful.are_deeds before after
+          (a.lawful.traced ∙ is)
 
       by_pass : (o : Option HeldPass) → slice_get a.port.passes q ≡ o
           → (h : Handed) × Among h (entry_by g o).handed × (h.id ≡ f) × (cut g h.seen ≡ queue_events q g before)

@@ -1,9 +1,10 @@
 -- What is given of fibers, and what a report says of them, by their numbers.
-use Rattle.std.proofs.Common.{◌≡◌, ℕ, Option, Some, None, option_map, List, refl, sym, ◌∙◌, ap}
-use Rattle.std.specs.Prelude.{◌==◌}
+use Rattle.std.proofs.Common.{◌≡◌, ℕ, zero, suc, Option, Some, None, option_map, List, [], ◌∷◌, map, refl, sym, ◌∙◌, ap}
+use Rattle.std.specs.Prelude.{◌==◌, slice_index_or}
 use Rattle.std.proofs.lemmas.Bool.{eqb-true}
 use Rattle.std.proofs.lemmas.Option.{none-some, same_Some}
 use Rattle.fx_term.specs.declared.item.Item.{Item}
+use Rattle.fx_term.specs.Element.{elements_of}
 use Rattle.fx_model.specs.Report.{FiberReportView, ReportView, fiber_in}
 use Rattle.fx_fiber.specs.Bare.{BareView}
 use Rattle.fx_run.specs.Parted.{Parted, bares_of, parted_at}
@@ -12,6 +13,12 @@ use Rattle.fx_run.proofs.Members.{found_is, found_by_number}
 
 abbrev pub bare_of_parted : Parted → BareView
 bare_of_parted p = p.bare
+
+-- what is left in a queue, without the stamps of the puts
+pub left_is : (left : List (List Item)) (q : ℕ) → slice_index_or (map elements_of left) q [] ≡ elements_of (slice_index_or left q [])
+left_is [] q = refl
+left_is (xs ∷ left) zero = refl
+left_is (xs ∷ left) (suc q) = left_is left q
 
 -- a report by the fibers that were given to it
 module _ (bares : List BareView) (left : List (List Item)) (outside : List ℕ) (late : ℕ) where

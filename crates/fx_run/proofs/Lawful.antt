@@ -4,7 +4,7 @@ use Rattle.std.specs.Prelude.{◌≢◌, length, slice_index_or}
 use Rattle.std.specs.List.{list_any}
 use Rattle.std.proofs.lemmas.Bool.{eq-eqb, cases_lt, or_left, or_right}
 use Rattle.std.proofs.lemmas.Option.{none-some}
-use Rattle.std.proofs.lemmas.List.{get_or_past}
+use Rattle.std.proofs.lemmas.List.{get_or_past, length-map}
 use Rattle.fx_term.specs.Lists.{Among}
 use Rattle.fx_term.specs.declared.node.Node.{Node}
 use Rattle.fx_term.specs.declared.outcome.Outcome.{Outcome}
@@ -12,6 +12,8 @@ use Rattle.fx_term.specs.declared.outcome.Outcome.TheVariants.{Canceled}
 use Rattle.fx_term.specs.declared.event.Event.{Event}
 use Rattle.fx_term.specs.declared.event.Event.TheVariants as event
 use Rattle.fx_term.specs.declared.item.Item.{Item}
+use Rattle.fx_term.specs.declared.queue_event.QueueEvent.{QueueEvent}
+use Rattle.fx_term.specs.Element.{Element, elements_of}
 use Rattle.fx_term.specs.Script.{ScriptView}
 use Rattle.fx_term.specs.Forms.{IsCore}
 use Rattle.fx_term.specs.Meaning.{root_term}
@@ -26,6 +28,7 @@ use Rattle.fx_model.specs.LawfulReport.{HasRun, BeginsAs, HasRuns, HasOrigins, H
 use Rattle.fx_model.specs.Headline.{KeepsWhatIsPromised}
 use Rattle.fx_model.proofs.Beginnings.{main_begins}
 use Rattle.fx_model.proofs.HeadlineLaws.{lawful_report_holds}
+use Rattle.fx_fiber.specs.StampedDeed.{deeds_of}
 use Rattle.fx_fiber.specs.Bare.{reached}
 use Rattle.fx_word.specs.declared.entry.Entry.{Entry}
 use Rattle.fx_queue.specs.declared.entry.Entry as pass
@@ -36,7 +39,7 @@ use Rattle.fx_run.specs.Parted.{Parted, bares_of, parted_at}
 use Rattle.fx_run.specs.Reported.{RanCode, AreAscending, report_of_bare, NoneIsLost, NoneIsUnsettled}
 use Rattle.fx_run.specs.EndOfRun.{AreNamed, AreNoted, WordsEnd, QueueEnd, IsUntouched, EndsWithReport}
 use Rattle.fx_run.proofs.Members.{all_among, any_among, found_passes, contained_passes}
-use Rattle.fx_run.proofs.GivenFibers.{id_at, bare_in, report, report_in, report_nowhere, of_report}
+use Rattle.fx_run.proofs.GivenFibers.{id_at, bare_in, report, report_in, report_nowhere, of_report, left_is}
 use Rattle.fx_run.proofs.DeedLaws.{end_shown, saw_done, learnt_done, request_shown, shown}
 use Rattle.fx_run.proofs.QueueDeeds.{queue_done}
 use Rattle.fx_run.proofs.RunEnds.{label_ends_trace}
@@ -67,7 +70,7 @@ module _ (s : ScriptView) where
 
 module _ (s : ScriptView) (nodes : List Node) (ps : List Parted) (left : List (List Item)) (outside : List ℕ) (late : ℕ)
     (ran : RanCode nodes (bares_of ps)) (ascending : AreAscending (bares_of ps)) (lost : NoneIsLost (bares_of ps)) (words : WordsEnd ps) where
-  abbrev told : ReportView
+  abbrev pub told : ReportView
   told = report ps left outside late
 
   abbrev origin_in : ℕ → Origin
@@ -88,22 +91,22 @@ module _ (s : ScriptView) (nodes : List Node) (ps : List Parted) (left : List (L
       ∙ main_begins m.0.bare.nodes ∙ ap (λ (ns : List Node). main_origin (root_term ns)) (its_code nodes ps ran ascending lost words 0 m.0 m.1)
       ∙ ap main_origin (sym term)
 
-  trace_at : (f : ℕ) (p : Parted) → parted_at ps f ≡ Some p → trace_in told f ≡ p.bare.trace
+  pub trace_at : (f : ℕ) (p : Parted) → parted_at ps f ≡ Some p → trace_in told f ≡ p.bare.trace
   trace_at f p at = ap trace_of_report (report_in ps left outside late f p at)
 
-  trace_nowhere : (f : ℕ) → parted_at ps f ≡ None → trace_in told f ≡ []
+  pub trace_nowhere : (f : ℕ) → parted_at ps f ≡ None → trace_in told f ≡ []
   trace_nowhere f e = ap trace_of_report (report_nowhere ps left outside late f e)
 
   -- what was learnt
   ended_as : (f : ℕ) (p : Parted) → parted_at ps f ≡ Some p → (o : Outcome) → p.words.ended ≡ Some o → EndsWith (trace_in told f) o
   ended_as f p at o e =
-      let src = end_shown p.bare.nodes p.lawful.labels p.lawful.deeds p.lawful.are_deeds o (p.lawful.agreed.words_agree.ended o e) in
+      let src = end_shown p.bare.nodes p.lawful.labels (deeds_of p.lawful.deeds) p.lawful.are_deeds o (p.lawful.agreed.plain.words_agree.ended o e) in
       let ends = label_ends_trace (begin_in p) p.lawful.labels p.bare.counts (reached p.bare) src.item o p.lawful.run src.among src.gives in
       subst (λ (es : List Event). EndsWith es o) (p.lawful.traced ∙ sym (trace_at f p at)) ends
 
   is_learnt : (g : ℕ) (p : Parted) → parted_at ps g ≡ Some p → (l : Label) → Among l p.lawful.labels → IsLearnt told l
   is_learnt g p at (Learns f o e) i =
-      let found = p.lawful.agreed.words_agree.found f o (learnt_done p.bare.nodes p.lawful.labels p.lawful.deeds p.lawful.are_deeds f o e i) in
+      let found = p.lawful.agreed.plain.words_agree.found f o (learnt_done p.bare.nodes p.lawful.labels (deeds_of p.lawful.deeds) p.lawful.are_deeds f o e i) in
       let d = words.settled.ended p.words (in_seat nodes ps ran ascending lost words g p at) f o found in
       let has = entry_of nodes ps ran ascending lost words f d.0 d.1 d.2 in
       ended_as f has.fiber has.at o (sym (ap (λ (w : Entry). w.ended) has.is) ∙ d.3)
@@ -115,16 +118,16 @@ module _ (s : ScriptView) (nodes : List Node) (ps : List Parted) (left : List (L
   module _ (noted_outside : AreNoted ps outside) where
     is_seen : (g : ℕ) (p : Parted) → parted_at ps g ≡ Some p → (l : Label) → Among l p.lawful.labels → IsSeenRightly told g l
     is_seen g p at (Shows event.Seen) i =
-        let saw = p.lawful.agreed.words_agree.saw (saw_done p.bare.nodes p.lawful.labels p.lawful.deeds p.lawful.are_deeds i) in
+        let saw = p.lawful.agreed.plain.words_agree.saw (saw_done p.bare.nodes p.lawful.labels (deeds_of p.lawful.deeds) p.lawful.are_deeds i) in
         let d = words.settled.requested p.words (in_seat nodes ps ran ascending lost words g p at) saw in
         let has = entry_of nodes ps ran ascending lost words d.0.id d.0 d.1 refl in
         let q = has.fiber in
-        let number : p.words.id ≡ g = p.lawful.agreed.words_agree.number ∙ id_at ps g p at in
+        let number : p.words.id ≡ g = p.lawful.agreed.plain.words_agree.number ∙ id_at ps g p at in
         let asked : Among g q.words.asked =
         subst (λ (w : Entry). Among g w.asked) has.is (subst (λ (n : ℕ). Among n d.0.asked) number d.2) in
-        elim (q.lawful.agreed.words_agree.asked g asked) [
+        elim (q.lawful.agreed.plain.words_agree.asked g asked) [
           | inl done ↦
-              (let label = request_shown q.bare.nodes q.lawful.labels q.lawful.deeds q.lawful.are_deeds g done in
+              (let label = request_shown q.bare.nodes q.lawful.labels (deeds_of q.lawful.deeds) q.lawful.are_deeds g done in
               let there : Among (event.Request g) q.bare.trace =
               subst (λ (es : List Event). Among (event.Request g) es) q.lawful.traced (shown q.lawful.labels (event.Request g) label) in
               let asks = any_among (is_request_for g) q.bare.trace (event.Request g) there (eq-eqb g g refl) in
@@ -139,10 +142,10 @@ module _ (s : ScriptView) (nodes : List Node) (ps : List Parted) (left : List (L
     is_seen g p at (Starts f b) i = tt
 
   -- what a fiber's trace does to a queue is what its pass did
-  acts_told : (q f : ℕ) (p : Parted) → parted_at ps f ≡ Some p → (p.passes q).acts ≡ queue_events q f (trace_in told f)
+  pub acts_told : (q f : ℕ) (p : Parted) → parted_at ps f ≡ Some p → (p.passes q).acts ≡ queue_events q f (trace_in told f)
   acts_told q f p at =
-      (p.lawful.agreed.queues_agree q).acts
-      ∙ queue_done p.bare.nodes q p.bare.id _ p.bare.counts _ (reached p.bare) p.lawful.labels p.lawful.deeds p.lawful.run p.lawful.are_deeds
+      (p.lawful.agreed.plain.queues_agree q).acts
+      ∙ queue_done p.bare.nodes q p.bare.id _ p.bare.counts _ (reached p.bare) p.lawful.labels (deeds_of p.lawful.deeds) p.lawful.run p.lawful.are_deeds
       ∙ ap (λ (n : ℕ). queue_events q n (events p.lawful.labels)) (id_at ps f p at)
       ∙ ap (queue_events q f) (p.lawful.traced ∙ sym (trace_at f p at))
 
@@ -150,7 +153,8 @@ module _ (s : ScriptView) (nodes : List Node) (ps : List Parted) (left : List (L
   closed_history : (q capacity : ℕ) → QueueEnd q capacity ps (slice_index_or left q []) → HasHistory told q capacity
   closed_history q capacity c = record {
     history = c.rest.log;
-    leaves = subst (λ (n : ℕ). Leaves n c.rest.log (slice_index_or left q [])) c.sized c.rest.legal;
+    leaves = subst (λ (xs : List Element). Leaves capacity c.rest.log xs) (sym (left_is left q))
+        (subst (λ (n : ℕ). Leaves n c.rest.log (elements_of (slice_index_or left q []))) c.sized c.rest.legal);
     cuts = λ f. by_fiber f (parted_at ps f) refl;
   }
     where
@@ -175,7 +179,8 @@ module _ (s : ScriptView) (nodes : List Node) (ps : List Parted) (left : List (L
   no_history : (q : ℕ) → length left ≤ q → IsUntouched q ps → HasHistory told q (capacity_of s q)
   no_history q past untouched = record {
     history = [];
-    leaves = subst (λ (xs : List Item). Leaves (capacity_of s q) [] xs) (sym (get_or_past left q [] past)) (leaves_nothing (capacity_of s q));
+    leaves = subst (λ (xs : List Element). Leaves (capacity_of s q) [] xs) (sym (left_is left q ∙ ap elements_of (get_or_past left q [] past)))
+        (leaves_nothing (capacity_of s q));
     cuts = λ f. by_fiber f (parted_at ps f) refl;
   }
     where
@@ -243,7 +248,7 @@ module _ (s : ScriptView) (nodes : List Node) (ps : List Parted) (left : List (L
         starters = starters_told nodes ps ran ascending lost words left outside late;
         runs = all_runs;
         origins = origins_told;
-        left_by_queue = by_queue;
+        left_by_queue = length-map left elements_of ∙ by_queue;
         histories = history_told;
         learnt = λ f x e. all_labels (IsLearnt told) f (λ p at. is_learnt f p at) x e;
         seen = λ f x e. all_labels (IsSeenRightly told f) f (λ p at. is_seen noted_outside f p at) x e;
@@ -254,6 +259,24 @@ module _ (s : ScriptView) (nodes : List Node) (ps : List Parted) (left : List (L
       pub progress_told : (f : ℕ) (p : Parted) → parted_at ps f ≡ Some p → report_is_lawful.runs.progress f ≡ reached p.bare
       unfolding all_runs report_is_lawful
       progress_told f p at = ap (progress_at s) at
+
+      pub labels_told : (f : ℕ) → report_is_lawful.runs.labels f ≡ labels_at s (parted_at ps f)
+      unfolding all_runs report_is_lawful
+      labels_told f = refl
+
+      -- the history of a queue is the one that was told when it was closed, or there is none
+      pub data HistoryOf (q : ℕ) (history : List QueueEvent) : Type 0 where
+        of_close : (lt : q < length s.capacities) → history ≡ (queues q lt).rest.log → HistoryOf q history
+        of_none : length s.capacities ≤ q → history ≡ [] → HistoryOf q history
+
+      history_of_by : (q : ℕ) (o : (q < length s.capacities) ⊎ (length s.capacities ≤ q)) → HistoryOf q (history_by q o).history
+      unfolding history_by closed_history no_history
+      history_of_by q (inl lt) = of_close lt refl
+      history_of_by q (inr le) = of_none le refl
+
+      pub history_of : (q : ℕ) → HistoryOf q (report_is_lawful.histories q).history
+      unfolding history_told report_is_lawful
+      history_of q = history_of_by q (cases_lt q (length s.capacities))
 
       pub history_goes_on : (q f : ℕ) (p : Parted) → q < length s.capacities → parted_at ps f ≡ Some p
           → Begins (report_is_lawful.histories q).history (p.passes q).seen

@@ -15,11 +15,14 @@ pub mod CloseFaults
 pub mod TracedDeeds
 pub mod FoundPasses
 pub mod RefusalLaws
+pub mod EndStamps
+pub mod StampLaws
 pub mod Starters
 pub mod Lawful
 pub mod RunWaits
 pub mod Answered
 pub mod Agreeing
+pub mod AgreeingStamps
 pub mod PassChanges
 pub mod LedgerLaws
 pub mod LostLaws

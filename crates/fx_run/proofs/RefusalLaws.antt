@@ -20,6 +20,7 @@ use Rattle.fx_queue.specs.History.{Begins}
 use Rattle.fx_queue.specs.Queues.{QueueId}
 use Rattle.fx_queue.specs.PassView as queue
 use Rattle.fx_queue.proofs.Histories.{cut-append, Begins-trans}
+use Rattle.fx_fiber.specs.StampedDeed.{deeds_of}
 use Rattle.fx_run.specs.declared.gathered.Gathered.{Gathered}
 use Rattle.fx_run.specs.Gathered.{IsGathered, AreAllowed}
 use Rattle.fx_run.specs.Parted.{Parted, bares_of, parted_at}
@@ -83,7 +84,7 @@ module _ (s : ScriptView) (may : ℕ → Bool) (answer : ReportView) (h : EndsWi
   -- a fiber that is the only one split its passes for nobody
   no_parts : (q f : ℕ) (p : Parted) → parted_at ps f ≡ Some p → IsOnlyFiber told f → (p.passes q).parts ≡ []
   no_parts q f p at only = has_none (p.passes q).parts (λ g i.
-      let d = (p.lawful.agreed.queues_agree q).parts g i in
+      let d = (p.lawful.agreed.plain.queues_agree q).parts g i in
       starts_nobody told lawful.starters f only (report_of_bare (bares_of ps) p.bare) (report_in ps h.left h.outside h.late f p at) g
       (part_in_trace g d.0 p d.1))
 
@@ -145,9 +146,9 @@ module _ (s : ScriptView) (may : ℕ → Bool) (answer : ReportView) (h : EndsWi
       let p = o.fiber in
       let trace : p.bare.trace ≡ before ++ after = ap (λ (y : FiberReportView). y.trace) (sym o.is) ∙ is in
       let number = id_at ps g p o.at in
-      let done = queue_done p.bare.nodes q p.bare.id _ p.bare.counts _ _ p.lawful.labels p.lawful.deeds p.lawful.run p.lawful.are_deeds in
+      let done = queue_done p.bare.nodes q p.bare.id _ p.bare.counts _ _ p.lawful.labels (deeds_of p.lawful.deeds) p.lawful.run p.lawful.are_deeds in
       let none : queue_events q p.bare.id p.bare.trace ≡ [] =
-      ap (queue_events q p.bare.id) (sym p.lawful.traced) ∙ (sym done ∙ (sym (p.lawful.agreed.queues_agree q).acts ∙ h.undeclared q le g p o.at)) in
+      ap (queue_events q p.bare.id) (sym p.lawful.traced) ∙ (sym done ∙ (sym (p.lawful.agreed.plain.queues_agree q).acts ∙ h.undeclared q le g p o.at)) in
       none_before (queue_events q g before) (queue_events q g after)
       (sym (filter_map-append (queue_event q g) before after) ∙ (ap (queue_events q g) (sym trace)
       ∙ subst (λ (n : ℕ). queue_events q n p.bare.trace ≡ []) number none))

@@ -24,7 +24,7 @@ use Rattle.fx_run.specs.Parted.{Parted, bares_of, parted_at}
 use Rattle.fx_run.specs.Reported.{bare_at, report_of_bare}
 use Rattle.fx_run.specs.EndOfRun.{EndsWithReport}
 use Rattle.fx_run.specs.RunWaits.{AreWaitsAt, IsLawfulWithWaits, wait_of, all_waits}
-use Rattle.fx_run.proofs.GivenFibers.{report, report_in, OfBare, of_bare, id_at}
+use Rattle.fx_run.proofs.GivenFibers.{report, report_in, of_bare, id_at}
 use Rattle.fx_run.proofs.Lawful.{report_is_lawful, progress_told}
 
 -- what a fiber more waits for

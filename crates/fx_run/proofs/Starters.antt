@@ -17,6 +17,7 @@ use Rattle.fx_model.specs.Report.{FiberReportView, ReportView, fiber_in, parent_
 use Rattle.fx_model.specs.LawfulReport.{is_start_of, starts_of, is_parent, HasStarters}
 use Rattle.fx_model.proofs.StartLaws.{run_starts, start_of_trace}
 use Rattle.fx_term.specs.Lists.{Among}
+use Rattle.fx_fiber.specs.StampedDeed.{deeds_of}
 use Rattle.fx_fiber.specs.Bare.{BareView, reached}
 use Rattle.fx_word.specs.declared.entry.Entry.{Entry}
 use Rattle.fx_word.specs.SeatView.{In, entries}
@@ -93,8 +94,8 @@ module _ (nodes : List Node) (ps : List Parted) (ran : RanCode nodes (bares_of p
 
   pub child_of : (g f : ℕ) (b : Origin) (p : Parted) → parted_at ps g ≡ Some p → Among (Starts f b) p.lawful.labels → ChildOf g f b
   child_of g f b p at i =
-      let done = start_done p.bare.nodes p.lawful.labels p.lawful.deeds p.lawful.are_deeds f b i in
-      let part = p.lawful.agreed.words_agree.started f done.begin done.done in
+      let done = start_done p.bare.nodes p.lawful.labels (deeds_of p.lawful.deeds) p.lawful.are_deeds f b i in
+      let part = p.lawful.agreed.plain.words_agree.started f done.begin done.done in
       let z = started_is_given ps lost g f p at (start_in_trace f b p i) in
       let begun : z.0.words.begin ≡ Some (p.words.id, done.begin) =
       words.settled.began p.words (in_seat g p at) f done.begin part z.0.words (in_seat f z.0 z.1) (number_at ps f z.0 z.1) in
@@ -180,7 +181,7 @@ module _ (nodes : List Node) (ps : List Parted) (ran : RanCode nodes (bares_of p
       let q = has.fiber in
       let part : Among (f, o.1) q.words.parts =
       subst (λ (d : Entry). Among (f, o.1) d.parts) has.is (subst (λ (n : ℕ). Among (n, o.1) o.0.parts) same o.3) in
-      let start = part_in_trace f o.1 q (q.lawful.agreed.words_agree.parts f o.1 part) in
+      let start = part_in_trace f o.1 q (q.lawful.agreed.plain.words_agree.parts f o.1 part) in
       let any = any_among (is_start_of f) q.bare.trace (event.Start f) start (eq-eqb f f refl) in
       record { number = o.0.id; is = starter_is_parent o.0.id f q has.at any; fiber = q; at = has.at }
 

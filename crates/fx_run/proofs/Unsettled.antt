@@ -5,11 +5,12 @@ use Rattle.std.specs.Prelude.{◌==◌, ◌||◌, nat_lt, if◌then◌else◌, s
 use Rattle.std.specs.List.{find, list_any}
 use Rattle.std.proofs.lemmas.Bool.{eqb-true, cases_lt, lt-ltb, le-ltb}
 use Rattle.std.proofs.lemmas.Option.{none-some, same_Some}
-use Rattle.std.proofs.lemmas.List.{length-replicate, get_or-replicate, get_or_past}
+use Rattle.std.proofs.lemmas.List.{length-replicate, get_or-replicate, get_or_past, length-map}
 use Rattle.std.proofs.lemmas.List.Elements.{All-head, All-tail}
 use Rattle.std.proofs.lemmas.List.Kept.{AllPairs-from_increasing}
 use Rattle.fx_term.specs.Lists.{Among}
 use Rattle.fx_term.specs.declared.item.Item.{Item}
+use Rattle.fx_term.specs.Element.{Element, element_of, elements_of}
 use Rattle.fx_term.specs.declared.outcome.Outcome.{Outcome}
 use Rattle.fx_term.specs.Script.{ScriptView, total}
 use Rattle.fx_model.specs.declared.closed.Closed.{Closed}
@@ -49,9 +50,9 @@ in_word_some n = elim (cases_lt n (2 ^ 32 - 1)) [
   | inr le ↦ ap (λ (b : Bool). nat_lt 0 (if b then n else 2 ^ 32 - 1)) (le-ltb n (2 ^ 32 - 1) le) ∙ sym (lt-ltb 0 n (omega (arith, le)))
 ]
 
-length_at : (left : List (List Item)) (q : ℕ) → slice_index (lengths_of left) q ≡ in_word (length (slice_index_or left q []))
+length_at : (left : List (List Item)) (q : ℕ) → slice_index (lengths_of left) q ≡ in_word (length (slice_index_or (map elements_of left) q []))
 length_at [] q = refl
-length_at (xs ∷ left) zero = refl
+length_at (xs ∷ left) zero = ap in_word (sym (length-map xs element_of))
 length_at (xs ∷ left) (suc q) = length_at left q
 
 each_fits : (ns : List ℕ) (q : ℕ) → All (λ (n : ℕ). n < 2 ^ 32) ns → slice_index ns q < 2 ^ 32
@@ -220,14 +221,16 @@ module _ (s : ScriptView) (bares : List BareView) (left : List (List Item)) (out
         (outcomes ∙ ap (λ (k : ℕ). (ledger_of k).outcomes) same) (requested ∙ ap (λ (k : ℕ). (ledger_of k).requested) same) f (sym found_is ∙ e),
   )
 
-  pub reported_answer : (fibers : List FiberReportView) → found ≡ None
+  pub reported_answer : (fibers : List FiberReportView) (rest : List (List Element)) → found ≡ None
       → parents ≡ (with_requests outside (with_fibers bares (empty_ledger n))).parents → fibers ≡ map (report_by parents) bares
-      → IsReported s bares (report_of bares left outside late) (record { fibers = fibers; left = left; outside = outside; late = late })
-  reported_answer fibers e parents_are are = record {
+      → rest ≡ map elements_of left
+      → IsReported s bares (report_of bares left outside late) (record { fibers = fibers; left = rest; outside = outside; late = late })
+  reported_answer fibers rest e parents_are are rest_is = record {
     none_lost = whole;
     none_unsettled = none_unsettled s bares left outside late ascending (some_total s) below c caps fits rests
         (outcomes ∙ ap (λ (k : ℕ). (ledger_of k).outcomes) same) (requested ∙ ap (λ (k : ℕ). (ledger_of k).requested) same) (sym found_is ∙ e);
-    is = ap (λ (fs : List FiberReportView). record { fibers = fs; left = left; outside = outside; late = late })
+    is = ap (λ (xs : List (List Element)). record { fibers = fibers; left = xs; outside = outside; late = late }) rest_is
+        ∙ ap (λ (fs : List FiberReportView). record { fibers = fs; left = map elements_of left; outside = outside; late = late })
         (are ∙ reports_alike s bares left outside late ascending (some_total s) below parents
         (parents_are ∙ ap (λ (k : ℕ). (ledger_of k).parents) same));
   }

@@ -7,6 +7,7 @@ use Rattle.fx_term.specs.declared.event.Event.TheVariants as event
 use Rattle.fx_model.specs.Row.{Starts}
 use Rattle.fx_model.specs.Origin.{Origin, origin_of}
 use Rattle.fx_fiber.specs.Deed.{Started}
+use Rattle.fx_fiber.specs.StampedDeed.{deeds_of}
 use Rattle.fx_word.specs.declared.entry.Entry.{Entry}
 use Rattle.fx_word.specs.declared.seat_view.SeatView.{SeatView}
 use Rattle.fx_word.specs.SeatView as seat
@@ -24,16 +25,17 @@ use Rattle.fx_run.proofs.Gathering.{gathered_of, whose}
 pub start_in_trace : (f : ℕ) (b : Origin) (p : Parted) → Among (Starts f b) p.lawful.labels → Among (event.Start f) p.bare.trace
 start_in_trace f b p i = subst (λ (es : List Event). Among (event.Start f) es) p.lawful.traced (started_in_trace p.lawful.labels f b i)
 
-pub part_in_trace : (f : ℕ) (b : Begin) (p : Parted) → Among (Started f b) p.lawful.deeds → Among (event.Start f) p.bare.trace
-part_in_trace f b p i = start_in_trace f (origin_of p.bare.nodes b) p (start_shown p.bare.nodes p.lawful.labels p.lawful.deeds p.lawful.are_deeds f b i)
+pub part_in_trace : (f : ℕ) (b : Begin) (p : Parted) → Among (Started f b) (deeds_of p.lawful.deeds) → Among (event.Start f) p.bare.trace
+part_in_trace f b p i =
+    start_in_trace f (origin_of p.bare.nodes b) p (start_shown p.bare.nodes p.lawful.labels (deeds_of p.lawful.deeds) p.lawful.are_deeds f b i)
 
 module _ (ps : List Parted) where
   -- the number of its entries
   pub number_at : (f : ℕ) (p : Parted) → parted_at ps f ≡ Some p → p.words.id ≡ f
-  number_at f p at = p.lawful.agreed.words_agree.number ∙ id_at ps f p at
+  number_at f p at = p.lawful.agreed.plain.words_agree.number ∙ id_at ps f p at
 
   pub pass_number_at : (q f : ℕ) (p : Parted) → parted_at ps f ≡ Some p → (p.passes q).id ≡ f
-  pass_number_at q f p at = (p.lawful.agreed.queues_agree q).number ∙ id_at ps f p at
+  pass_number_at q f p at = (p.lawful.agreed.plain.queues_agree q).number ∙ id_at ps f p at
 
   module _ (lost : NoneIsLost (bares_of ps)) where
     pub main_is_given : (p : Parted) × (parted_at ps 0 ≡ Some p)
@@ -55,7 +57,7 @@ module _ (ps : List Parted) where
           each : (e : Entry) → seat.In e v → (i : ℕ) (b : Begin) → Among (i, b) e.parts → (d : Entry) × seat.In d v × (d.id ≡ i)
           each e here i b k =
               let o = whose ps ascending (λ (p : Parted). p.words) (seat.entries v) gathered e here in
-              let part = o.fiber.lawful.agreed.words_agree.parts i b (subst (λ (d : Entry). Among (i, b) d.parts) o.is k) in
+              let part = o.fiber.lawful.agreed.plain.words_agree.parts i b (subst (λ (d : Entry). Among (i, b) d.parts) o.is k) in
               let z = started_is_given o.fiber.bare.id i o.fiber o.at (part_in_trace i b o.fiber part) in
               (z.0.words, gathered_of ps ascending (λ (p : Parted). p.words) (seat.entries v) gathered i z.0 z.1, number_at i z.0 z.1)
 
@@ -66,6 +68,6 @@ module _ (ps : List Parted) where
           each : (e : pass.Entry) → queue.In e v → (i : ℕ) → Among i e.parts → (d : pass.Entry) × queue.In d v × (d.id ≡ i)
           each e here i k =
               let o = whose ps ascending (λ (p : Parted). p.passes q) (queue.entries v) gathered e here in
-              let b = (o.fiber.lawful.agreed.queues_agree q).parts i (subst (λ (d : pass.Entry). Among i d.parts) o.is k) in
+              let b = (o.fiber.lawful.agreed.plain.queues_agree q).parts i (subst (λ (d : pass.Entry). Among i d.parts) o.is k) in
               let z = started_is_given o.fiber.bare.id i o.fiber o.at (part_in_trace i b.0 o.fiber b.1) in
               (z.0.passes q, gathered_of ps ascending (λ (p : Parted). p.passes q) (queue.entries v) gathered i z.0 z.1, pass_number_at q i z.0 z.1)

@@ -30,4 +30,4 @@ pub record Apart (nodes : List Node) (words : WordsId) (queues : List QueueId) :
   pub code : bare.nodes ≡ nodes
   pub number : bare.id ≡ port.words.own.id
   pub of_run : IsOfRun words queues (λ f. true) port
-  pub lawful : IsLawful bare.nodes (beginning_in bare.nodes port.words.own.begin) (ThreadAgrees port) bare.trace bare.counts (reached bare)
+  pub lawful : IsLawful bare.nodes (beginning_in bare.nodes port.words.own.begin) (ThreadAgrees port) bare.trace bare.stamps bare.counts (reached bare)

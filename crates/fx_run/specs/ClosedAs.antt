@@ -29,4 +29,4 @@ can_step_by c x = can_step (outside_of c) x.id x.counts (reached x)
 
 -- what is reported of a fiber by a list of parents
 abbrev pub report_by : List (Option ℕ) → BareView → FiberReportView
-report_by parents x = record { id = x.id; parent = slice_index_or parents x.id None; has_ended = has_ended (reached x); trace = x.trace }
+report_by parents x = record { id = x.id; parent = slice_index_or parents x.id None; has_ended = has_ended (reached x); trace = x.trace; stamps = x.stamps }

@@ -39,8 +39,15 @@ example_report = record {
         parent = None;
         has_ended = true;
         trace = event.Put 0 3 ∷ event.Start 1 ∷ event.Request 1 ∷ event.Awaited 1 ∷ event.Ended (Succeeded 7) ∷ [];
+        stamps = 1 ∷ 2 ∷ 3 ∷ 7 ∷ 8 ∷ [];
       }
-      ∷ record { id = 1; parent = Some 0; has_ended = true; trace = event.Got 0 3 ∷ event.Seen ∷ event.Cancelled ∷ event.Ended Canceled ∷ [] }
+      ∷ record {
+        id = 1;
+        parent = Some 0;
+        has_ended = true;
+        trace = event.Got 0 3 ∷ event.Seen ∷ event.Cancelled ∷ event.Ended Canceled ∷ [];
+        stamps = 3 ∷ 4 ∷ 5 ∷ 6 ∷ [];
+      }
       ∷ [];
   left = [] ∷ [];
   outside = [];

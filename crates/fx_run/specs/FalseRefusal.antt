@@ -15,7 +15,7 @@ abbrev pub false_trace : List Event
 false_trace = event.Refused 0 ∷ event.Ended (Succeeded 0) ∷ []
 
 abbrev pub false_fiber : FiberReportView
-false_fiber = record { id = 0; parent = None; has_ended = true; trace = false_trace }
+false_fiber = record { id = 0; parent = None; has_ended = true; trace = false_trace; stamps = 1 ∷ 2 ∷ [] }
 
 abbrev pub false_report : ReportView
 false_report = record { fibers = false_fiber ∷ []; left = [] ∷ []; outside = []; late = 0 }

@@ -6,7 +6,7 @@ use Rattle.fx_fiber.specs.Bare.{BareView, reached}
 use Rattle.fx_word.specs.declared.entry.Entry.{Entry}
 use Rattle.fx_queue.specs.declared.entry.Entry as pass
 use Rattle.fx_port.specs.PortView.{beginning_in}
-use Rattle.fx_run.specs.Agreement.{PortAgrees}
+use Rattle.fx_run.specs.Agreement.{StampedPortAgrees}
 
 -- a fiber, and what its port knew: the words' entry, which numbers it noted from outside, and an entry for each queue, by number. They agree with what the
 -- fiber did in its run, which began as the words say
@@ -15,7 +15,8 @@ pub record Parted : Type 0 where
   pub words : Entry
   pub noted : ℕ → Bool
   pub passes : ℕ → pass.Entry
-  pub lawful : IsLawful bare.nodes (beginning_in bare.nodes words.begin) (PortAgrees bare.id words noted passes) bare.trace bare.counts (reached bare)
+  pub lawful : IsLawful bare.nodes (beginning_in bare.nodes words.begin) (StampedPortAgrees bare.id words noted passes) bare.trace bare.stamps bare.counts
+      (reached bare)
 
 -- the fibers without what their ports knew
 abbrev pub bares_of : List Parted → List BareView

@@ -2,7 +2,7 @@
 use Rattle.std.specs.Prelude.{◌≡◌, ℕ, ◌≤◌, Bool, Some, List, [], ◌∷◌, ◌++◌, length}
 use Rattle.fx_term.specs.declared.event.Event.{Event}
 use Rattle.fx_term.specs.declared.event.Event.TheVariants as event
-use Rattle.fx_term.specs.declared.item.Item.{Item}
+use Rattle.fx_term.specs.Element.{Element}
 use Rattle.fx_term.specs.declared.queue_event.QueueEvent.{QueueEvent}
 use Rattle.fx_term.specs.Queue.{cut, queue_events, Leaves}
 use Rattle.fx_term.specs.Script.{ScriptView, total}
@@ -31,7 +31,7 @@ IsOnlyFiber r f = (g : ℕ) (x : FiberReportView) → fiber_in r g ≡ Some x �
 -- report has no other fiber it is these events alone
 pub record HeldAfter (s : ScriptView) (r : ReportView) (k : Refusal) (q f : ℕ) (history : List QueueEvent) (before : List Event) : Type 0 where
   pub log : List QueueEvent
-  pub items : List Item
+  pub items : List Element
   pub shared : List QueueEvent
   pub legal : Leaves (capacity_of s q) log items
   pub found : length items ≡ held k (capacity_of s q)

@@ -6,6 +6,7 @@ use Rattle.fx_term.specs.Lists.{Among}
 use Rattle.fx_term.specs.declared.node.Node.{Node}
 use Rattle.fx_term.specs.declared.event.Event.TheVariants as event
 use Rattle.fx_term.specs.declared.item.Item.{Item}
+use Rattle.fx_term.specs.Element.{elements_of}
 use Rattle.fx_term.specs.Script.{ScriptView}
 use Rattle.fx_model.specs.Step.{has_ended}
 use Rattle.fx_model.specs.Outside.{can_step}
@@ -30,11 +31,12 @@ abbrev pub parent_of : List BareView → ℕ → Option ℕ
 parent_of bares f = option_map (λ (x : BareView). x.id) (find (λ (x : BareView). list_any (is_start_of f) x.trace) bares)
 
 abbrev pub report_of_bare : List BareView → BareView → FiberReportView
-report_of_bare bares x = record { id = x.id; parent = parent_of bares x.id; has_ended = has_ended (reached x); trace = x.trace }
+report_of_bare bares x = record { id = x.id; parent = parent_of bares x.id; has_ended = has_ended (reached x); trace = x.trace; stamps = x.stamps }
 
 -- the report of these fibers
 abbrev pub report_of : List BareView → List (List Item) → List ℕ → ℕ → ReportView
-report_of bares left outside late = record { fibers = map (report_of_bare bares) bares; left = left; outside = outside; late = late }
+report_of bares left outside late =
+    record { fibers = map (report_of_bare bares) bares; left = map elements_of left; outside = outside; late = late }
 
 -- the fiber is not given, and is the main one or one that a trace starts
 abbrev pub IsLost : List BareView → ℕ → Type 0

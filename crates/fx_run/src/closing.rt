@@ -3,6 +3,7 @@ ghost use Rattle.std.specs.Prelude.{◌≡◌, ◌≤◌, ℕ, Bool, All, IfOk, 
 ghost use Rattle.std.specs.List.Sorted.{IsStrictlyIncreasing};
 ghost use Rattle.fx_term.specs.Script.{total};
 ghost use Rattle.fx_model.specs.Headline.{KeepsWhatIsPromised};
+ghost use Rattle.fx_model.specs.ReportStamps.{IsStampedReport};
 ghost use Rattle.fx_text.specs.View.{meaning};
 ghost use Rattle.fx_report.specs.Script.{script_of};
 ghost use Rattle.fx_queue.specs.Queues.{QueueId};
@@ -69,6 +70,8 @@ pub(crate) fn close_run<R: Wait>(
     ensures refusals { (may : ℕ → Bool) → AreAllowed may gathered.noted
         → IfOk result (λ halt. IsLawfulWithRefusals (script_of (meaning script.now)) may
         halt.report) }
+    ensures stamped { (may : ℕ → Bool) → AreAllowed may gathered.noted
+        → IfOk result (λ halt. IsStampedReport (script_of (meaning script.now)) may halt.report) }
     ensures writable { script.now.code.queues ≤ length script.now.queues.items
         → IfOk result (λ halt. IsWritable (queue_names (meaning script.now)) halt.report) }
     ensures named { script.now.code.queues ≤ length script.now.queues.items

@@ -1,9 +1,10 @@
 //! How many elements fibers put into each queue, and got from it.
 ghost use Rattle.std.specs.Prelude.{◌≡◌, length, IfOk};
+ghost use Rattle.fx_term.specs.Stamped.{events_in};
 ghost use Rattle.fx_run.specs.Flows.{no_flows, with_one, with_move, with_moves, rest_in, rests_in};
 
 use crate::whole_report::word;
-use fx_term::{Event, Memory};
+use fx_term::{Event, Memory, Stamped};
 use std::alloc::Global;
 use std::marker::Model;
 
@@ -44,11 +45,11 @@ impl Flows {
     }
 
     /// Counts what a fiber put and got.
-    pub fn events(&mut self, trace: &[Event])
-        ensures { self.new ≡ with_moves trace.now self.old }
+    pub fn events(&mut self, trace: &[Stamped])
+        ensures { self.new ≡ with_moves (events_in trace.now) self.old }
     {
         for k in 0..trace.len() {
-            self.event(trace[k]);
+            self.event(trace[k].event);
         }
     }
 

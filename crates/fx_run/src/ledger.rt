@@ -1,5 +1,6 @@
 //! What traces tell, by fiber number.
 ghost use Rattle.std.specs.Prelude.{◌≡◌, ℕ, ◌<◌, true, false, IfOk, IfSome, IfNone};
+ghost use Rattle.fx_term.specs.Stamped.{events_in};
 ghost use Rattle.fx_run.specs.Ledger.{empty_ledger, with_start, with_request, with_end};
 ghost use Rattle.fx_run.specs.Ledger.{with_event, with_events, with_trace, with_fibers, with_requests};
 ghost use Rattle.fx_run.specs.Ledger.{with_marks};
@@ -7,7 +8,7 @@ ghost use Rattle.fx_run.specs.Ledger.{is_lost_in, IsFirstLost};
 
 use fx_fiber::Bare;
 use fx_port::Marks;
-use fx_term::{Event, Memory, Outcome};
+use fx_term::{Event, Memory, Outcome, Stamped};
 use std::alloc::Global;
 use std::marker::Model;
 
@@ -99,17 +100,17 @@ impl Ledger {
         }
     }
 
-    fn events(&mut self, id: u32, trace: &[Event])
-        ensures { self.new ≡ with_events id trace.now self.old }
+    fn events(&mut self, id: u32, trace: &[Stamped])
+        ensures { self.new ≡ with_events id (events_in trace.now) self.old }
     {
         for k in 0..trace.len() {
-            self.event(id, trace[k]);
+            self.event(id, trace[k].event);
         }
     }
 
     /// The fiber of this number was given, with this trace.
-    pub fn fiber(&mut self, id: u32, trace: &[Event])
-        ensures { self.new ≡ with_trace id trace.now self.old }
+    pub fn fiber(&mut self, id: u32, trace: &[Stamped])
+        ensures { self.new ≡ with_trace id (events_in trace.now) self.old }
     {
         if let Some(is_given) = self.given.get_mut(id as usize) {
             *is_given = true;

@@ -17,7 +17,7 @@
 //!
 //! | laws of | what they say |
 //! |---|---|
-//! | [`laws::ports`] | each call of a port keeps the agreement of what is known of its fiber with what the fiber did |
+//! | [`laws::ports`] | each call of a port keeps the agreement of what is known of its fiber, stamps too, with what the fiber did |
 //! | [`laws::gathering`] | seats and passes that took in those of all fibers given can be closed, where no fiber is lost |
 //! | [`laws::reports`] | the report of a run that has ended so is lawful, and keeps what is promised |
 //!

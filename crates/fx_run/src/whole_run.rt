@@ -3,6 +3,7 @@ ghost use Rattle.std.specs.Prelude.{◌≡◌, ◌≢◌, ◌<◌, ◌≤◌, �
 ghost use Rattle.fx_term.specs.Script.{total};
 ghost use Rattle.fx_model.specs.LawfulReport.{IsLawfulReport};
 ghost use Rattle.fx_model.specs.Headline.{KeepsWhatIsPromised};
+ghost use Rattle.fx_model.specs.ReportStamps.{IsStampedReport};
 ghost use Rattle.fx_text.specs.View.{meaning};
 ghost use Rattle.fx_report.specs.Script.{script_of};
 ghost use Rattle.fx_report.specs.Text.{queue_names, IsWritable};
@@ -112,6 +113,8 @@ fn run_by<R: Wait + Threads + Sync + RandomSource + AllocGlobal, G: Gate + Sync>
         (G.may gate.now) halt.report) }
     ensures refusals { IfOk result (λ halt. IsLawfulWithRefusals (script_of (meaning script.now))
         (G.may gate.now) halt.report) }
+    ensures stamped { IfOk result (λ halt. IsStampedReport (script_of (meaning script.now))
+        (G.may gate.now) halt.report) }
     ensures writable { script.now.code.queues ≤ length script.now.queues.items
         → IfOk result (λ halt. IsWritable (queue_names (meaning script.now)) halt.report) }
     ensures named { script.now.code.queues ≤ length script.now.queues.items
@@ -144,6 +147,8 @@ pub fn run_to_halt<R: Wait + Threads + Sync + RandomSource + AllocGlobal, G: Gat
         (G.may gate.now) halt.report) }
     ensures refusals { IfOk result (λ halt. IsLawfulWithRefusals (script_of (meaning script.now))
         (G.may gate.now) halt.report) }
+    ensures stamped { IfOk result (λ halt. IsStampedReport (script_of (meaning script.now))
+        (G.may gate.now) halt.report) }
     ensures writable { script.now.code.queues ≤ length script.now.queues.items
         → IfOk result (λ halt. IsWritable (queue_names (meaning script.now)) halt.report) }
     ensures named { script.now.code.queues ≤ length script.now.queues.items
@@ -175,6 +180,8 @@ pub fn run<R: Wait + Threads + Sync + RandomSource + AllocGlobal, G: Gate + Sync
         (λ r. KeepsWhatIsPromised (script_of (meaning script.now)) (G.may gate.now) r) }
     ensures refusals { IfOk result
         (λ r. IsLawfulWithRefusals (script_of (meaning script.now)) (G.may gate.now) r) }
+    ensures stamped { IfOk result
+        (λ r. IsStampedReport (script_of (meaning script.now)) (G.may gate.now) r) }
     ensures writable { script.now.code.queues ≤ length script.now.queues.items
         → IfOk result (λ r. IsWritable (queue_names (meaning script.now)) r) }
     ensures workers { ((workers < 1) ⊎ (most_workers < workers)) ↔ (result ≡ Err Workers) }

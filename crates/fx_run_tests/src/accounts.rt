@@ -1,9 +1,11 @@
 //! What each report must account for, told from its traces alone.
 use crate::rows::Machine;
 use fx_fiber::{FiberReport, Report, State};
+use fx_order::order_by_stamp;
+use fx_order_tests::first_before_cause;
 use fx_run::run;
 use fx_sched::Gate;
-use fx_term::{Event, Item, Outcome};
+use fx_term::{Event, Item, Memory, Outcome, Stamped};
 use fx_text::Script;
 use std::test::Fail;
 
@@ -15,9 +17,15 @@ pub fn assert_adds_up<G: Gate + Sync>(
     gate: &G,
 ) -> Result<(), Fail> {
     let report = run(rt, rt.alloc(), script, workers, gate)?;
-    assert!(rt; adds_up(&report));
+    assert!(rt; adds_up(&report) && puts_causes_first(rt, &report)?);
     assert_eq!(rt; report.late, 0);
     Ok(())
+}
+
+/// Whether causes come first in the list of the report's events by stamp.
+pub fn puts_causes_first(rt: &impl Machine, report: &Report) -> Result<bool, Memory> {
+    let list = order_by_stamp(rt.alloc(), report)?;
+    Ok(first_before_cause(&list, &report.outside).is_none())
 }
 
 /// Whether the report accounts for its fibers and for the elements of its queues.
@@ -42,7 +50,12 @@ fn ends_as_told(fiber: &FiberReport) -> bool {
 
 fn outcome(fiber: &FiberReport) -> Option<Outcome> {
     match fiber.trace.last() {
-        Some(Event::Ended(outcome)) => Some(*outcome),
+        Some(
+            Stamped {
+                event: Event::Ended(outcome),
+                ..
+            },
+        ) => Some(*outcome),
         _ => None,
     }
 }
@@ -50,8 +63,8 @@ fn outcome(fiber: &FiberReport) -> Option<Outcome> {
 /// Whether each fiber that it started is told with its parent, each that it joined ended as it found, each
 /// that it waited to be canceled ended, and it was requested where it saw that.
 fn is_answered(report: &Report, fiber: &FiberReport) -> bool {
-    for event in fiber.trace.iter() {
-        let answered = match *event {
+    for shown in fiber.trace.iter() {
+        let answered = match shown.event {
             Event::Start(child) => parent(report, child) == Some(fiber.id),
             Event::Joined(other, found) => end(report, other) == Some(found),
             Event::Awaited(other) => end(report, other).is_some(),
@@ -79,7 +92,7 @@ fn is_requested(report: &Report, id: u32) -> bool {
         || report.fibers.iter().any(|fiber| fiber
             .trace
             .iter()
-            .any(|event| *event == Event::Request(id)))
+            .any(|shown| shown.event == Event::Request(id)))
 }
 
 /// Whether what was put into the queue is what was taken out of it and what is left, in number and in sum.
@@ -91,8 +104,8 @@ fn balances(report: &Report, queue: usize, left: &[Item]) -> bool {
         sum = sum.wrapping_add(item.value);
     }
     for fiber in report.fibers.iter() {
-        for event in fiber.trace.iter() {
-            match *event {
+        for shown in fiber.trace.iter() {
+            match shown.event {
                 Event::Put(q, value) if q as usize == queue => {
                     count = count.wrapping_sub(1);
                     sum = sum.wrapping_sub(value);

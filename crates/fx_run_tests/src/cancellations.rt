@@ -1,9 +1,9 @@
 //! Fibers that are canceled from outside, before a turn that the gate counts to.
-use crate::accounts::adds_up;
+use crate::accounts::{adds_up, puts_causes_first};
 use crate::rows::{Machine, PAIRS, assert_comes_to, run_text};
 use fx_run::run;
 use fx_sched::{At, Free};
-use fx_term::{Event, Outcome};
+use fx_term::{Event, Outcome, Stamped};
 use fx_text::{Script, parse};
 use std::test::Fail;
 
@@ -82,14 +82,19 @@ fn the_fiber_is_canceled_at_the_turn(rt: HostRuntime) -> Result<(), Fail> {
     Ok(())
 }
 
-static HELD_TRACE: [Event; 7] = [
-    Event::Acquired(0),
-    Event::Seen,
-    Event::Cancelled,
-    Event::Begin(0),
-    Event::Put(0, 7),
-    Event::End(0),
-    Event::Ended(Outcome::Canceled),
+macro_rules! at {
+    ($stamp:literal, $event:expr) => { Stamped { event: $event, stamp: $stamp } };
+}
+
+/// Each stamp is one more than the one before it, since the request comes from outside.
+static HELD_TRACE: [Stamped; 7] = [
+    at!(1, Event::Acquired(0)),
+    at!(2, Event::Seen),
+    at!(3, Event::Cancelled),
+    at!(4, Event::Begin(0)),
+    at!(5, Event::Put(0, 7)),
+    at!(6, Event::End(0)),
+    at!(7, Event::Ended(Outcome::Canceled)),
 ];
 
 #[test]
@@ -123,6 +128,7 @@ fn assert_canceled_at(rt: &impl Machine, script: &Script, turn: u64, id: u32) ->
     let report = run(rt, rt.alloc(), script, 4, &At::new(turn, id))?;
     let outside = report.outside.as_slice();
     assert!(rt; adds_up(&report) && (outside.is_empty() || outside == [id].as_slice()));
+    assert!(rt; puts_causes_first(rt, &report)?);
     assert_eq!(rt; report.late, 0);
     Ok(())
 }

@@ -6,7 +6,7 @@ ghost use Rattle.fx_fiber.specs.PortFacts.{first_facts};
 use fx_fiber::{Bare, Fiber, Port, Report, State};
 use fx_plain::PlainWorld;
 use fx_run::{RunFault, report};
-use fx_term::{Code, CodeBrand, Event, Memory, Outcome};
+use fx_term::{Code, CodeBrand, Event, Memory, Outcome, Stamped};
 use fx_text::{Script, parse};
 use std::alloc::Global;
 use std::marker::Brand;
@@ -106,12 +106,15 @@ fn what_is_missing_and_what_could_go_on_is_told(rt: HostRuntime) -> Result<(), F
     Ok(())
 }
 
-/// Scripts, the state of the main fiber at the end, and the first event of its trace.
-static REPORTED: [(&str, State, Option<Event>); 2] = [
+/// Scripts, the state of the main fiber at the end, and the first event of its trace with its stamp.
+static REPORTED: [(&str, State, Option<Stamped>); 2] = [
     (
         "(main (pure 5))",
         State::Ended,
-        Some(Event::Ended(Outcome::Succeeded(5))),
+        Some(Stamped {
+            event: Event::Ended(Outcome::Succeeded(5)),
+            stamp: 1,
+        }),
     ),
     ("(main (never))", State::Blocked, None),
 ];

@@ -19,6 +19,7 @@ const FIRST: Item = Item {
     fiber: 0,
     nth: 0,
     value: 5,
+    stamp: 0,
 };
 
 /// What a queue with one element answers as it is closed.

@@ -46,10 +46,11 @@ fn begun(alloc: Global, refuser: &Refuser) -> Result<bool, Memory> {
         slots,
         next: 1,
         end: 2,
+        stamp: 1,
     };
     refuser.go_on();
     let copy = begin.copied(alloc)?;
-    Ok(copy.end == 2 && copy.slots.number_of(Arg::Slot(0)) == 7)
+    Ok(copy.end == 2 && copy.stamp == 1 && copy.slots.number_of(Arg::Slot(0)) == 7)
 }
 
 /// What the call answers. What is made of it is looked at and let go without a request.

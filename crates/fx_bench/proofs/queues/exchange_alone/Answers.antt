@@ -17,7 +17,7 @@ exchanging-preserved g c =
       id = inv.id ∙ (sym same.id ∙ sym then.id);
       count = elim c.match-offer_as.branch [
         | in-Ok+in-Some w ↦ w.nth-is ∙ (w.in-Some.ensures.1 ∙ (ap (λ (k : ℕ). k + 1) inv.count
-            ∙ (sym (put_count c.exchanging.pass.view _ c.offer_as.new.pass.view w.in-Ok.ensures.rule) ∙ sym kept)))
+            ∙ (sym (put_count c.exchanging.pass.view _ _ c.offer_as.new.pass.view w.in-Ok.ensures.rule) ∙ sym kept)))
         | in-Err w ↦ w.nth-is ∙ (inv.count ∙ (ap (λ (p : HeldPass). puts p.view.own.acts) (sym w.in-Err.ensures.rule.1) ∙ sym kept))
       ];
     }

@@ -11,5 +11,5 @@ putting-preserved-in-Ok g c =
       id = inv.id ∙ sym same.id;
       count =
           c.in-Some-checked_add.ensures.1 ∙ (ap (λ (k : ℕ). k + 1) inv.count
-          ∙ sym (put_count c.putting.pass.view _ c.offer_as.new.pass.view c.in-Ok.ensures.rule));
+          ∙ sym (put_count c.putting.pass.view _ _ c.offer_as.new.pass.view c.in-Ok.ensures.rule));
     }

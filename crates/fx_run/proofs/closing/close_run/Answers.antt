@@ -16,6 +16,7 @@ use Rattle.fx_run.specs.RunWaits.{all_waits}
 use Rattle.fx_run.specs.Closing.{AreMarked}
 use Rattle.fx_run.proofs.CloseFaults.{lost_so, reported_so}
 use Rattle.fx_run.proofs.RefusalLaws.{refusals_true}
+use Rattle.fx_run.proofs.StampLaws.{stamps_true}
 use Rattle.fx_run.proofs.EndLaws.{all_below, ran_so, seat_whole, passes_whole, waits_so, waits_named_so}
 use Rattle.fx_run.proofs.closing.close_run.Goals as goal
 
@@ -83,6 +84,14 @@ returns-clause-refusals g c may allowed =
     let nodes = c.args.script.now.code.nodes in
     let lost = subst NoneIsLost c.deref.ensures.value c.in_ok-test_for_lost.ensures.whole in
     refusals_true nodes c.args.words c.args.queues.items c.args.gathered c.requires.gathered lost c.requires.ascending s refl c.requires.fibers
+    c.requires.capacities may allowed c.close.ensures.settled c.args.late _ (returns-clause-report g c)
+
+pub returns-clause-stamped : goal.returns-clause-stamped
+returns-clause-stamped g c may allowed =
+    let s = script_of (meaning c.args.script.now) in
+    let nodes = c.args.script.now.code.nodes in
+    let lost = subst NoneIsLost c.deref.ensures.value c.in_ok-test_for_lost.ensures.whole in
+    stamps_true nodes c.args.words c.args.queues.items c.args.gathered c.requires.gathered lost c.requires.ascending s refl c.requires.fibers
     c.requires.capacities may allowed c.close.ensures.settled c.args.late _ (returns-clause-report g c)
 
 pub returns-clause-writable : goal.returns-clause-writable

@@ -1,4 +1,6 @@
-use Rattle.std.proofs.Common.{rules, ◌≡◌, ◌∙◌, map}
+use Rattle.std.proofs.Common.{rules, ◌≡◌, ◌∙◌, sym, map}
+use Rattle.std.proofs.lemmas.Simd.{map-map}
+use Rattle.fx_term.specs.Element.{elements_of}
 use Rattle.fx_text.specs.View.{meaning}
 use Rattle.fx_report.specs.Script.{script_of}
 use Rattle.fx_run.proofs.Unsettled.{declared_capacities, unsettled_answer, reported_answer}
@@ -32,4 +34,5 @@ returns-clause-report c =
     c.into_tables-parents.result.0.items c.first_unsettled.result
     (let e : c.in_ok-caps.caps.items ≡ map (λ q. q.cap) c.args.script.now.queues.items = search rules in
     e ∙ declared_capacities c.args.script.now.queues.items)
-    c.in_ok-caps.ensures.fits (search rules) (search rules) (search rules) (search rules) (search rules) _ (search rules) (search rules) (search rules)
+    c.in_ok-caps.ensures.fits (search rules) (search rules) (search rules) (search rules) (search rules) _ _ (search rules) (search rules) (search rules)
+    (sym (map-map elements_of (λ items. items.items) c.args.left.items))

@@ -1,6 +1,7 @@
 use Rattle.std.proofs.Common.{◌≡◌, drop}
+use Rattle.fx_term.specs.Stamped.{events_in}
 use Rattle.fx_run.specs.Ledger.{with_events}
 use Rattle.fx_run.proofs.ledger.Ledger.events.Given as goal
 
 abbrev pub invariant-loop-k : goal.invariant-loop-k
-invariant-loop-k l = with_events l.fn.id (drop l.k l.fn.trace) l.self ≡ with_events l.fn.id l.fn.trace l.fn.self
+invariant-loop-k l = with_events l.fn.id (events_in (drop l.k l.fn.trace)) l.self ≡ with_events l.fn.id (events_in l.fn.trace) l.fn.self

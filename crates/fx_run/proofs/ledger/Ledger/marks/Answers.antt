@@ -1,4 +1,4 @@
-use Rattle.std.proofs.Common.{◌≡◌, ◌∙◌, sym, arith}
+use Rattle.std.proofs.Common.{◌∙◌, sym, arith}
 use Rattle.fx_run.proofs.LedgerLaws.{with_no_mark}
 use Rattle.fx_run.proofs.ledger.Ledger.marks.Goals as goal
 

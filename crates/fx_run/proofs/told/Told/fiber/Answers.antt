@@ -1,5 +1,6 @@
 use Rattle.std.proofs.Common.{◌≡◌, ◌∙◌, ℕ, Bool, List, ap}
 use Rattle.fx_term.specs.declared.event.Event.{Event}
+use Rattle.fx_term.specs.Stamped.{events_in}
 use Rattle.fx_port.specs.PortView.{PortView}
 use Rattle.fx_run.specs.Ledger.{with_trace, with_marks}
 use Rattle.fx_run.specs.Flows.{with_moves}
@@ -14,7 +15,7 @@ returns g c =
     let noted : c.noted.result.now ≡ f.port.noted = c.noted.ensures ∙ ap (λ (p : PortView). p.noted) c.port.ensures in
     let traced : c.fiber.new.self ≡ with_trace id f.trace ledger =
     c.fiber.ensures
-    ∙ ap (λ (n : ℕ). with_trace n c.trace.result.now ledger) c.id.ensures.is
+    ∙ ap (λ (n : ℕ). with_trace n (events_in c.trace.result.now) ledger) c.id.ensures.is
     ∙ ap (λ (es : List Event). with_trace id es ledger) c.trace.ensures.events in
     let marked : c.marks.new.self ≡ with_marks 0 f.port.noted (with_trace id f.trace ledger) =
     c.marks.ensures
