@@ -16,6 +16,7 @@ pub(crate) mod ahead;
 pub(crate) mod body;
 mod burst;
 mod child;
+mod fork;
 pub(crate) mod glide;
 pub(crate) mod rules;
 mod start;

@@ -1,6 +1,6 @@
 //! Runs of one fiber over a port that is requested at some look, and their traces, counted by hand from
 //! the table.
-ghost use Rattle.std.specs.Prelude.{◌≡◌, ◌^◌, true, Some, None, is_some, ◌||◌, List};
+ghost use Rattle.std.specs.Prelude.{◌≡◌, ◌^◌, true, Some, None, is_some, ◌||◌, List, IfOk};
 ghost use Rattle.fx_term.specs.declared.node.Node.{Node};
 
 use fx_fiber::{Closed, Fiber, Port, Source, Stepped, main_begin};
@@ -68,6 +68,7 @@ mod binding;
 mod can_step;
 mod cases;
 mod fibers;
+mod forking;
 mod leaves;
 mod loops;
 mod masking;
@@ -134,6 +135,23 @@ impl<J: CodeBrand> TestPort<J> {
             puts: 0,
             of: PhantomData,
         }
+    }
+
+    /// One that has done the same.
+    fn copied(&self) -> Result<TestPort<J>, Memory>
+        ensures { IfOk result (λ port. port ≡ self.now) }
+    {
+        Ok(TestPort {
+            alloc: self.alloc,
+            id: self.id,
+            begin: self.begin.copied(self.alloc)?,
+            next: self.next,
+            saw: self.saw,
+            told: self.told,
+            held: self.held,
+            puts: self.puts,
+            of: PhantomData,
+        })
     }
 }
 

@@ -1,5 +1,6 @@
 //! The contexts that a fiber has entered.
-ghost use Rattle.std.specs.Prelude.{◌≡◌, List, [], ◌∷◌, OnOk, OnErr, MatchOption};
+ghost use Rattle.std.specs.Prelude.{◌≡◌, List, [], ◌∷◌, IfOk, OnOk, OnErr, MatchOption};
+ghost use Rattle.std.specs.Bool.{OnTrue};
 ghost use Rattle.fx_frames.specs.Frames.{cleanups_of};
 
 use crate::frame::Frame;
@@ -44,6 +45,22 @@ impl Frames {
         self.items.reserve(1)?;
         self.items.push_reserved(frame);
         Ok(())
+    }
+
+    /// The same contexts in memory of their own.
+    pub fn copied(&self, alloc: Global) -> Result<Frames, Memory>
+        ensures { IfOk result (λ copy. copy ≡ self.now) }
+    {
+        Ok(Frames {
+            items: Vec::from_slice(alloc, &self.items)?,
+        })
+    }
+
+    /// Whether these are the same contexts.
+    pub fn is_same(&self, other: &Frames) -> bool
+        ensures { OnTrue result (self.now ≡ other.now) }
+    {
+        self.items == other.items
     }
 
     /// The innermost context.

@@ -1,9 +1,12 @@
 //! The clean-ups of contexts that were given up.
-ghost use Rattle.std.specs.Prelude.{◌≡◌, [], ◌∷◌, reverse, option_to_list, MatchOption};
+ghost use Rattle.std.specs.Prelude.{◌≡◌, [], ◌∷◌, reverse, option_to_list, IfOk, MatchOption};
+ghost use Rattle.std.specs.Bool.{OnTrue};
 ghost use Rattle.fx_frames.specs.Frames.{cleanups_of};
 
 use crate::cleanup::Cleanup;
 use crate::frame::Frame;
+use fx_term::Memory;
+use std::alloc::Global;
 use std::marker::Model;
 
 /// The clean-ups that are left of contexts that were given up, seen as the list of them, the
@@ -48,6 +51,22 @@ impl Unwinding {
         ensures { result ≡ cleanups_of (reverse items.items) }
     {
         Unwinding { items }
+    }
+
+    /// The same clean-ups in memory of their own.
+    pub fn copied(&self, alloc: Global) -> Result<Unwinding, Memory>
+        ensures { IfOk result (λ copy. copy ≡ self.now) }
+    {
+        Ok(Unwinding {
+            items: Vec::from_slice(alloc, &self.items)?,
+        })
+    }
+
+    /// Whether these are the same clean-ups, left by the same contexts.
+    pub fn is_same(&self, other: &Unwinding) -> bool
+        ensures { OnTrue result (self.now ≡ other.now) }
+    {
+        self.items == other.items
     }
 
     /// Takes the next clean-up.

@@ -1,5 +1,6 @@
 //! The closed regions of the place where a fiber stands.
 ghost use Rattle.std.specs.Prelude.{◌≡◌, ◌≢◌, ℕ, ◌^◌, ◌<◌, List, [], ◌∷◌, IsTrue, MatchBool, OnOk, OnErr, IfOk};
+ghost use Rattle.std.specs.Bool.{OnTrue};
 ghost use Rattle.fx_mask.specs.Closing as closing;
 ghost use Rattle.fx_mask.specs.Closing.{Closing, without_region, is_none_closed};
 ghost use Rattle.fx_mask.specs.Masks.{closed_by, entered, IsOpened};
@@ -70,6 +71,27 @@ impl Masks {
         ensures { result ≡ self.now.entries }
     {
         self.entries
+    }
+
+    /// The same masks in memory of their own, with room for each opened region.
+    pub fn copied(&self, alloc: Global) -> Result<Masks, Memory>
+        ensures { IfOk result (λ copy. copy ≡ self.now) }
+    {
+        let mut members = Vec::from_slice(alloc, &self.members)?;
+        members.reserve(self.opened)?;
+        Ok(Masks {
+            members,
+            entries: self.entries,
+            opened: self.opened,
+        })
+    }
+
+    /// Whether the same regions and seals are closed, and as many regions were ever entered.
+    pub fn is_same(&self, other: &Masks) -> bool
+        ensures { OnTrue result ((self.now.regions ≡ other.now.regions)
+            × (self.now.entries ≡ other.now.entries)) }
+    {
+        other.entries == self.entries && self.members == other.members
     }
 
     /// Closes a new region, and gives its number.

@@ -3,7 +3,7 @@
 use fx_term::{Done, NodeId, Outcome};
 
 /// What stands inside all contexts, or what there is in their place.
-#[derive(Clone, Copy)]
+#[derive(Clone, Copy, PartialEq, Eq)]
 pub enum Focus {
     /// The term of this node.
     Eval(NodeId),

@@ -1,8 +1,11 @@
 //! The clean-ups of a fiber that was canceled.
-ghost use Rattle.std.specs.Prelude.{◌≡◌, ◌∷◌, [], MatchOption};
+ghost use Rattle.std.specs.Prelude.{◌≡◌, ◌∷◌, [], IfOk, MatchOption};
+ghost use Rattle.std.specs.Bool.{OnTrue};
 ghost use Rattle.fx_fiber.specs.Machine.{resource_of};
 
 use fx_frames::{Cleanup, Unwinding};
+use fx_term::Memory;
+use std::alloc::Global;
 
 /// The clean-ups of a fiber that was canceled, and which it is in.
 #[derive(Drop)]
@@ -14,6 +17,23 @@ pub struct Unwound {
 }
 
 impl Unwound {
+    /// The same in memory of its own.
+    pub fn copied(&self, alloc: Global) -> Result<Unwound, Memory>
+        ensures { IfOk result (λ copy. copy ≡ self.now) }
+    {
+        Ok(Unwound {
+            resource: self.resource,
+            left: self.left.copied(alloc)?,
+        })
+    }
+
+    /// Whether these are the same.
+    pub fn is_same(&self, other: &Unwound) -> bool
+        ensures { OnTrue result (self.now ≡ other.now) }
+    {
+        self.resource == other.resource && self.left.is_same(&other.left)
+    }
+
     /// Takes the next clean-up, which is the one that the fiber is in from now on.
     pub fn next(&mut self) -> Option<Cleanup>
         ensures { MatchOption result ((self.old.left ≡ []) × (self.new.left ≡ []))
