@@ -40,8 +40,9 @@ impl Body {
             (λ body. IsFirstBody nodes id begin.now (with_slots begin.now.slots body.value)) }
     {
         let mut trace = Vec::new(alloc);
-        // A fiber has at least one event, its end.
-        trace.reserve(1)?;
+        // A fiber has at least one event, its end. Few have more than three, and a block of four is past
+        // the sizes that an allocator hands out again at once.
+        trace.reserve_exact(3)?;
         let machine = Machine::beginning(alloc, begin);
         let source = None;
         Ok(Box::new(
