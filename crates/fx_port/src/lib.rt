@@ -42,6 +42,7 @@ mod marks;
 mod notes;
 mod open;
 mod outcome_rings;
+mod own;
 mod passes;
 mod run_brand;
 pub mod sends;

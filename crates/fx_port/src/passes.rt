@@ -32,6 +32,15 @@ impl Passes {
         Passes { row }
     }
 
+    /// Those of no queue.
+    pub(crate) fn none(alloc: Global) -> Passes
+        ensures { result ≡ [] }
+    {
+        Passes {
+            row: Vec::new(alloc),
+        }
+    }
+
     pub(crate) fn into_row(self) -> Vec<CountedPass>
         ensures { result.items ≡ self }
     {

@@ -8,6 +8,7 @@ ghost use Rattle.fx_port.specs.ThreadCalls.{ThreadAgrees};
 
 use crate::marks::Marks;
 use crate::notes::Notes;
+use crate::own::Own;
 use crate::passes::Passes;
 use crate::run_brand::RunBrand;
 use crate::sources::Sources;
@@ -31,10 +32,7 @@ pub struct ThreadPort<'a, R: Wait, N: RunBrand> {
     queues: &'a [FiberQueue],
     sources: &'a Sources,
     seat: WordSeat,
-    passes: Passes,
-    noted: Marks,
-    /// What the fiber last registered for, and has not come by since.
-    waited: Option<Source>,
+    own: Box<Own>,
     of: PhantomData<N>,
 }
 
@@ -44,11 +42,11 @@ impl<'a, R: Wait, N: RunBrand> Model for ThreadPort<'a, R, N> {
 
     ghost Value = { PortView };
 
-    ghost view = { λ p. record { words = p.seat.view; passes = p.passes; noted = p.noted } };
+    ghost view = { λ p. record { words = p.seat.view; passes = p.own.value.passes; noted = p.own.value.noted } };
 
     ghost invariant = { λ p. (p.words.now ≡ N.words) × (p.queues.now ≡ N.queues)
         × (p.seat.table ≡ N.words.table) × IsOfRun N.words N.queues N.may
-        (record { words = p.seat.view; passes = p.passes; noted = p.noted }) };
+        (record { words = p.seat.view; passes = p.own.value.passes; noted = p.own.value.noted }) };
 }
 
 impl<'a, R: Wait, N: RunBrand> ThreadPort<'a, R, N> {
@@ -71,6 +69,14 @@ impl<'a, R: Wait, N: RunBrand> ThreadPort<'a, R, N> {
         ensures fresh { IfOk result (λ port. ThreadAgrees port []) }
     {
         let noted = Marks::new(alloc, words.fibers())?;
+        let own = Box::new(
+            alloc,
+            Own {
+                passes,
+                noted,
+                waited: None,
+            },
+        )?;
         Ok(ThreadPort {
             rt,
             alloc,
@@ -78,9 +84,7 @@ impl<'a, R: Wait, N: RunBrand> ThreadPort<'a, R, N> {
             queues,
             sources,
             seat,
-            passes,
-            noted,
-            waited: None,
+            own,
             of: PhantomData,
         })
     }
@@ -89,7 +93,7 @@ impl<'a, R: Wait, N: RunBrand> ThreadPort<'a, R, N> {
     pub fn noted(&self) -> &Marks
         ensures { result.now ≡ self.now.noted }
     {
-        &self.noted
+        &self.own.noted
     }
 
     /// The seat, the passes, and the numbers that were requested from outside.
@@ -99,7 +103,8 @@ impl<'a, R: Wait, N: RunBrand> ThreadPort<'a, R, N> {
         ensures noted { result.2 ≡ self.entry.noted }
         ensures of_run { IsOfRun N.words N.queues N.may self.entry }
     {
-        (self.seat, self.passes, self.noted)
+        let own = Box::into_inner(self.own);
+        (self.seat, own.passes, own.noted)
     }
 }
 
@@ -114,7 +119,7 @@ impl<'a, R: Wait, N: RunBrand> Port for ThreadPort<'a, R, N> {
         match self.words.look(&mut self.seat) {
             Some(stamp) => {
                 let fiber = self.seat.id();
-                let waited = self.waited.take();
+                let waited = self.own.waited.take();
                 leave(
                     self.rt,
                     self.queues,
@@ -144,7 +149,7 @@ impl<'a, R: Wait, N: RunBrand> Port for ThreadPort<'a, R, N> {
         match self.words.peek(&mut self.seat, id) {
             Some(end) => {
                 let fiber = self.seat.id();
-                let waited = self.waited.take();
+                let waited = self.own.waited.take();
                 leave(
                     self.rt,
                     self.queues,
@@ -168,9 +173,13 @@ impl<'a, R: Wait, N: RunBrand> Port for ThreadPort<'a, R, N> {
         stamp: u64,
     ) -> Result<Offered, Memory> {
         let (rt, queues, fiber) = (self.rt, self.queues, self.seat.id());
-        match self.passes.offer(rt, queues, queue, fiber, value, stamp) {
+        match self
+            .own
+            .passes
+            .offer(rt, queues, queue, fiber, value, stamp)
+        {
             Offered::Done => {
-                let waited = self.waited.take();
+                let waited = self.own.waited.take();
                 let met = Some(Source::Room(queue));
                 leave(rt, queues, self.sources, fiber, waited, met, notes);
                 wake_at(rt, queues, queue, Side::Element, notes);
@@ -182,9 +191,9 @@ impl<'a, R: Wait, N: RunBrand> Port for ThreadPort<'a, R, N> {
 
     fn take(&mut self, notes: &mut Notes<N>, queue: u8) -> Option<(u64, u64)> {
         let (rt, queues, fiber) = (self.rt, self.queues, self.seat.id());
-        match self.passes.take(rt, queues, queue) {
+        match self.own.passes.take(rt, queues, queue) {
             Some(element) => {
-                let waited = self.waited.take();
+                let waited = self.own.waited.take();
                 let met = Some(Source::Element(queue));
                 leave(rt, queues, self.sources, fiber, waited, met, notes);
                 wake_at(rt, queues, queue, Side::Room, notes);
@@ -200,19 +209,27 @@ impl<'a, R: Wait, N: RunBrand> Port for ThreadPort<'a, R, N> {
         id: u32,
         begin: &Begin,
     ) -> Result<ThreadPort<'a, R, N>, Memory> {
-        let noted = Marks::new(self.alloc, self.words.fibers())?;
-        let passes = self.passes.split(self.alloc, self.queues, id, begin.end)?;
+        let alloc = self.alloc;
+        let noted = Marks::new(alloc, self.words.fibers())?;
+        let mut own = Box::new(
+            alloc,
+            Own {
+                passes: Passes::none(alloc),
+                noted,
+                waited: None,
+            },
+        )?;
+        let passes = self.own.passes.split(alloc, self.queues, id, begin.end)?;
+        own.passes = passes;
         let seat = self.words.split(&mut self.seat, id, begin);
         Ok(ThreadPort {
             rt: self.rt,
-            alloc: self.alloc,
+            alloc,
             words: self.words,
             queues: self.queues,
             sources: self.sources,
             seat,
-            passes,
-            noted,
-            waited: None,
+            own,
             of: PhantomData,
         })
     }
@@ -224,7 +241,7 @@ impl<'a, R: Wait, N: RunBrand> Port for ThreadPort<'a, R, N> {
 
     fn outside(&mut self, notes: &mut Notes<N>, id: u32) {
         if id < self.words.fibers() {
-            self.noted.mark(id);
+            self.own.noted.mark(id);
             self.words.request(&mut self.seat, id, 0);
             notes.wake(id);
         }
@@ -232,7 +249,7 @@ impl<'a, R: Wait, N: RunBrand> Port for ThreadPort<'a, R, N> {
 
     fn wait_on(&mut self, _notes: &mut Notes<N>, source: Source) {
         wait(self.rt, self.queues, self.sources, self.seat.id(), source);
-        self.waited = Some(source);
+        self.own.waited = Some(source);
     }
 
     fn woken(notes: &mut Notes<N>) -> Option<u32> {

@@ -11,16 +11,17 @@ invariant_of-result g c =
     let marks = c.in_ok-noted.ensures ∙ ap (λ (n : ℕ). replicate n false) (c.fibers.ensures ∙ ap (λ (w : WordsId). w.fibers) c.requires.words.0) in
     let made : first_port g.N.RunBrand.words.fibers c.args.passes
     ≡ record { words = c.args.seat.view; passes = c.args.passes; noted = c.in_ok-noted.noted } =
-    λ i. record { words = sym c.requires.seat.1 i; passes = c.args.passes; noted = sym marks i } in (
+    λ i. record { words = sym c.requires.seat.1 i; passes = c.args.passes; noted = sym marks i } in
+    rw c.in_ok-own.ensures.ok ((
       c.requires.words.0,
       c.requires.queues,
       c.requires.seat.0,
       subst (λ (u : PortView). IsOfRun g.N.RunBrand.words g.N.RunBrand.queues g.N.RunBrand.may u) made
           (first_run _ _ _ c.args.passes c.requires.words.1 c.requires.passes),
-    )
+    ))
 
 pub returns-clause-puts : goal.returns-clause-puts
-returns-clause-puts g c = first_puts _ _ c.args.passes c.requires.passes
+returns-clause-puts g c = rw c.in_ok-own.ensures.ok (first_puts _ _ c.args.passes c.requires.passes)
 
 pub returns-clause-fresh : goal.returns-clause-fresh
 returns-clause-fresh g c =
@@ -28,4 +29,4 @@ returns-clause-fresh g c =
     let made : first_port g.N.RunBrand.words.fibers c.args.passes
     ≡ record { words = c.args.seat.view; passes = c.args.passes; noted = c.in_ok-noted.noted } =
     λ i. record { words = sym c.requires.seat.1 i; passes = c.args.passes; noted = sym marks i } in
-    subst (λ (u : PortView). ThreadAgrees u []) made (first_agrees _ _ c.args.passes c.requires.passes)
+    rw c.in_ok-own.ensures.ok (subst (λ (u : PortView). ThreadAgrees u []) made (first_agrees _ _ c.args.passes c.requires.passes))

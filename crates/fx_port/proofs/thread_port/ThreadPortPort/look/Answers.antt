@@ -6,11 +6,15 @@ use Rattle.fx_port.proofs.thread_port.ThreadPortPort.look.Goals as goal
 
 pub returns-in-Some-clause-told : goal.returns-in-Some-clause-told
 returns-in-Some-clause-told g c =
-    let p : PortView = record { words = c.self.inside.seat.view; passes = c.self.inside.passes; noted = c.self.inside.noted } in
-    look_finds p _ _ _ _ c.in-Some.stamp c.self.view_is (ap (seated c.self.inside.passes c.self.inside.noted) c.in-Some.ensures.view)
-    c.in-Some.ensures.knows c.in-Some.ensures.greatest c.leave.ensures
+    let own = c.self.inside.own.value in
+    let p : PortView = record { words = c.self.inside.seat.view; passes = own.passes; noted = own.noted } in
+    rw c.deref_mut.ensures.value (look_finds p _ _ _ _ c.in-Some.stamp c.self.view_is
+    (ap (seated own.passes own.noted) c.in-Some.ensures.view)
+    c.in-Some.ensures.knows c.in-Some.ensures.greatest c.leave.ensures)
 
 pub returns-in-Some-clause-deed : goal.returns-in-Some-clause-deed
 returns-in-Some-clause-deed g c =
-    let p : PortView = record { words = c.self.inside.seat.view; passes = c.self.inside.passes; noted = c.self.inside.noted } in
-    by_deed p _ _ _ Saw c.in-Some.stamp c.self.view_is (ap (seated c.self.inside.passes c.self.inside.noted) c.in-Some.ensures.view) (looks p c.in-Some.stamp)
+    let own = c.self.inside.own.value in
+    let p : PortView = record { words = c.self.inside.seat.view; passes = own.passes; noted = own.noted } in
+    rw c.deref_mut.ensures.value (by_deed p _ _ _ Saw c.in-Some.stamp c.self.view_is
+    (ap (seated own.passes own.noted) c.in-Some.ensures.view) (looks p c.in-Some.stamp))

@@ -8,31 +8,42 @@ use Rattle.fx_port.proofs.CallLaws.{by_deed, puts, finds_full, count_put}
 use Rattle.fx_port.proofs.thread_port.ThreadPortPort.offer.Goals as goal
 
 pub offer-requires-clause-fiber : goal.offer-requires-clause-fiber
-offer-requires-clause-fiber g c q s at =
-    let p : PortView = record { words = c.self.inside.seat.view; passes = c.self.inside.passes; noted = c.self.inside.noted } in
-    whose _ _ _ p c.self.invariant.3 q s at ∙ sym c.id-fiber.ensures
+offer-requires-clause-fiber g c =
+    let own = c.self.inside.own.value in
+    let p : PortView = record { words = c.self.inside.seat.view; passes = own.passes; noted = own.noted } in
+    rw c.deref_mut.ensures.value (λ q s at. whose _ _ _ p c.self.invariant.3 q s at ∙ sym c.id-fiber.ensures)
 
 pub invariant_of-self : goal.invariant_of-self
 invariant_of-self g c =
-    let p : PortView = record { words = c.self.inside.seat.view; passes = c.self.inside.passes; noted = c.self.inside.noted } in
+    let own = c.self.inside.own.value in
+    let p : PortView = record { words = c.self.inside.seat.view; passes = own.passes; noted = own.noted } in
+    let did = rw c.deref_mut.ensures.value at c.in-Done.ensures in
     let inv = c.self.invariant in
-    (inv.0, inv.1, inv.2, put_one _ _ _ p inv.3 c.args.queue c.args.value _ c.offer.new.self c.in-Done.ensures)
+    rw (c.deref_mut-in-Done.ensures.value, c.deref_mut.ensures.value)
+    ((inv.0, inv.1, inv.2, put_one _ _ _ p inv.3 c.args.queue c.args.value _ c.offer.new.self did))
 
 pub returns-in-Done-clause-facts : goal.returns-in-Done-clause-facts
 returns-in-Done-clause-facts g c =
-    let p : PortView = record { words = c.self.inside.seat.view; passes = c.self.inside.passes; noted = c.self.inside.noted } in
-    let counted = count_put _ _ _ _ _ c.in-Done.ensures in
-    (λ i. record (facts_of g.N.RunBrand.nodes p) { puts = counted i })
-    ∙ ap (λ (u : PortView). record (facts_of g.N.RunBrand.nodes u) { puts = suc (puts_in u.passes) }) c.self.view_is
+    let own = c.self.inside.own.value in
+    let p : PortView = record { words = c.self.inside.seat.view; passes = own.passes; noted = own.noted } in
+    let did = rw c.deref_mut.ensures.value at c.in-Done.ensures in
+    let counted = count_put _ _ _ _ _ did in
+    rw c.deref_mut-in-Done.ensures.value ((λ i. record (facts_of g.N.RunBrand.nodes p) { puts = counted i })
+    ∙ ap (λ (u : PortView). record (facts_of g.N.RunBrand.nodes u) { puts = suc (puts_in u.passes) }) c.self.view_is)
 
 pub returns-in-Done-clause-deed : goal.returns-in-Done-clause-deed
 returns-in-Done-clause-deed g c =
-    let p : PortView = record { words = c.self.inside.seat.view; passes = c.self.inside.passes; noted = c.self.inside.noted } in
-    by_deed p _ (with_passes p c.offer.new.self) _ (Put c.args.queue c.args.value) c.args.stamp c.self.view_is refl
-    (puts p (whose _ _ _ p c.self.invariant.3) c.args.queue c.args.value c.args.stamp c.offer.new.self c.in-Done.ensures)
+    let own = c.self.inside.own.value in
+    let p : PortView = record { words = c.self.inside.seat.view; passes = own.passes; noted = own.noted } in
+    let did = rw c.deref_mut.ensures.value at c.in-Done.ensures in
+    rw (c.deref_mut-in-Done.ensures.value, c.deref_mut.ensures.value)
+    (by_deed p _ (with_passes p c.offer.new.self) _ (Put c.args.queue c.args.value) c.args.stamp c.self.view_is refl
+    (puts p (whose _ _ _ p c.self.invariant.3) c.args.queue c.args.value c.args.stamp c.offer.new.self did))
 
 pub returns-in-Full-clause-deed : goal.returns-in-Full-clause-deed
 returns-in-Full-clause-deed g c =
-    let p : PortView = record { words = c.self.inside.seat.view; passes = c.self.inside.passes; noted = c.self.inside.noted } in
-    by_deed p _ p _ (FoundFull c.args.queue) 0 c.self.view_is (ap (with_passes p) c.in-Full.ensures.1)
-    (finds_full p c.args.queue c.in-Full.ensures.0)
+    let own = c.self.inside.own.value in
+    let p : PortView = record { words = c.self.inside.seat.view; passes = own.passes; noted = own.noted } in
+    let found = rw c.deref_mut.ensures.value at c.in-Full.ensures in
+    rw c.deref_mut.ensures.value (by_deed p _ p _ (FoundFull c.args.queue) 0 c.self.view_is (ap (with_passes p) found.1)
+    (finds_full p c.args.queue found.0))

@@ -9,16 +9,18 @@ use Rattle.fx_port.proofs.thread_port.ThreadPortPort.request.Goals as goal
 
 pub returns-then-id-fibers-clause-deed : goal.returns-then-id-fibers-clause-deed
 returns-then-id-fibers-clause-deed g c =
-    let p : PortView = record { words = c.self.inside.seat.view; passes = c.self.inside.passes; noted = c.self.inside.noted } in
+    let own = c.self.inside.own.value in
+    let p : PortView = record { words = c.self.inside.seat.view; passes = own.passes; noted = own.noted } in
     let fibers = c.fibers.ensures ∙ ap (λ (w : WordsId). w.fibers) c.self.invariant.0 in
     let marks = c.self.invariant.3.marks in
     let below = c.if-id-fibers.true in
-    by_deed p _ _ _ (Requested c.args.id) c.args.stamp c.self.view_is (ap (seated c.self.inside.passes c.self.inside.noted) c.request.ensures)
+    by_deed p _ _ _ (Requested c.args.id) c.args.stamp c.self.view_is (ap (seated own.passes own.noted) c.request.ensures)
     (requests p c.args.id c.args.stamp (omega (arith, below, fibers, marks)))
 
 pub returns-else-id-fibers-clause-deed : goal.returns-else-id-fibers-clause-deed
 returns-else-id-fibers-clause-deed g c =
-    let p : PortView = record { words = c.self.inside.seat.view; passes = c.self.inside.passes; noted = c.self.inside.noted } in
+    let own = c.self.inside.own.value in
+    let p : PortView = record { words = c.self.inside.seat.view; passes = own.passes; noted = own.noted } in
     let fibers = c.fibers.ensures ∙ ap (λ (w : WordsId). w.fibers) c.self.invariant.0 in
     let marks = c.self.invariant.3.marks in
     let beyond = c.if-id-fibers.false in

@@ -8,24 +8,34 @@ use Rattle.fx_port.proofs.thread_port.ThreadPortPort.take.Goals as goal
 
 pub invariant_of-self : goal.invariant_of-self
 invariant_of-self g c =
-    let p : PortView = record { words = c.self.inside.seat.view; passes = c.self.inside.passes; noted = c.self.inside.noted } in
+    let own = c.self.inside.own.value in
+    let p : PortView = record { words = c.self.inside.seat.view; passes = own.passes; noted = own.noted } in
+    let took = rw c.deref_mut.ensures.value at c.in-Some.ensures in
     let inv = c.self.invariant in
-    (inv.0, inv.1, inv.2, got_one _ _ _ p inv.3 c.args.queue c.in-Some.element.0 c.in-Some.element.1 c.take.new.self c.in-Some.ensures)
+    rw (c.deref_mut-in-Some.ensures.value, c.deref_mut.ensures.value)
+    ((inv.0, inv.1, inv.2, got_one _ _ _ p inv.3 c.args.queue c.in-Some.element.0 c.in-Some.element.1 c.take.new.self took))
 
 pub returns-in-Some-clause-facts : goal.returns-in-Some-clause-facts
 returns-in-Some-clause-facts g c =
-    let p : PortView = record { words = c.self.inside.seat.view; passes = c.self.inside.passes; noted = c.self.inside.noted } in
-    let counted = count_got _ _ _ _ _ c.in-Some.ensures in
-    (λ i. record (facts_of g.N.RunBrand.nodes p) { puts = counted i }) ∙ ap (facts_of g.N.RunBrand.nodes) c.self.view_is
+    let own = c.self.inside.own.value in
+    let p : PortView = record { words = c.self.inside.seat.view; passes = own.passes; noted = own.noted } in
+    let took = rw c.deref_mut.ensures.value at c.in-Some.ensures in
+    let counted = count_got _ _ _ _ _ took in
+    rw c.deref_mut-in-Some.ensures.value ((λ i. record (facts_of g.N.RunBrand.nodes p) { puts = counted i }) ∙ ap (facts_of g.N.RunBrand.nodes) c.self.view_is)
 
 pub returns-in-Some-clause-deed : goal.returns-in-Some-clause-deed
 returns-in-Some-clause-deed g c =
-    let p : PortView = record { words = c.self.inside.seat.view; passes = c.self.inside.passes; noted = c.self.inside.noted } in
-    by_deed p _ (with_passes p c.take.new.self) _ (Got c.args.queue c.in-Some.element.0) c.in-Some.element.1 c.self.view_is refl
-    (gets p (whose _ _ _ p c.self.invariant.3) c.args.queue c.in-Some.element.0 c.in-Some.element.1 c.take.new.self c.in-Some.ensures)
+    let own = c.self.inside.own.value in
+    let p : PortView = record { words = c.self.inside.seat.view; passes = own.passes; noted = own.noted } in
+    let took = rw c.deref_mut.ensures.value at c.in-Some.ensures in
+    rw (c.deref_mut-in-Some.ensures.value, c.deref_mut.ensures.value)
+    (by_deed p _ (with_passes p c.take.new.self) _ (Got c.args.queue c.in-Some.element.0) c.in-Some.element.1 c.self.view_is refl
+    (gets p (whose _ _ _ p c.self.invariant.3) c.args.queue c.in-Some.element.0 c.in-Some.element.1 c.take.new.self took))
 
 pub returns-in-None-clause-empty : goal.returns-in-None-clause-empty
 returns-in-None-clause-empty g c =
-    let p : PortView = record { words = c.self.inside.seat.view; passes = c.self.inside.passes; noted = c.self.inside.noted } in
-    by_deed p _ p _ (FoundEmpty c.args.queue) 0 c.self.view_is (ap (with_passes p) c.in-None.ensures.1)
-    (finds_empty p c.args.queue c.in-None.ensures.0)
+    let own = c.self.inside.own.value in
+    let p : PortView = record { words = c.self.inside.seat.view; passes = own.passes; noted = own.noted } in
+    let found = rw c.deref_mut.ensures.value at c.in-None.ensures in
+    rw c.deref_mut.ensures.value (by_deed p _ p _ (FoundEmpty c.args.queue) 0 c.self.view_is (ap (with_passes p) found.1)
+    (finds_empty p c.args.queue found.0))
