@@ -4,7 +4,7 @@ use Rattle.fx_text.specs.declared.pick.Pick.{Pick}
 use Rattle.fx_text.specs.Meaning.{Meaning}
 use Rattle.fx_text.specs.Grammar.{IsScript}
 use Rattle.fx_text.specs.Schedule.{IsSchedule}
-use Rattle.fx_report.specs.declared.status.TheConstants.{OTHER_WORDS, REFUSED, UNREADABLE, FAULT}
+use Rattle.fx_report.specs.declared.status.TheConstants.{ENDED, OTHER_WORDS, REFUSED, UNREADABLE, FAULT}
 use Rattle.fx_command.specs.declared.call.Command.{Command}
 use Rattle.fx_command.specs.declared.command_fault.CommandFault.{CommandFault}
 use Rattle.fx_command.specs.declared.command_fault.CommandFault.TheVariants.{Refused, Unreadable, Memory, Write, Run}
@@ -14,8 +14,9 @@ use Rattle.fx_command.specs.Workers.{CanFail}
 use Rattle.fx_command.specs.Fetched.{FetchesScript}
 use Rattle.fx_command.specs.Performed.{IsPerformed}
 use Rattle.fx_command.specs.Call.{CallView, call_of}
+use Rattle.fx_command.specs.Help.{topic_of, page_on}
 use Rattle.fx_command.specs.Stream.{StreamView, TakesWhole, TakesPart, PrintsAnswer, PrintsPart}
-use Rattle.fx_command.specs.Said.{Says, usage_line, unreadable_line, memory_line, write_line, run_fault_line}
+use Rattle.fx_command.specs.Said.{Says, usage_line, no_page_line, unreadable_line, memory_line, write_line, run_fault_line}
 
 -- the status and the printed text for a script and a schedule, with these words for people: what was asked for, or one line where one of them is no such
 -- text, with some words. A schedule is read only after a script
@@ -68,6 +69,12 @@ pub data TellsRefusal (line remark : List ℕ) (old new said says : StreamView) 
   told : TakesWhole line old new → Says remark said says → TellsRefusal line remark old new said says REFUSED
   not_taken : TakesPart line old new → Says write_line said says → TellsRefusal line remark old new said says FAULT
 
+-- the page of help on this word was written, and nothing was said; or a prefix of it was written, and the next write refused; or there is none
+pub data TellsPage (topic : List ℕ) (old new said says : StreamView) : ℕ → Type 0 where
+  printed : {page : List ℕ} → page_on topic ≡ Some page → TakesWhole page old new → says ≡ said → TellsPage topic old new said says ENDED
+  not_taken : {page : List ℕ} → page_on topic ≡ Some page → TakesPart page old new → Says write_line said says → TellsPage topic old new said says FAULT
+  no_page : page_on topic ≡ None → new ≡ old → Says no_page_line said says → TellsPage topic old new said says OTHER_WORDS
+
 -- it was said that the text of this name cannot be read, or that memory ran out
 pub data TellsUnreadable (name : List ℕ) (said says : StreamView) : ℕ → Type 0 where
   told : Says (unreadable_line name) said says → TellsUnreadable name said says UNREADABLE
@@ -78,11 +85,13 @@ pub data TellsRunFault (fault : RunFault) (said says : StreamView) : ℕ → Typ
   told : Says (run_fault_line fault) said says → TellsRunFault fault said says FAULT
   no_memory : Says memory_line said says → TellsRunFault fault said says FAULT
 
--- A run of the program with these words, of which `old` and `new` are standard output before and after, `said` and `says` standard error. Words that make no
--- call, a text that cannot be read and any other fault have a status and a line each, and all else is the answer to the call, with its words for people. A
--- schedule can be told as one that cannot be read only where there is a script: one that is refused is answered so, whatever the schedule is
+-- A run of the program with these words, of which `old` and `new` are standard output before and after, `said` and `says` standard error. Words that ask for
+-- help have their page. Words that make no call, a text that cannot be read and any other fault have a status and a line each, and all else is the answer to
+-- the call, with its words for people. A schedule can be told as one that cannot be read only where there is a script: one that is refused is answered so,
+-- whatever the schedule is
 pub data Runs (words : List (List ℕ)) (holds : List ℕ → Option (List ℕ)) (old new said says : StreamView) : ℕ → Type 0 where
-  other_words : call_of words ≡ None → new ≡ old → Says usage_line said says → Runs words holds old new said says OTHER_WORDS
+  helped : {status : ℕ} (topic : List ℕ) → topic_of words ≡ Some topic → TellsPage topic old new said says status → Runs words holds old new said says status
+  other_words : topic_of words ≡ None → call_of words ≡ None → new ≡ old → Says usage_line said says → Runs words holds old new said says OTHER_WORDS
   answered : {status : ℕ} {remark : List ℕ} (call : CallView) → call_of words ≡ Some call → PrintsAnswer (AnswersToCall holds call remark) status old new
       → Says remark said says → Runs words holds old new said says status
   unreadable : (call : CallView) (name : List ℕ) → call_of words ≡ Some call → ComesToRead holds call name → new ≡ old → Says (unreadable_line name) said says

@@ -3,6 +3,7 @@ pub mod Refused
 pub mod CommandFault
 pub mod Workers
 pub mod Call
+pub mod Help
 pub mod Stream
 pub mod Said
 pub mod Fetched

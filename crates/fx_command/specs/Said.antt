@@ -14,6 +14,9 @@ pub data Says (text : List ℕ) (old new : StreamView) : Type 0 where
 abbrev pub usage_line : List ℕ
 usage_line = codes "usage: fibers [check F | replay F [SCHEDULE] | trace F [SCHEDULE] | run F WORKERS]" ++ line_end
 
+abbrev pub no_page_line : List ℕ
+no_page_line = codes "there is no help on that word; `fibers help` says on which there is" ++ line_end
+
 abbrev pub unreadable_line : List ℕ → List ℕ
 unreadable_line name = codes "cannot read " ++ name ++ line_end
 

@@ -6,17 +6,18 @@ ghost use Rattle.fx_command.specs.Fetched.{IsPrefixOf, FetchesScript, FetchesNoS
 ghost use Rattle.fx_command.specs.Fetched.{FetchesSchedule, FetchesNoSchedule, KeepsFiles};
 ghost use Rattle.fx_command.specs.Call.{view_call};
 ghost use Rattle.fx_command.specs.CommandAnswer.{known_schedule, AnswersToCall, Leaves};
-ghost use Rattle.fx_command.specs.CommandAnswer.{TellsRefusal, TellsUnreadable, TellsRunFault, Runs};
+ghost use Rattle.fx_command.specs.CommandAnswer.{TellsPage, TellsRefusal, TellsUnreadable, TellsRunFault, Runs};
 ghost use Rattle.fx_command.specs.Said.{Says, run_fault_line};
 ghost use Rattle.fx_command.specs.Stream.{PrintsAnswer};
 
 use crate::call::Call;
 use crate::command_fault::{CommandFault, Refusal};
 use crate::files::{FetchFault, Files};
+use crate::help::{page_on, topic_of};
 use crate::perform::{Performed, perform};
 use crate::stream::{CutShort, Stream};
 use crate::texts::{picks_in, script_in};
-use fx_report::{AnswerFault, MOST_OF_SCRIPT, REFUSED, read_text};
+use fx_report::{AnswerFault, ENDED, MOST_OF_SCRIPT, REFUSED, read_text};
 pub use fx_report::{FAULT, OTHER_WORDS, UNREADABLE};
 use fx_run::RunFault;
 use fx_text::{MOST_SCHEDULE_BYTES, Pick, Script};
@@ -28,6 +29,8 @@ use std::thread::Threads;
 
 const USAGE: &str =
     "usage: fibers [check F | replay F [SCHEDULE] | trace F [SCHEDULE] | run F WORKERS]\n";
+
+const NO_PAGE: &str = "there is no help on that word; `fibers help` says on which there is\n";
 
 const MEMORY: &str = "fault memory\n";
 
@@ -125,6 +128,25 @@ fn say<E: Write>(text: &str, err: &mut Stream<E>)
     let _ = err.write(text);
 }
 
+/// Prints the page of help on this word, or says that there is none.
+fn tell_page<W: Write, E: Write>(topic: &str, out: &mut Stream<W>, err: &mut Stream<E>) -> u8
+    ensures { TellsPage topic.now out.old out.new err.old err.new result }
+{
+    match page_on(topic) {
+        Some(page) => match out.write(page) {
+            Ok(()) => ENDED,
+            Err(CutShort) => {
+                say(WRITE, err);
+                FAULT
+            }
+        },
+        None => {
+            say(NO_PAGE, err);
+            OTHER_WORDS
+        }
+    }
+}
+
 /// Prints the line of a refusal, with words for people on standard error.
 fn tell_refusal<W: Write, E: Write>(
     refusal: &Refusal,
@@ -189,9 +211,9 @@ fn tell_run_fault<E: Write>(alloc: Global, fault: RunFault, err: &mut Stream<E>)
 ///
 /// | status | when | what is printed |
 /// |---|---|---|
-/// | 0 | all fibers ended, or a check passed | the text, on `out` |
+/// | 0 | all fibers ended, a check passed, or help was asked for | the text, on `out` |
 /// | 1 | some fiber waits for good | the text, on `out`, and what each such fiber waits for, on `err` |
-/// | 2 | other words | the words that there are, on `err` |
+/// | 2 | other words | the words that there are, or that there is no such page of help, on `err` |
 /// | 3 | a script or schedule is refused | one line on `out`, and why in words on `err` |
 /// | 4 | a text cannot be read | its name, on `err` |
 /// | 5 | want of memory, a run that gives no report, or `out` refused a write | the fault, on `err` |
@@ -210,6 +232,9 @@ pub fn command<R: Wait + Threads + Sync + RandomSource + AllocGlobal, F: Files, 
     ensures { Runs (map string_bytes words.now) (F.holds files.old) out.old out.new err.old err.new
         result }
 {
+    if let Some(topic) = topic_of(words) {
+        return tell_page(topic, out, err);
+    }
     let Some(call) = Call::of(words) else {
         say(USAGE, err);
         return OTHER_WORDS;

@@ -1,7 +1,8 @@
 //! The program's library part: what the words after its name ask for, done over any files and streams.
 //!
 //! 1. `call` finds in the words what is asked of which texts, and `workers` reads how many workers a run
-//!    has. Other words are answered with those that there are.
+//!    has. `help` has a page on each word of the program and on each form, and finds which one is asked for.
+//!    Other words are answered with those that there are.
 //! 2. `files` fetches texts by name.
 //! 3. `texts` reads the script and the schedule. A text that is refused has its line, which never
 //!    changes, and words for people: `explain` says where and shows the place, `script_words` and
@@ -24,6 +25,7 @@ mod command_fault;
 mod excerpt;
 mod explain;
 pub mod files;
+mod help;
 mod open_groups;
 mod perform;
 mod position;

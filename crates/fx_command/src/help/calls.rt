@@ -1,0 +1,142 @@
+//! Pages of help on the words of the program, and on schedules.
+ghost use Rattle.std.specs.Prelude.{◌≡◌, option_map};
+ghost use Rattle.fx_command.specs.Help.{calls_page};
+
+const HELP: &str = "\
+fibers replays a script of cancellable fibers, or runs it on threads, and prints
+how each fiber ended.
+
+  fibers                      as fibers replay -
+  fibers check F              counts the fibers and the queues of a script
+  fibers replay F [SCHEDULE]  makes the run that the schedule chooses, and
+                              prints its report
+  fibers trace F [SCHEDULE]   makes that run, and prints what each fiber did
+  fibers run F WORKERS        runs the fibers by 1 to 64 workers, each on a
+                              thread, and prints the report
+  fibers help [WORD]          prints this page, or the one on a word
+
+F is a file with a script, or - for standard input. SCHEDULE is a file with the
+picks that choose a run. Without it the fiber with the least number that can
+step makes each step.
+
+    $ echo '(main (race (never) (pure 5)))' | fibers
+    fiber 0 succeeded 5
+    fiber 1 canceled
+    fiber 2 succeeded 5
+
+There are pages on check, replay, trace, run, schedule, forms, which lists what
+a script is made of, and on each form, as bracket.
+
+Status  when
+  0     all fibers have ended, a check passed, or help was printed
+  1     some fiber waits for good; standard error says for what
+  2     other words
+  3     the script or the schedule is refused; standard error says where and why
+  4     a file cannot be read
+  5     another fault: of memory, of a write, or of the number of workers
+";
+
+const CHECK: &str = "\
+fibers check F
+
+Prints how many fibers the script in the file F can have, main included, and how
+many queues it has. Nothing is run. F is - for standard input.
+
+    $ echo '(queue q 1) (main (start h (take q) (offer q 7)))' | fibers check -
+    fibers 2 queues 1
+";
+
+const REPLAY: &str = "\
+fibers replay F [SCHEDULE]
+
+Makes the run of the script in the file F that the schedule chooses, on one
+thread, and prints its report: a line for each fiber that has started, and one
+for each queue, with what is left in it from front to back. F is - for standard
+input, and without a schedule the fiber with the least number that can step
+makes each step. The status is 1 where some fiber is blocked: it waits for good.
+
+    $ echo '(queue q 2) (main (start h (take q) (offer q 7)))' > script
+    $ fibers replay script
+    fiber 0 succeeded 0
+    fiber 1 succeeded 7
+    queue q left
+";
+
+const TRACE: &str = "\
+fibers trace F [SCHEDULE]
+
+Makes the run that fibers replay F [SCHEDULE] makes, and prints what each fiber
+did in it, in place of a report: the number of the fiber, the stamp of the
+event, which is above that of all that it stands on, and then one of
+
+  start F, request F             started fiber F; requested its cancellation
+  awaited F                      waited until F, which it canceled, had ended
+  joined F OUTCOME, first N      how F ended; which of two fibers had, 0 or 1
+  put q V, got q V               put V into the queue q; took it out
+  refused q, empty q             found it full; found it empty
+  acquired K, begin K, end K     its resource K; began its release, ended it
+  seen, selfrequest, cancelled   its own cancellation
+  ended OUTCOME                  how it ended
+
+    $ echo '(main (start h (pure 1) (cancel h)))' > script
+    $ fibers trace script
+    0 1 start 1
+    0 2 request 1
+    0 6 awaited 1
+    0 7 ended succeeded 0
+    1 3 seen
+    1 4 cancelled
+    1 5 ended canceled
+";
+
+const RUN: &str = "\
+fibers run F WORKERS
+
+Runs the fibers of the script in the file F by so many workers, from 1 to 64,
+the first on the thread of the program and each other on one of its own, and
+prints the report. Which fiber steps when is up to the workers, so a script can
+have several reports. F is - for standard input.
+
+    $ echo '(main (start h (pure 3) (join h (x (pure x)) (e (pure e))
+        (never))))' > script
+    $ fibers run script 4
+    fiber 0 succeeded 3
+    fiber 1 succeeded 3
+";
+
+const SCHEDULE: &str = "\
+A schedule chooses one run of a script. It is the text of a file, with words
+that spaces or line ends part, and is followed from left to right:
+
+  12    fiber 12 makes one step; skipped where it has not started, or waits
+  c12   the cancellation of fiber 12 is requested, also before it has started
+
+After the last word the fiber with the least number that can step makes one
+step, again and again, until none can. Main is fiber 0, and fibers check says
+how many numbers there are.
+
+    $ echo '(main (start h (pure 1) (join h (x (pure x)) (e (pure 0))
+        (pure 2))))' > script
+    $ fibers replay script
+    fiber 0 succeeded 1
+    fiber 1 succeeded 1
+    $ echo c1 > schedule
+    $ fibers replay script schedule
+    fiber 0 succeeded 2
+    fiber 1 canceled
+";
+
+/// The page on a word of the program, or on `schedule`.
+pub(super) fn page_on(word: &str) -> Option<&'static str>
+    ensures { option_map (λ page. page.now) result ≡ calls_page word.now }
+{
+    match word {
+        "help" => Some(HELP),
+        "check" => Some(CHECK),
+        "replay" => Some(REPLAY),
+        "trace" => Some(TRACE),
+        "run" => Some(RUN),
+        "schedule" => Some(SCHEDULE),
+        _ => None,
+    }
+}
