@@ -5,6 +5,7 @@ pub mod Workers
 pub mod Call
 pub mod Help
 pub mod Stream
+pub mod Printable
 pub mod Said
 pub mod Fetched
 pub mod Performed

@@ -7,7 +7,7 @@ ghost use Rattle.fx_command.specs.Fetched.{FetchesSchedule, FetchesNoSchedule, K
 ghost use Rattle.fx_command.specs.Call.{view_call};
 ghost use Rattle.fx_command.specs.CommandAnswer.{known_schedule, AnswersToCall, Leaves};
 ghost use Rattle.fx_command.specs.CommandAnswer.{TellsPage, TellsRefusal, TellsUnreadable, TellsRunFault, Runs};
-ghost use Rattle.fx_command.specs.Said.{Says, run_fault_line};
+ghost use Rattle.fx_command.specs.Said.{Says, run_fault_line, unreadable_line};
 ghost use Rattle.fx_command.specs.Stream.{PrintsAnswer};
 
 use crate::call::Call;
@@ -15,6 +15,7 @@ use crate::command_fault::{CommandFault, Refusal};
 use crate::files::{FetchFault, Files};
 use crate::help::{page_on, topic_of};
 use crate::perform::{Performed, perform};
+use crate::printable::push_printable;
 use crate::stream::{CutShort, Stream};
 use crate::texts::{picks_in, script_in};
 use fx_report::{AnswerFault, ENDED, MOST_OF_SCRIPT, REFUSED, read_text};
@@ -168,11 +169,21 @@ fn tell_refusal<W: Write, E: Write>(
     }
 }
 
+/// The line that says that the text of this name cannot be read.
+fn format_unreadable(alloc: Global, name: &str) -> Result<String, AllocError>
+    ensures { IfOk result (λ line. string_bytes line ≡ unreadable_line name.now) }
+{
+    let mut line = String::from_str(alloc, "cannot read ")?;
+    push_printable(&mut line, name.as_bytes())?;
+    line.push_str("\n")?;
+    Ok(line)
+}
+
 /// Says that the text of this name cannot be read.
 fn tell_unreadable<E: Write>(alloc: Global, name: &str, err: &mut Stream<E>) -> u8
     ensures { TellsUnreadable name.now err.old err.new result }
 {
-    match format!(in alloc; "cannot read {name}\n") {
+    match format_unreadable(alloc, name) {
         Ok(line) => {
             say(&line, err);
             UNREADABLE
@@ -189,7 +200,7 @@ fn format_run_fault(alloc: Global, fault: RunFault) -> Result<String, AllocError
     ensures { IfOk result (λ line. string_bytes line ≡ run_fault_line fault) }
 {
     match fault {
-        RunFault::Workers => String::from_str(alloc, "fault workers\n"),
+        RunFault::Workers => String::from_str(alloc, "fault workers: from 1 to 64\n"),
         RunFault::Memory => String::from_str(alloc, MEMORY),
         RunFault::Lost(fiber) => format!(in alloc; "fault lost {fiber}\n"),
         RunFault::Unsettled(fiber) => format!(in alloc; "fault unsettled {fiber}\n"),

@@ -1,12 +1,10 @@
 //! Says in words why a text is refused, and shows the place.
 ghost use Rattle.std.specs.Prelude.{◌≤◌, length};
 
-use crate::excerpt::{format_excerpt, push_printable};
+use crate::excerpt::format_excerpt;
 use crate::position::Position;
+use crate::printable::push_printable;
 use std::alloc::{AllocError, Global};
-
-/// The most bytes of a token that are shown.
-const WHOLE: usize = 40;
 
 /// How many bytes of a word stand at the front.
 pub(crate) fn word_len(bytes: &[u8]) -> usize
@@ -25,15 +23,25 @@ pub(crate) fn token_at(text: &[u8], at: usize) -> &[u8] {
     &rest[..len.min(rest.len())]
 }
 
-/// The token in quotes, cut where it is long.
-pub(crate) fn quoted(alloc: Global, token: &[u8]) -> Result<String, AllocError> {
-    let mut shown = String::from_str(alloc, "`")?;
-    push_printable(&mut shown, &token[..token.len().min(WHOLE)])?;
-    if token.len() > WHOLE {
-        shown.push_str("..")?;
+fn is_of_a_name(byte: u8) -> bool {
+    byte.is_ascii_alphanumeric() || byte == b'_'
+}
+
+/// The name that stands round the place, as other languages write one, with capitals and `_`.
+pub(crate) fn name_round(text: &[u8], at: usize) -> &[u8] {
+    let (before, after) = text.split_at(at.min(text.len()));
+    let begin = match before.iter().rposition(|b| !is_of_a_name(*b)) {
+        Some(end) => end + 1,
+        None => 0,
+    };
+    let len = after
+        .iter()
+        .position(|b| !is_of_a_name(*b))
+        .unwrap_or(after.len());
+    if len == 0 {
+        return &[];
     }
-    shown.push('`')?;
-    Ok(shown)
+    &text[begin..before.len() + len]
 }
 
 /// The lines that say where the text of this name is refused, and what is wrong there, and show the
@@ -46,9 +54,10 @@ pub(crate) fn explain(
     wrong: &str,
 ) -> Result<String, AllocError> {
     let at = (at as usize).min(text.len());
-    let position = Position::after(&text[..at]);
-    let line = position.line;
-    let column = position.column;
+    let Position { line, column } = Position::after(&text[..at]);
     let excerpt = format_excerpt(alloc, text, at)?;
-    format!(in alloc; "{name}:{line}:{column}: {wrong}\n{excerpt}")
+    let mut words = String::new(alloc);
+    push_printable(&mut words, name.as_bytes())?;
+    words.push_str(&format!(in alloc; ":{line}:{column}: {wrong}\n{excerpt}")?)?;
+    Ok(words)
 }

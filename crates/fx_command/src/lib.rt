@@ -6,7 +6,8 @@
 //! 2. `files` fetches texts by name.
 //! 3. `texts` reads the script and the schedule. A text that is refused has its line, which never
 //!    changes, and words for people: `explain` says where and shows the place, `script_words` and
-//!    `schedule_words` say what is wrong.
+//!    `schedule_words` say what is wrong. A script is told by what is open at the place, `open_groups`, by
+//!    the parts that a form has, `parts`, and by the word that may have been meant, `advice`.
 //! 4. `perform` checks the script, or replays it and writes its report or its traces, or runs it on
 //!    threads and writes the report. It has words for people about each fiber that is blocked.
 //! 5. `stream` is what is written to: a writer, of which contracts know whether it has refused a write.
@@ -19,6 +20,7 @@
 //! has refused nothing; a status that is not in the table of `command`.
 #![tactic(auto)]
 
+mod advice;
 mod call;
 pub mod command;
 mod command_fault;
@@ -27,8 +29,10 @@ mod explain;
 pub mod files;
 mod help;
 mod open_groups;
+mod parts;
 mod perform;
 mod position;
+mod printable;
 mod schedule_words;
 mod script_words;
 pub mod stream;

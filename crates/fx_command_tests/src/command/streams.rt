@@ -52,7 +52,7 @@ static PRINTED: [Row; 3] = [
         words: "replay F",
         script: "(main (foo))",
         printed: "refused 5 at 7\n",
-        said: "F:1:8: `foo` is no word of a form\n(main (foo))\n       ^\n",
+        said: "F:1:8: `foo` is no word of a form: did you mean `for`?\n(main (foo))\n       ^\n",
         status: REFUSED,
     },
     Row {

@@ -97,7 +97,7 @@ pub static FAULTS: [(Said, Worked); 5] = [
             words: "check F",
             status: 3,
             out: Printed::Counts,
-            err: "F:1:8: `foo` is no word of a form\n(main (foo))\n       ^\n",
+            err: "F:1:8: `foo` is no word of a form: did you mean `for`?\n(main (foo))\n       ^\n",
         },
         Worked {
             name: "no form",
@@ -127,7 +127,7 @@ pub static FAULTS: [(Said, Worked); 5] = [
             words: "run F 0",
             status: 5,
             out: Printed::Report,
-            err: "fault workers\n",
+            err: "fault workers: from 1 to 64\n",
         },
         Worked {
             name: "no worker",
