@@ -1,16 +1,18 @@
 //! `fibers`: replays a script of cancellable fibers, or runs it on threads, and prints how each one halted.
 //!
 //! What its words ask for is done by `fx_command`; `main` joins that to the machine: its standard streams,
-//! and its files, which `host_files` has.
+//! the words, which `words` reads, and its files, which `host_files` has.
 #![tactic(auto)]
 
 mod host_files;
+mod words;
 
 use fx_command::command::{FAULT, command};
 use fx_command::stream::Stream;
 use host_files::HostFiles;
+use std::io;
 use std::process::ExitCode;
-use std::{env, io};
+use words::words;
 
 fn main(rt: HostRuntime) -> ExitCode {
     let Ok(words) = words(&rt) else {
@@ -27,13 +29,4 @@ fn main(rt: HostRuntime) -> ExitCode {
         &mut Stream::new(rt.stderr()),
     );
     ExitCode::from(status)
-}
-
-/// The words after the program's name.
-fn words(rt: &HostRuntime) -> io::Result<Vec<String>> {
-    let mut words = Vec::new(rt.alloc());
-    for word in env::args(rt)?.skip(1) {
-        words.push(word)?;
-    }
-    Ok(words)
 }
