@@ -6,16 +6,17 @@ use Rattle.fx_model.specs.Report.{ReportView}
 use Rattle.fx_plain.specs.Waits.{IsReplayWithWaits}
 use Rattle.fx_run.specs.Workers.{most_workers}
 use Rattle.fx_run.specs.RunWaits.{IsLawfulWithWaits}
+use Rattle.fx_model.specs.ReportStamps.{IsStampedReport}
 use Rattle.fx_report.specs.Script.{script_of}
 use Rattle.fx_report.specs.Text.{queue_names, report_text, trace_text}
 use Rattle.fx_report.specs.Status.{status_of}
 use Rattle.fx_report.specs.Waits.{waits_text}
 use Rattle.fx_report.specs.declared.wait.Wait.{Wait}
 use Rattle.fx_command.specs.declared.call.Command.{Command}
-use Rattle.fx_command.specs.declared.call.Command.TheVariants.{Replay, Trace, Run}
+use Rattle.fx_command.specs.declared.call.Command.TheVariants.{Replay, Trace, Run, Record}
 use Rattle.fx_command.specs.declared.command_fault.CommandFault.TheVariants.{Write}
 use Rattle.fx_command.specs.Stream.{StreamView, TakesPart}
-use Rattle.fx_command.specs.Performed.{nobody, IsPerformed, replayed, traced, ran, Performs}
+use Rattle.fx_command.specs.Performed.{nobody, IsPerformed, replayed, traced, ran, recorded, Performs}
 
 pub replayed_with_status : (m : Meaning) (picks : List Pick) (r : ReportView) (waits : List Wait) (words : List ℕ) (status : ℕ)
     → IsReplayWithWaits (script_of m) picks r waits → words ≡ waits_text (queue_names m) waits → status ≡ status_of r
@@ -31,6 +32,11 @@ pub ran_with_status : (m : Meaning) (picks : List Pick) (workers : ℕ) (r : Rep
     → (1 ≤ workers) × (workers ≤ most_workers) → IsLawfulWithWaits (script_of m) nobody r waits → words ≡ waits_text (queue_names m) waits
     → status ≡ status_of r → IsPerformed m picks (Run workers) words status (report_text (queue_names m) r)
 ran_with_status m picks workers r waits words status can lawful said is = rw (is, said) (ran can.0 can.1 lawful)
+
+pub recorded_with_status : (m : Meaning) (picks : List Pick) (workers : ℕ) (r : ReportView) (waits : List Wait) (words : List ℕ) (status : ℕ)
+    → (1 ≤ workers) × (workers ≤ most_workers) → IsLawfulWithWaits (script_of m) nobody r waits → IsStampedReport (script_of m) nobody r
+    → words ≡ waits_text (queue_names m) waits → status ≡ status_of r → IsPerformed m picks (Record workers) words status (trace_text (queue_names m) r)
+recorded_with_status m picks workers r waits words status can lawful stamped said is = rw (is, said) (recorded can.0 can.1 lawful stamped)
 
 -- what is left where the text was cut short
 pub cut_short : (m : Meaning) (picks : List Pick) (c : Command) (words : List ℕ) (status : ℕ) (text : List ℕ) (old new : StreamView)

@@ -1,7 +1,7 @@
 -- Which call of the program the words after its name make.
-use Rattle.std.specs.Prelude.{ℕ, if◌then◌else◌, Option, Some, None, List, [], ◌∷◌, codes, bytes_eq, option_map}
+use Rattle.std.specs.Prelude.{ℕ, if◌then◌else◌, Option, Some, None, List, [], ◌∷◌, codes, bytes_eq, option_map, option_and_then}
 use Rattle.fx_command.specs.declared.call.Command.{Command}
-use Rattle.fx_command.specs.declared.call.Command.TheVariants.{Check, Replay, Trace, Run}
+use Rattle.fx_command.specs.declared.call.Command.TheVariants.{Check, Replay, Trace, Run, Record}
 use Rattle.fx_command.specs.declared.call.Call.{Call}
 use Rattle.fx_command.specs.Workers.{workers_in}
 
@@ -26,9 +26,13 @@ call_with_names c (script ∷ schedule ∷ []) =
 call_with_names c names = call_with_script c names
 
 -- with the name of a script and a number of workers
-abbrev pub call_with_workers : List (List ℕ) → Option CallView
-call_with_workers (script ∷ word ∷ []) = option_map (λ n. record { command = Run n; script = script; schedule = None }) (workers_in word)
-call_with_workers names = None
+abbrev pub workers_among : List (List ℕ) → Option ℕ
+workers_among (script ∷ word ∷ []) = workers_in word
+workers_among names = None
+
+abbrev pub call_by_workers : Command → List (List ℕ) → Option CallView
+call_by_workers c (script ∷ word ∷ []) = Some (record { command = c; script = script; schedule = None })
+call_by_workers c names = None
 
 -- no words replay the script on standard input, and other words make no call
 abbrev pub call_of : List (List ℕ) → Option CallView
@@ -37,4 +41,6 @@ call_of (word ∷ names) =
     if bytes_eq word (codes "check") then call_with_script Check names
     else if bytes_eq word (codes "replay") then call_with_names Replay names
     else if bytes_eq word (codes "trace") then call_with_names Trace names
-    else if bytes_eq word (codes "run") then call_with_workers names else None
+    else if bytes_eq word (codes "run") then option_and_then (λ n. call_by_workers (Run n) names) (workers_among names)
+    else if bytes_eq word (codes "record") then option_and_then (λ n. call_by_workers (Record n) names) (workers_among names)
+    else None

@@ -8,6 +8,7 @@ use Rattle.fx_report.specs.declared.status.TheConstants.{ENDED}
 use Rattle.fx_plain.specs.Waits.{IsReplayWithWaits}
 use Rattle.fx_run.specs.Workers.{most_workers}
 use Rattle.fx_run.specs.RunWaits.{IsLawfulWithWaits}
+use Rattle.fx_model.specs.ReportStamps.{IsStampedReport}
 use Rattle.fx_report.specs.declared.wait.Wait.{Wait}
 use Rattle.fx_report.specs.Script.{script_of}
 use Rattle.fx_report.specs.Text.{line_end, queue_names, report_text, trace_text}
@@ -35,7 +36,8 @@ abbrev pub nobody : ℕ → Bool
 nobody f = false
 
 -- the words for people, the status and the printed text: of a check the counts, and no words; else the report of the run that the picks choose, or its
--- traces, or some lawful report by workers of a number that there can be; and a line for each blocked fiber
+-- traces, or some lawful report by workers of a number that there can be, or the traces of one with the stamps of the definition; and a line for each
+-- blocked fiber
 pub data IsPerformed (m : Meaning) (picks : List Pick) : Command → List ℕ → ℕ → List ℕ → Type 0 where
   checked : IsPerformed m picks Check [] ENDED (check_text m)
   replayed : {r : ReportView} {waits : List Wait} → IsReplayWithWaits (script_of m) picks r waits
@@ -44,6 +46,9 @@ pub data IsPerformed (m : Meaning) (picks : List Pick) : Command → List ℕ �
       → IsPerformed m picks Trace (waits_text (queue_names m) waits) (status_of r) (trace_text (queue_names m) r)
   ran : {workers : ℕ} {r : ReportView} {waits : List Wait} → 1 ≤ workers → workers ≤ most_workers → IsLawfulWithWaits (script_of m) nobody r waits
       → IsPerformed m picks (command.Run workers) (waits_text (queue_names m) waits) (status_of r) (report_text (queue_names m) r)
+  recorded : {workers : ℕ} {r : ReportView} {waits : List Wait} → 1 ≤ workers → workers ≤ most_workers → IsLawfulWithWaits (script_of m) nobody r waits
+      → IsStampedReport (script_of m) nobody r
+      → IsPerformed m picks (command.Record workers) (waits_text (queue_names m) waits) (status_of r) (trace_text (queue_names m) r)
 
 -- what is done takes the stream from `old` to `new`
 abbrev pub Performs : Command → Meaning → List Pick → Result Performed CommandFault → StreamView → StreamView → Type 0

@@ -1,4 +1,6 @@
 //! What the words after the program's name ask for.
+ghost use Rattle.std.specs.Prelude.{◌≡◌, map, string_bytes};
+ghost use Rattle.fx_command.specs.Call.{workers_among};
 
 use crate::files::STANDARD_INPUT;
 use crate::workers::workers_in;
@@ -14,6 +16,8 @@ pub(crate) enum Command {
     Trace,
     /// Its fibers are run by so many workers, and the report is written.
     Run(u32),
+    /// Its fibers are run by so many workers, and the traces are written.
+    Record(u32),
 }
 
 /// A call of the program.
@@ -26,10 +30,20 @@ pub(crate) struct Call<'a> {
     pub(crate) schedule: Option<&'a str>,
 }
 
+/// The number of workers that the second of two words asks for.
+fn workers_among(names: &[String]) -> Option<u32>
+    ensures { result ≡ workers_among (map string_bytes names.now) }
+{
+    match names {
+        [_, workers] => workers_in(workers.as_str()),
+        _ => None,
+    }
+}
+
 impl<'a> Call<'a> {
     ghost use Rattle.std.specs.Prelude.{◌≡◌, ◌≢◌, IfSome, codes, map, option_map, string_bytes};
     ghost use Rattle.fx_command.specs.Call.{view_call, call_with_script, call_with_names};
-    ghost use Rattle.fx_command.specs.Call.{call_with_workers, call_of};
+    ghost use Rattle.fx_command.specs.Call.{call_by_workers, call_of};
 
     /// The call that these words make, if they make one.
     pub(crate) fn of(words: &'a [String]) -> Option<Call<'a>>
@@ -48,7 +62,8 @@ impl<'a> Call<'a> {
             "check" => Call::with_script(Command::Check, names),
             "replay" => Call::with_names(Command::Replay, names),
             "trace" => Call::with_names(Command::Trace, names),
-            "run" => Call::with_workers(names),
+            "run" => Call::by_workers(Command::Run(workers_among(names)?), names),
+            "record" => Call::by_workers(Command::Record(workers_among(names)?), names),
             _ => None,
         }
     }
@@ -87,20 +102,20 @@ impl<'a> Call<'a> {
         }
     }
 
-    /// The call that runs the script of this name by so many workers.
-    fn with_workers(names: &'a [String]) -> Option<Call<'a>>
+    /// The call for a script of this name, which has a second word for the workers.
+    fn by_workers(command: Command, names: &'a [String]) -> Option<Call<'a>>
         ensures call { option_map view_call result
-            ≡ call_with_workers (map string_bytes names.now) }
+            ≡ call_by_workers command (map string_bytes names.now) }
         ensures file { IfSome result
             (λ call. IfSome call.schedule (λ name. name.now ≢ codes "-")) }
     {
-        let [script, workers] = names else {
-            return None;
-        };
-        Some(Call {
-            command: Command::Run(workers_in(workers.as_str())?),
-            script: script.as_str(),
-            schedule: None,
-        })
+        match names {
+            [script, _] => Some(Call {
+                command,
+                script: script.as_str(),
+                schedule: None,
+            }),
+            _ => None,
+        }
     }
 }

@@ -118,6 +118,28 @@ fn run<'a, R: Wait + Threads + Sync + RandomSource + AllocGlobal, W: Write>(
     })
 }
 
+/// Runs the script's fibers by so many workers, and writes the traces.
+fn record<'a, R: Wait + Threads + Sync + RandomSource + AllocGlobal, W: Write>(
+    rt: &R,
+    alloc: Global,
+    script: &Script,
+    workers: u32,
+    out: &mut Stream<W>,
+) -> Result<Performed, CommandFault<'a>>
+    requires { script.now.code.queues ≤ length script.now.queues.items }
+    ensures { (picks : List pick.Pick) → Performs (command.Record workers) (meaning script.now) picks
+        result out.old out.new }
+{
+    let ran = run_to_halt(rt, alloc, script, workers, &Free)?;
+    let words = format_waits(alloc, script, &ran.waits)?;
+    let text = format_traces(alloc, script, &ran.report)?;
+    out.write(&text)?;
+    Ok(Performed {
+        status: status_after(&ran.report),
+        words,
+    })
+}
+
 /// Does with the script and the picks what is asked, and prints it; a run goes by no picks. The script's
 /// code names no queue that is not declared. The status is 0 where all fibers ended or are only counted, and 1 where one waits for
 /// good: then the words are a line for each fiber that does, and else there are none.
@@ -138,5 +160,6 @@ pub(crate) fn perform<'a, R: Wait + Threads + Sync + RandomSource + AllocGlobal,
         Command::Replay => report(alloc, script, picks, out),
         Command::Trace => trace(alloc, script, picks, out),
         Command::Run(workers) => run(rt, alloc, script, workers, out),
+        Command::Record(workers) => record(rt, alloc, script, workers, out),
     }
 }

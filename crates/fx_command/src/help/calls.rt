@@ -13,6 +13,7 @@ how each fiber ended.
   fibers trace F [SCHEDULE]   makes that run, and prints what each fiber did
   fibers run F WORKERS        runs the fibers by 1 to 64 workers, each on a
                               thread, and prints the report
+  fibers record F WORKERS     runs them so, and prints what each fiber did
   fibers help [WORD]          prints this page, or the one on a word
 
 F is a file with a script, or - for standard input. SCHEDULE is a file with the
@@ -24,8 +25,8 @@ step makes each step.
     fiber 1 canceled
     fiber 2 succeeded 5
 
-There are pages on check, replay, trace, run, schedule, forms, which lists what
-a script is made of, and on each form, as bracket.
+There are pages on check, replay, trace, run, record, schedule, forms, which
+lists what a script is made of, and on each form, as bracket.
 
 Status  when
   0     all fibers have ended, a check passed, or help was printed
@@ -104,6 +105,23 @@ have several reports. F is - for standard input.
     fiber 1 succeeded 3
 ";
 
+const RECORD: &str = "\
+fibers record F WORKERS
+
+Runs the fibers as fibers run F WORKERS does, and prints what each fiber did, in
+place of a report, in the lines of fibers trace. By stamp, and then by fiber,
+the events of all fibers stand in one order in which each comes after those that
+it stands on.
+
+    $ echo '(main (start h (pure 3) (join h (x (pure x)) (e (pure e))
+        (never))))' > script
+    $ fibers record script 4
+    0 1 start 1
+    0 3 joined 1 succeeded 3
+    0 4 ended succeeded 3
+    1 2 ended succeeded 3
+";
+
 const SCHEDULE: &str = "\
 A schedule chooses one run of a script. It is the text of a file, with words
 that spaces or line ends part, and is followed from left to right:
@@ -136,6 +154,7 @@ pub(super) fn page_on(word: &str) -> Option<&'static str>
         "replay" => Some(REPLAY),
         "trace" => Some(TRACE),
         "run" => Some(RUN),
+        "record" => Some(RECORD),
         "schedule" => Some(SCHEDULE),
         _ => None,
     }
