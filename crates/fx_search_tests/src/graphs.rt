@@ -14,11 +14,13 @@ struct Graph {
 }
 
 impl Space<u32> for Graph {
+    ghost has = { λ graph number. Unit {0} };
+
     ghost leads = { λ graph from to. Unit {0} };
 
     ghost covers = { λ graph from to. Unit {0} };
 
-    fn successors(&self, alloc: Global, state: &u32) -> Result<Vec<u32>, Memory> {
+    fn successors(&mut self, alloc: Global, state: &u32) -> Result<Vec<u32>, Memory> {
         match self.lists.get(*state as usize) {
             Some(list) => Ok(Vec::from_slice(alloc, list)?),
             None => Err(Memory),
@@ -60,7 +62,7 @@ static SEARCHES: [(&str, &[&[u32]], usize, &[u32], usize, Ending); 7] = [
 #[test]
 fn graphs_are_searched_breadth_first(rt: HostRuntime) -> Result<(), Fail> {
     for &(row, lists, most, states, expanded, ending) in &SEARCHES {
-        let met = search(rt.alloc(), &Graph { lists }, 0, most)?;
+        let met = search(rt.alloc(), &mut Graph { lists }, 0, most)?;
         assert!(rt; met.states.as_slice() == states, "{row}");
         assert_eq!(rt; (met.expanded, met.ending), (expanded, ending), "{row}");
     }
@@ -84,11 +86,13 @@ impl Hash for Colliding {
 struct Countdown;
 
 impl Space<Colliding> for Countdown {
+    ghost has = { λ countdown number. Unit {0} };
+
     ghost leads = { λ countdown from to. Unit {0} };
 
     ghost covers = { λ countdown from to. Unit {0} };
 
-    fn successors(&self, alloc: Global, state: &Colliding) -> Result<Vec<Colliding>, Memory> {
+    fn successors(&mut self, alloc: Global, state: &Colliding) -> Result<Vec<Colliding>, Memory> {
         let mut lower = Vec::new(alloc);
         for by in [1, 2] {
             if let Some(number) = state.0.checked_sub(by) {
@@ -101,7 +105,7 @@ impl Space<Colliding> for Countdown {
 
 #[test]
 fn states_of_one_hash_are_told_apart(rt: HostRuntime) -> Result<(), Fail> {
-    let met = search(rt.alloc(), &Countdown, Colliding(4), 9)?;
+    let met = search(rt.alloc(), &mut Countdown, Colliding(4), 9)?;
     let numbers = [4, 3, 2, 1, 0].map(Colliding);
     assert!(rt; met.states.as_slice() == numbers.as_slice());
     assert!(rt; met.ending == Ending::Exhausted);
