@@ -1,0 +1,5 @@
+//! Steps of the fibers of a state, so that they are seen to succeed, which no contract says.
+#![tactic(auto)]
+
+#[cfg(test)]
+mod steps;
