@@ -22,6 +22,7 @@ pub(crate) mod rules;
 mod start;
 mod step;
 mod tell;
+mod trace_room;
 
 use body::Body;
 use burst::burst;

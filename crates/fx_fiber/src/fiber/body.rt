@@ -33,8 +33,6 @@ impl Body {
 
     /// That of a fiber with this number, which begins so, before its first step, but for the numbers of the
     /// names in scope: `have` moves them there once the port has seen what the fiber begins with.
-    // Laid into a loop that makes rules, this would make each of them dearer, and starts are few.
-    #[inline(never)]
     pub fn beginning(alloc: Global, id: u32, begin: &Begin) -> Result<Box<Body>, Memory>
         ghost nodes: { List Node }
         requires { IsSoundBegin nodes begin.now }

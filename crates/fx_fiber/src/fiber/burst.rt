@@ -7,6 +7,7 @@ use crate::fiber::advance::interruption;
 use crate::fiber::ahead::Looked;
 use crate::fiber::body::Body;
 use crate::fiber::rules::{Reached, rules, rules_before_look};
+use crate::fiber::trace_room::have_room;
 use crate::machine::interruption::Interruption;
 use crate::port::Port;
 use fx_term::{Code, Event, Memory};
@@ -41,7 +42,7 @@ pub(crate) fn burst<P: Port>(
     if most == 0 {
         return Ok(0);
     }
-    body.trace.reserve(1)?;
+    have_room(&mut body.trace)?;
     let made = match rules_before_look::<P>(body, code, most)? {
         Reached::Stops(made) => return Ok(made),
         Reached::Looks(made) => made,

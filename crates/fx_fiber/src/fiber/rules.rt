@@ -6,6 +6,7 @@ ghost use Rattle.fx_fiber.specs.Bursts.{Outset, HasLooked, LeadsTo, Reaches, Rea
 use crate::fiber::ahead::{Ahead, Looked, look_ahead};
 use crate::fiber::body::Body;
 use crate::fiber::glide::{Glided, glide};
+use crate::fiber::trace_room::have_room;
 use crate::port::Port;
 use fx_term::{Code, Memory};
 
@@ -47,7 +48,7 @@ pub(crate) fn rules<P: Port>(
             Glided::Showed(event) => {
                 body.show(event);
                 if made + 1 < most {
-                    body.trace.reserve(1)?;
+                    have_room(&mut body.trace)?;
                 }
             }
             Glided::Looks => return Ok(Reached::Looks(made)),

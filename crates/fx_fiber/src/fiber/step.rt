@@ -9,6 +9,7 @@ use crate::fiber::advance::advance;
 use crate::fiber::body::Body;
 use crate::fiber::start::start;
 use crate::fiber::tell::tell;
+use crate::fiber::trace_room::have_room;
 use crate::machine::made::Made;
 use crate::port::Port;
 use crate::stepped::Stepped;
@@ -39,7 +40,7 @@ pub(crate) fn step<P: Port>(
     ensures number { (P.theory.facts port.new).number ≡ (P.theory.facts port.old).number }
     ensures beginning { (P.theory.facts port.new).beginning ≡ (P.theory.facts port.old).beginning }
 {
-    body.trace.reserve(1)?;
+    have_room(&mut body.trace)?;
     let made = advance(port, &mut body.machine, code, shared, &mut body.clock)?;
     if let Made::Starts(slot, started, then) = made {
         let child = start(port, body, code, shared, slot, started, then)?;

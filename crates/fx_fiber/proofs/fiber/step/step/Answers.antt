@@ -21,13 +21,13 @@ advance-requires g c =
       scoped = k.scoped;
     }
 
-pub returns-in_err-reserve : goal.returns-in_err-reserve
-returns-in_err-reserve g c =
+pub returns-in_err-have_room : goal.returns-in_err-have_room
+returns-in_err-have_room g c =
     let k = c.requires.kept in
     let s = c.args.body.now.machine in
     let p = c.args.port.now in
     let same = same_here g.P.Port.theory.code s k.sound in
-    let items = c.in_err-reserve.ensures.items in
+    let items = c.in_err-have_room.ensures.items in
     record {
       ok = IfOk-from_err c.from_residual.result _ c.from_residual.ensures.0;
       err = on_any_error c.from_residual.result (same_is_unchanged g.P.Port.theory.code p p _ _ s s _ _ same refl items, refl);
@@ -44,7 +44,7 @@ returns-in_err-made g c =
     let s = c.args.body.now.machine in
     let p = c.args.port.now in
     let failed = c.in_err-made.ensures in
-    let items = c.in_ok-reserve.ensures.items in
+    let items = c.in_ok-have_room.ensures.items in
     record {
       ok = IfOk-from_err c.from_residual-in_err-made.result _ c.from_residual-in_err-made.ensures.0;
       err = on_any_error c.from_residual-in_err-made.result (
@@ -66,7 +66,7 @@ pub start-requires-clause-kept : goal.start-requires-clause-kept
 start-requires-clause-kept g c =
     let due = rw c.in-Starts.is at c.in_ok-made.ensures.ok in
     same_is_kept g.P.Port.theory c.args.port.now c.advance.new.port _ _ _ _
-    c.args.body.now.machine c.advance.new.machine c.requires.kept due.rule.same due.asks.1.0 c.in_ok-reserve.ensures.items
+    c.args.body.now.machine c.advance.new.machine c.requires.kept due.rule.same due.asks.1.0 c.in_ok-have_room.ensures.items
     (unraised _ _ _ due.raises.raised (due.raises.none tt))
 
 pub start-requires-clause-going : goal.start-requires-clause-going
@@ -82,7 +82,7 @@ returns-in_err-child g c =
     let q = c.start.new.port in
     let same = same_trans g.P.Port.theory.code s c.advance.new.machine t due.rule.same failed.same in
     let port = failed.unchanged.0 ∙ due.asks.1.0 in
-    let items = failed.trace ∙ c.in_ok-reserve.ensures.items in
+    let items = failed.trace ∙ c.in_ok-have_room.ensures.items in
     record {
       ok = IfOk-from_err c.from_residual-in_err-child.result _ c.from_residual-in_err-child.ensures.0;
       err = on_any_error c.from_residual-in_err-child.result
@@ -101,7 +101,7 @@ returns-in-Starts g c =
     let started = c.in_ok-child.ensures in
     record {
       ok = start_does g.P.Port.theory _ _ _ _ _ _ _ _ _ _ _ _ _ _ _ _
-          c.in-Starts.slot c.in-Starts.started c.in-Starts.then c.in_ok-child.child c.requires.kept.clocked due started.started c.in_ok-reserve.ensures.items;
+          c.in-Starts.slot c.in-Starts.started c.in-Starts.then c.in_ok-child.child c.requires.kept.clocked due started.started c.in_ok-have_room.ensures.items;
       err = tt;
       kept = started.kept;
       id = c.start.ensures.id;
@@ -123,7 +123,7 @@ returns g c =
     let is = is_made m c.in_default.not-Starts in
     let a = c.in_ok-made.ensures.ok in
     let told = c.tell.ensures in
-    let items = rw c.in_ok-reserve.ensures.items at told.trace in
+    let items = rw c.in_ok-have_room.ensures.items at told.trace in
     let same = told_same g.P.Port.theory _ _ _ _ _ _ [] [] _ _ 0 _ _ m a told.told in
     record {
       ok = told_steps g.P.Port.theory _ _ _ _ _ _ _ _ _ _ 0 _ _ _ _ k.clocked m c.tell.result
