@@ -1,6 +1,8 @@
 -- What `==` says of contexts.
-use Rattle.std.proofs.Common.{rules, ◌≡◌, Bool, true, false, List, refl}
+use Rattle.std.proofs.Common.{rules, ◌≡◌, ◌∙◌, Bool, true, false, List, refl, ap, sym}
+use Rattle.std.proofs.lemmas.List.{reverse-reverse}
 use Rattle.std.proofs.lemmas.Slice.Eq.{slice_eq-Decides}
+use Rattle.std.specs.Prelude.{reverse}
 use Rattle.std.specs.Bool.{Decides, OnTrue}
 use Rattle.std.specs.Cmp.Lexicographic.{pointwise}
 use Rattle.fx_frames.specs.declared.frame.Frame.{Frame}
@@ -8,6 +10,14 @@ use Rattle.fx_frames.specs.contracts.frame.FramePartialEq.TheImpl.{eq-value}
 
 frame_decides : (a b : Frame) → Decides (eq-value.it a b) (a ≡ b)
 frame_decides a b = search rules
+
+-- equal lists in another order of reading are equal
+pub frames_decide : (xs ys : List Frame) (r : Bool) → r ≡ pointwise eq-value.it xs ys → Decides r (reverse xs ≡ reverse ys)
+frames_decide xs ys r e =
+    let decides = slice_eq-Decides frame_decides xs ys r e in (
+      λ true. ap (λ (zs : List Frame). reverse zs) (decides.0 true),
+      λ same. decides.1 (sym (reverse-reverse xs) ∙ ap (λ (zs : List Frame). reverse zs) same ∙ reverse-reverse ys),
+    )
 
 on_true : {A B : Type 0} (r : Bool) → Decides r A → (A → B) → OnTrue r B
 on_true true h f = f (h.0 refl)

@@ -1,6 +1,6 @@
 //! The contexts that a fiber has entered.
 ghost use Rattle.std.specs.Prelude.{◌≡◌, List, [], ◌∷◌, IfOk, OnOk, OnErr, MatchOption};
-ghost use Rattle.std.specs.Bool.{OnTrue};
+ghost use Rattle.std.specs.Bool.{Decides};
 ghost use Rattle.fx_frames.specs.Frames.{cleanups_of};
 
 use crate::frame::Frame;
@@ -58,7 +58,7 @@ impl Frames {
 
     /// Whether these are the same contexts.
     pub fn is_same(&self, other: &Frames) -> bool
-        ensures { OnTrue result (self.now ≡ other.now) }
+        ensures { Decides result (self.now ≡ other.now) }
     {
         self.items == other.items
     }

@@ -62,7 +62,7 @@ impl Unwinding {
         })
     }
 
-    /// Whether these are the same clean-ups, left by the same contexts.
+    /// Whether these are the same clean-ups, left by the same contexts. The same ones may have been left by others.
     pub fn is_same(&self, other: &Unwinding) -> bool
         ensures { OnTrue result (self.now ≡ other.now) }
     {

@@ -1,6 +1,6 @@
 //! The numbers of the names in scope.
 ghost use Rattle.std.specs.Prelude.{◌≡◌, ◌<◌, Some, [], length, IfOk, OnOk, OnErr};
-ghost use Rattle.std.specs.Bool.{OnTrue};
+ghost use Rattle.std.specs.Bool.{Decides};
 ghost use Rattle.fx_term.specs.declared.node.Arg.TheVariants.{Number};
 ghost use Rattle.fx_term.specs.Fill.{fill_arg};
 ghost use Rattle.fx_term.specs.Scope.{IsArgBelow};
@@ -47,7 +47,7 @@ impl Registers {
 
     /// Whether these are the same numbers.
     pub fn is_same(&self, other: &Registers) -> bool
-        ensures { OnTrue result (self.now ≡ other.now) }
+        ensures { Decides result (self.now ≡ other.now) }
     {
         self.numbers == other.numbers
     }

@@ -1,10 +1,6 @@
-use Rattle.std.proofs.Common.{List, ap}
-use Rattle.std.specs.Prelude.{reverse}
-use Rattle.fx_frames.specs.declared.frame.Frame.{Frame}
-use Rattle.fx_frames.proofs.SameFrames.{same_frames}
+use Rattle.fx_frames.proofs.SameFrames.{frames_decide}
 use Rattle.fx_frames.proofs.frames.Frames.is_same.Goals as goal
 
 pub returns : goal.returns
 returns c =
-    rw (← c.self.view_is, ← c.other.view_is) (same_frames c.self.inside.items.items c.other.inside.items.items c.eq.result c.eq.ensures
-    (λ same. ap (λ (xs : List Frame). reverse xs) same))
+    rw (← c.self.view_is, ← c.other.view_is) (frames_decide c.self.inside.items.items c.other.inside.items.items c.eq.result c.eq.ensures)
