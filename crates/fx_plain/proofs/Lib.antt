@@ -50,9 +50,12 @@ pub mod PlainMachineTries
 pub mod PlainMachineWaking
 pub mod PlainMachineOpening
 pub mod PlainMachineWay
+pub mod PickedWay
 pub mod PlainMachineWork
 pub mod PlainMachineBursts
 pub mod PlainMachineGoing
 pub mod PlainMachineReports
 pub mod NamedQueues
+pub mod PassedNames
+pub mod OneTelling
 pub mod Waits

@@ -18,7 +18,7 @@ module _ (n : ℕ) where
   abbrev pub AreNamed : WholeMachine → Type 0
   AreNamed m = (f : ℕ) (x : StartedFiber) → m.fibers f ≡ Some x → ProgressNamesBelow n x.progress
 
-  step_named : (s : ScriptView) (m : WholeMachine) (f : ℕ) (l : Label) (m' : WholeMachine) → FiberSteps s m f l m' → AreNamed m → AreNamed m'
+  pub step_named : (s : ScriptView) (m : WholeMachine) (f : ℕ) (l : Label) (m' : WholeMachine) → FiberSteps s m f l m' → AreNamed m → AreNamed m'
   step_named s m f l m' st named h y e =
       by_origin (comes m f st.fiber st.counts st.progress l h y (sym (ap (λ (k : WholeMachine). k.fibers h) st.after) ∙ e))
     where

@@ -42,6 +42,11 @@ module _ (s : ScriptView) (m : WholeMachine) (f : ℕ) where
       (left_first l (leaf_at c.steps.fiber.progress) c.left_first) c.steps.seen_first)
       ∙ ap (λ (x : WholeMachine). Some (record { move = Steps f l; machine = x })) (sym c.steps.after)
 
+-- a schedule makes one step of a fiber
+pub one_step : (s : ScriptView) (m : WholeMachine) (f : ℕ) (l l' : Label) (m' m'' : WholeMachine) → ChosenStep s m f l m' → ChosenStep s m f l' m'' → m' ≡ m''
+one_step s m f l l' m' m'' c c' =
+    ap (λ (made : MoveMade). made.machine) (same_Some _ _ (sym (chosen_step_is s m f l m' c) ∙ chosen_step_is s m f l' m'' c'))
+
 if_true : {A : Type 0} (b : Bool) (x y : A) → b ≡ true → elim b [ true ↦ x | false ↦ y ] ≡ x
 if_true true x y e = refl
 if_true false x y e = absurd cc

@@ -22,12 +22,12 @@ use Rattle.fx_plain.specs.OnTheWay.{IsOnTheWay}
 use Rattle.fx_plain.specs.ClassSets.{class_at, is_able}
 use Rattle.fx_plain.specs.World.{WorldView, is_ready_in}
 use Rattle.fx_plain.specs.PlainCalls.{PortView, plain_theory}
-use Rattle.fx_plain.specs.PlainMachine.{all_held, StandsForRun, StandsForSome, GoesOn, stays, goes, IsUnderWay, Tries, steps}
+use Rattle.fx_plain.specs.PlainMachine.{all_held, StandsForRun, StandsForSome, GoesOn, stays, goes, IsUnderWay, Tries}
 use Rattle.fx_plain.proofs.OnTheWay.{after_least}
 use Rattle.fx_plain.proofs.WorldClasses.{unready_cannot}
 use Rattle.fx_plain.proofs.PlainMachineSteps.{at_number, held_option, is_fiber, below_total}
 use Rattle.fx_plain.proofs.PlainMachineTries.{still_stands, step_leads_on}
-use Rattle.fx_plain.proofs.PlainMachineWork.{left_of, work_is, places, try_leaves_less}
+use Rattle.fx_plain.proofs.PlainMachineWork.{left_of, work_is, places, step_leaves_less, try_leaves_less}
 
 module _ {J : Type 0} (nodes : List Node) (s : ScriptView) (f : ℕ) where
   -- what was come to is stood for
@@ -58,9 +58,9 @@ module _ {J : Type 0} (nodes : List Node) (s : ScriptView) (f : ℕ) where
     where
       no_more : (n : ℕ) → n ≤ n
       no_more n = omega arith
-  leaves_no_more so (goes {n = n} {q = q} {p' = p'} g chosen so' e) =
+  leaves_no_more so (goes {l = l} {n = n} {n' = n'} {q = q} {p' = p'} g chosen so' e) =
       let before = leaves_no_more so g in
-      let less = try_leaves_less nodes s q p' n f (goes_to g) (steps chosen so') in
+      let less = step_leaves_less nodes s q p' n f l n' (goes_to g) chosen so' in
       omega arith
 
   module _ (p : PlainMachine J) (m : WholeMachine) (so : StandsForRun nodes s p m) (x : StartedView J) (here : at_number nodes p f ≡ Some x)

@@ -26,6 +26,7 @@ use Rattle.fx_plain.specs.WholeMachine.{StartedFiber, WholeMachine, Move, Steps,
 use Rattle.fx_plain.specs.Chosen.{ChosenStep}
 use Rattle.fx_plain.specs.declared.class.Class.{Class}
 use Rattle.fx_plain.specs.declared.class.Class.TheVariants.{Able}
+use Rattle.fx_plain.specs.Classes.{awaited}
 use Rattle.fx_plain.specs.ClassSets.{class_at, is_able}
 use Rattle.fx_plain.specs.MachineStamps.{stamp_of, stamps_after}
 use Rattle.fx_plain.specs.World.{WorldView, HeldFiber, held_of, StandsFor, HasStamps, world_after}
@@ -252,9 +253,17 @@ module _ {J : Type 0} (nodes : List Node) where
           stamped = all_stamped;
         }
 
+        -- and nothing is noted that it waits for
+        no_note : is_able (class_at p.world.classes f) ≡ true → awaited (class_at p'.world.classes f) ≡ None
+        no_note able =
+            rw left_world
+            (classes.step_leaves_no_note s p.world m so.tells f y new.counts (progress nodes new) own (able_class (class_at p.world.classes f) able) below_total
+            so.stands.outcomes_long l)
+
         -- so the step leads on
-        pub step_leads : is_able (class_at p.world.classes f) ≡ true → (m' : WholeMachine) × ChosenStep s m f l m' × StandsForRun nodes s p' m'
-        step_leads able = (after, chosen, stands_after able)
+        pub step_leads : is_able (class_at p.world.classes f) ≡ true
+            → (m' : WholeMachine) × ChosenStep s m f l m' × StandsForRun nodes s p' m' × (awaited (class_at p'.world.classes f) ≡ None)
+        step_leads able = (after, chosen, stands_after able, no_note able)
 
         pub step_is_tried : is_able (class_at p.world.classes f) ≡ true → Tries nodes s m f p p'
-        step_is_tried able = steps chosen (stands_after able)
+        step_is_tried able = steps chosen (stands_after able) (no_note able)

@@ -28,9 +28,9 @@ use Rattle.fx_plain.specs.declared.plain_machine.PlainMachine.{PlainMachine}
 use Rattle.fx_term.specs.Maps.{with_at}
 use Rattle.fx_plain.specs.WholeMachine.{StartedFiber, WholeMachine, begun, fibers_after}
 use Rattle.fx_plain.specs.Chosen.{ChosenStep}
-use Rattle.fx_plain.specs.MachineStamps.{MachineStamps, stamp_of, stamps_after}
+use Rattle.fx_plain.specs.MachineStamps.{stamp_of, stamps_after}
 use Rattle.fx_plain.specs.PlainQueue.{have_room, have_element}
-use Rattle.fx_plain.specs.Classes.{is_ready}
+use Rattle.fx_plain.specs.Classes.{awaited, is_ready}
 use Rattle.fx_plain.specs.ClassSets.{class_at, is_able}
 use Rattle.fx_plain.specs.World.{WorldView, is_ready_in, HeldFiber, held_of, StandsFor}
 use Rattle.fx_plain.specs.WorldClasses.{TellsWhoSteps}
@@ -224,7 +224,7 @@ module _ {J : Type 0} (nodes : List Node) (s : ScriptView) (p : PlainMachine J) 
       pub step_leads_on : (answer : Stepped PortView WorldView) → IsQuiet nodes x.fiber new p.world w' answer
           → DoesStep (plain_theory nodes) x.fiber p.world answer new w' → p'.fibers.items ≡ middle → p'.world ≡ w'
           → is_able (class_at p.world.classes f) ≡ true
-          → (l : Label) × (m' : WholeMachine) × ChosenStep s m f l m' × StandsForRun nodes s p' m'
+          → (l : Label) × (m' : WholeMachine) × ChosenStep s m f l m' × StandsForRun nodes s p' m' × (awaited (class_at p'.world.classes f) ≡ None)
       step_leads_on answer quiet does same world able =
           let made = (quiet_is nodes x.fiber new p.world w' answer quiet does).0 in
           let none = (quiet_is nodes x.fiber new p.world w' answer quiet does).1 in
@@ -236,7 +236,7 @@ module _ {J : Type 0} (nodes : List Node) (s : ScriptView) (p : PlainMachine J) 
           (λ h apart. subst (HasStampsAt nodes (stamps_after m.stamps f made.label) h) (sym (same_others same h apart))
           (other_stamped made.label h apart (λ g b starts e. starts_none nodes (leaf_at (progress nodes x.fiber)) f m.fibers made.label answer none made.answers
           g b starts) (at_number nodes p h) (so.stamped h))) able in
-          (made.label, on.0, on.1, on.2)
+          (made.label, on.0, on.1, on.2, on.3)
 
       pub tries_step : (answer : Stepped PortView WorldView) → IsQuiet nodes x.fiber new p.world w' answer
           → DoesStep (plain_theory nodes) x.fiber p.world answer new w' → p'.fibers.items ≡ middle → p'.world ≡ w'
@@ -244,7 +244,7 @@ module _ {J : Type 0} (nodes : List Node) (s : ScriptView) (p : PlainMachine J) 
           → Tries nodes s m f p p'
       tries_step answer quiet does same world able =
           let on = step_leads_on answer quiet does same world able in
-          steps on.2 on.3
+          steps on.2 on.3 on.4
 
       -- after a step that starts a child, which was laid down at its number
       module _ (c : FiberView PortView) (made : MakesStep (plain_theory nodes) x.fiber p.world (Child c) new w') where
@@ -436,10 +436,17 @@ module _ {J : Type 0} (nodes : List Node) (s : ScriptView) (p : PlainMachine J) 
         tells = rw world_is (noted_wait_tells s p.world (all_held nodes p) m so.stands nodes f below x.fiber new w' (own_number nodes s p m so f x here is)
             source wait so.tells is.fiber is.at (sym (ap (λ (h : HeldFiber). h.counts) is.is)) (sym (ap (λ (h : HeldFiber). h.progress) is.is)))
 
+        noted_class : class_at (slice_set p.world.classes f (class.Waits source)) f ≡ class.Waits source
+        noted_class =
+            class_at_set p.world.classes f (class.Waits source) (let lt = below in let n = so.tells.long in omega arith) f
+            ∙ at_itself f (class.Waits source) (class_at p.world.classes)
+
+        noted : awaited (class_at p'.world.classes f) ≡ Some source
+        noted = rw world_is (ap awaited noted_class)
+
         unready : is_ready_in p'.world f ≡ false
         unready =
-            rw world_is (ap (is_ready (have_room p.world.queues) (have_element p.world.queues)) (class_at_set p.world.classes f (class.Waits source)
-            (let lt = below in let n = so.tells.long in omega arith) f ∙ at_itself f (class.Waits source) (class_at p.world.classes))
+            rw world_is (ap (is_ready (have_room p.world.queues) (have_element p.world.queues)) noted_class
             ∙ refused_unready p.world x.fiber.port (next_stamp (clock (plain_theory nodes) x.fiber) 0) (value_offered (leaf_at (progress nodes x.fiber)))
             source wait.refused)
 
@@ -466,4 +473,4 @@ module _ {J : Type 0} (nodes : List Node) (s : ScriptView) (p : PlainMachine J) 
               stamps = rw world_is (stamps_beside s p.world (record p.world { classes = slice_set p.world.classes f (class.Waits source) }) m.stamps
                   refl refl refl so.stamps);
               stamped = all_stamped wait.unchanged same;
-            }) (fewer able)
+            }) (fewer able) noted

@@ -83,11 +83,11 @@ module _ {J : Type 0} (nodes : List Node) (p : PlainMachine J) (f : ℕ) (w' : W
 
     -- what it tries once woken it tries
     pub tried_woken : (p' : PlainMachine J) → Tries nodes s m f woken p' → Tries nodes s m f p p'
-    tried_woken p' (steps {l = l} {m' = m'} chosen so') = steps chosen so'
-    tried_woken p' (waits cannot so' fewer) = by_class (is_able (class_at p.world.classes f)) refl
+    tried_woken p' (steps {l = l} {m' = m'} chosen so' noted) = steps chosen so' noted
+    tried_woken p' (waits cannot so' fewer noted) = by_class (is_able (class_at p.world.classes f)) refl
       where
         by_class : (b : Bool) → is_able (class_at p.world.classes f) ≡ b → Tries nodes s m f p p'
-        by_class true able = waits cannot so' (rw (as_many able) at fewer)
+        by_class true able = waits cannot so' (rw (as_many able) at fewer) noted
         by_class false unable =
             absurd (let can = ready_can s p.world (all_held nodes p) m so.stands so.tells f unable ready in
             let both : true ≡ false = sym can ∙ cannot in cc)

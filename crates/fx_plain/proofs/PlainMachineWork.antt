@@ -7,10 +7,12 @@ use Rattle.std.proofs.lemmas.List.Sums.{sum_by-cons}
 use Rattle.std.proofs.Math.Nat.{suc-mul}
 use Rattle.fx_term.specs.declared.node.Node.{Node}
 use Rattle.fx_term.specs.Script.{ScriptView, total}
+use Rattle.fx_model.specs.Row.{Label}
 use Rattle.fx_model.proofs.AllWork.{work_of}
 use Rattle.fx_plain.specs.declared.class.Class.{Class}
 use Rattle.fx_plain.specs.declared.plain_machine.PlainMachine.{PlainMachine}
 use Rattle.fx_plain.specs.WholeMachine.{StartedFiber, WholeMachine}
+use Rattle.fx_plain.specs.Chosen.{ChosenStep}
 use Rattle.fx_plain.specs.ClassSets.{is_able}
 use Rattle.fx_plain.specs.World.{HeldFiber, held_of}
 use Rattle.fx_plain.specs.PlainMachine.{able_count, all_held, StandsForRun, StandsForSome, Tries, steps, waits}
@@ -72,15 +74,20 @@ module _ {J : Type 0} (nodes : List Node) where
     able_few : able_count p.world.classes ≤ total s
     able_few = let a = able_at_most p.world.classes in let e = so.tells.long in omega arith
 
-  -- each try leaves less
-  pub try_leaves_less : (s : ScriptView) (p p' : PlainMachine J) (m : WholeMachine) (f : ℕ) → StandsForRun nodes s p m → Tries nodes s m f p p'
-      → left_of p' < left_of p
-  try_leaves_less s p p' m f so (steps {l = l} {m' = m'} chosen so') =
+  -- each step leaves less
+  pub step_leaves_less : (s : ScriptView) (p p' : PlainMachine J) (m : WholeMachine) (f : ℕ) (l : Label) (m' : WholeMachine) → StandsForRun nodes s p m
+      → ChosenStep s m f l m' → StandsForRun nodes s p' m' → left_of p' < left_of p
+  step_leaves_less s p p' m f l m' so chosen so' =
       let less = fiber_step_leaves_less s m f l m' (run_keeps s so.moves m so.run) chosen.steps in
       rw (work_is s p m so, work_is s p' m' so', places s p m so, places s p' m' so')
       (less_left (whole_machine_work s m) (whole_machine_work s m') (total s) (able_count p.world.classes) (able_count p'.world.classes) less
       (able_few s p' m' so'))
-  try_leaves_less s p p' m f so (waits cannot so' fewer) =
+
+  -- each try leaves less
+  pub try_leaves_less : (s : ScriptView) (p p' : PlainMachine J) (m : WholeMachine) (f : ℕ) → StandsForRun nodes s p m → Tries nodes s m f p p'
+      → left_of p' < left_of p
+  try_leaves_less s p p' m f so (steps {l = l} {m' = m'} chosen so' noted) = step_leaves_less s p p' m f l m' so chosen so'
+  try_leaves_less s p p' m f so (waits cannot so' fewer noted) =
       rw (work_is s p m so, work_is s p' m so', places s p m so, places s p' m so') (more (able_count p'.world.classes) (able_count p.world.classes) _ fewer)
     where
       more : (a b c : ℕ) → a < b → c + a < c + b

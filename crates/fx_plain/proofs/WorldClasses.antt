@@ -19,7 +19,7 @@ use Rattle.fx_term.specs.Maps.{with_at}
 use Rattle.fx_plain.specs.WholeMachine.{StartedFiber, WholeMachine, opening, has_room, outside_of, outcome_of, can_step_in, moved}
 use Rattle.fx_plain.specs.WholeMachine.{requested_from_outside}
 use Rattle.fx_plain.specs.Classes.{AreOfClasses, opening_classes, class_requested, class_at_end, requested_classes, ended_classes}
-use Rattle.fx_plain.specs.Classes.{outcome_has_come, AwaitWhatIsToCome, is_ready}
+use Rattle.fx_plain.specs.Classes.{awaited, outcome_has_come, AwaitWhatIsToCome, is_ready}
 use Rattle.fx_plain.specs.PlainQueue.{have_room, have_element}
 use Rattle.fx_plain.specs.ClassSets.{class_at, is_able}
 use Rattle.fx_plain.specs.World.{WorldView, outcome_in, is_ready_in, world_after, after_start, after_request_from_outside, HeldFiber, StandsFor, opening_world}
@@ -139,3 +139,20 @@ module _ (s : ScriptView) (w : WorldView) (m : WholeMachine) (tells : TellsWhoSt
     step_tells l number st =
         told_by s (world_after f x.labels stamp l w) (moved m f x l d q) class outcomes tells.long (λ h. refl) (λ h. refl)
         (step_classes_kept m f x d q class able tells.are l st) tells.to_come
+
+    -- nor is it noted after it that the fiber waits
+    pub step_leaves_no_note : (l : Label) → awaited (class_at (world_after f x.labels stamp l w).classes f) ≡ None
+    step_leaves_no_note (Starts g b) = ap awaited (elim (cases_eq f g) [
+      | inl same ↦
+          ap (class_at (slice_set w.classes g Able)) same ∙ get_or-set_same w.classes g Able Unstarted (let n = tells.long in let lt = below in omega arith)
+      | inr apart ↦ get_or-set_other w.classes g f Able Unstarted apart ∙ able
+    ])
+    step_leaves_no_note (Shows (event.Request g)) = ap awaited (class_at_request w.classes g f ∙ elim (cases_eq f g) [
+      | inl same ↦
+          at_that g (class_requested (class g)) class f same ∙ ap (λ (h : ℕ). class_requested (class h)) (sym same) ∙ ap class_requested able
+      | inr apart ↦ at_other g (class_requested (class g)) class f apart ∙ able
+    ])
+    step_leaves_no_note (Shows (event.Ended o)) =
+        ap awaited (class_at_end_of w.classes f (let n = tells.long in let lt = below in omega arith) f
+        ∙ at_that f Over (λ h. class_at_end f (class h)) f refl)
+    step_leaves_no_note l = ap awaited able

@@ -4,6 +4,7 @@ use Rattle.fx_term.specs.declared.outcome.Outcome as outcome
 use Rattle.fx_term.specs.declared.event.Event.TheVariants as event
 use Rattle.fx_model.specs.Row.{Label, Shows, Starts}
 use Rattle.fx_model.specs.Step.{has_ended}
+use Rattle.fx_model.specs.declared.source.Source.{Source}
 use Rattle.fx_model.specs.declared.source.Source.TheVariants.{Outcome, Either, Room, Element}
 use Rattle.fx_model.specs.WaitsFor.{has_come, IsWaiting}
 use Rattle.fx_model.specs.Outside.{Outside}
@@ -32,6 +33,11 @@ opening_classes = with_at 0 Able (λ f. Unstarted)
 abbrev pub class_requested : Class → Class
 class_requested (Waits w) = Able
 class_requested k = k
+
+-- what it waits for, if it does
+abbrev pub awaited : Class → Option Source
+awaited (Waits w) = Some w
+awaited _ = None
 
 -- it waits for the end of fiber g
 abbrev pub waits_for_end : ℕ → Class → Bool

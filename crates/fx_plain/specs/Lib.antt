@@ -16,5 +16,7 @@ pub mod PlainCalls
 pub mod World
 pub mod WorldClasses
 pub mod Started
+pub mod PassedPicks
+pub mod TakenPick
 pub mod PlainMachine
 pub mod TextReplay

@@ -21,11 +21,15 @@ use Rattle.fx_plain.specs.MachineStamps.{MachineStamps}
 use Rattle.fx_plain.specs.WholeMachine.{WholeMachine, Move, can_step_in, IsWholeMachineRun}
 use Rattle.fx_plain.specs.Chosen.{ChosenStep}
 use Rattle.fx_plain.specs.declared.class.Class.{Class}
-use Rattle.fx_plain.specs.ClassSets.{is_able}
+use Rattle.fx_plain.specs.Classes.{awaited}
+use Rattle.fx_plain.specs.ClassSets.{class_at, is_able}
+use Rattle.fx_model.specs.declared.source.Source.{Source}
 use Rattle.fx_plain.specs.World.{WorldView, HeldFiber, is_ready_in, StandsFor, HasStamps}
 use Rattle.fx_plain.specs.PlainCalls.{PortView, plain_theory}
 use Rattle.fx_plain.specs.WorldClasses.{TellsWhoSteps}
 use Rattle.fx_plain.specs.OnTheWay.{IsOnTheWay}
+use Rattle.fx_plain.specs.declared.passed.Why.{Why}
+use Rattle.fx_plain.specs.TakenPick.{Takes}
 
 -- how many are able
 abbrev pub able_count : List Class → ℕ
@@ -121,7 +125,15 @@ module _ {J : Type 0} (nodes : List Node) where
     goes : {l : Label} {n n' : WholeMachine} {q p' : PlainMachine J} → GoesOn s f m p n q → ChosenStep s n f l n' → StandsForRun s p' n'
         → p'.world ≡ q.world → GoesOn s f m p n' p'
 
-  -- a step of fiber f that a schedule makes; or that fiber cannot step, and it is noted that it waits, so that one fiber less is able
+  -- a step of fiber f that a schedule makes, which leaves no note that it waits; or that fiber cannot step, and it is noted what it waits for, so that one
+  -- fiber less is able
   pub data Tries (s : ScriptView) (m : WholeMachine) (f : ℕ) (p p' : PlainMachine J) : Type 0 where
-    steps : {l : Label} {m' : WholeMachine} → ChosenStep s m f l m' → StandsForRun s p' m' → Tries s m f p p'
-    waits : can_step_in s m f ≡ false → StandsForRun s p' m → able_count p'.world.classes < able_count p.world.classes → Tries s m f p p'
+    steps : {l : Label} {m' : WholeMachine} → ChosenStep s m f l m' → StandsForRun s p' m' → awaited (class_at p'.world.classes f) ≡ None → Tries s m f p p'
+    waits : {source : Source} → can_step_in s m f ≡ false → StandsForRun s p' m → able_count p'.world.classes < able_count p.world.classes
+        → awaited (class_at p'.world.classes f) ≡ Some source → Tries s m f p p'
+
+  -- it stands for what the pick makes of the whole machine, which is passed over if there is a reason
+  pub record IsTaken (s : ScriptView) (m : WholeMachine) (pick : Pick) (why : Option Why) (p' : PlainMachine J) : Type 0 where
+    pub machine : WholeMachine
+    pub takes : Takes s m pick why machine
+    pub stands : StandsForRun s p' machine

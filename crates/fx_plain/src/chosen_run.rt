@@ -1,17 +1,19 @@
 //! Replays a script: makes the run of its fibers that a schedule chooses.
-ghost use Rattle.std.specs.Prelude.{◌≡◌, ◌≤◌, true, All, IfOk, length};
+ghost use Rattle.std.specs.Prelude.{◌≡◌, ◌≤◌, true, All, IfOk, IfSome, length};
 ghost use Rattle.fx_model.specs.LawfulReport.{IsLawfulReport};
 ghost use Rattle.fx_model.specs.Happenings.{IsLawfulInOneList};
 ghost use Rattle.fx_model.specs.Headline.{KeepsWhatIsPromised};
 ghost use Rattle.fx_text.specs.View.{meaning};
 ghost use Rattle.fx_model.specs.ReportStamps.{IsStampedReport};
 ghost use Rattle.fx_plain.specs.Chosen.{IsReplay};
+ghost use Rattle.fx_plain.specs.PassedPicks.{IsWhyAtQueueBelow, TellsPassed};
 ghost use Rattle.fx_plain.specs.StampedList.{IsStampedInOneList};
 ghost use Rattle.fx_plain.specs.Waits.{IsReplayWithWaits};
 ghost use Rattle.fx_report.specs.Script.{script_of};
 ghost use Rattle.fx_report.specs.Text.{queue_names, IsWritable};
 ghost use Rattle.fx_report.specs.Waits.{WaitsAtQueueBelow};
 
+use crate::passed::{PassedOver, told_after};
 use crate::plain_machine::PlainMachine;
 use fx_fiber::Report;
 use fx_report::Wait;
@@ -20,12 +22,13 @@ use fx_text::{Pick, Script};
 use std::alloc::Global;
 use std::marker::Brand;
 
-/// What there is once no fiber of a run can step any more: the report, and what each fiber waits for that
-/// is blocked, in the report's order.
+/// What there is once no fiber of a run can step any more: the report, what each fiber waits for that is
+/// blocked, in the report's order, and what is told of the picks that were passed over.
 #[derive(Drop)]
 pub struct Halt {
     pub report: Report,
     pub waits: Vec<Wait>,
+    pub passed: Option<PassedOver>,
 }
 
 /// The replay of a script whose code the type names.
@@ -44,19 +47,31 @@ fn replay_named<J: CodeBrand>(
     ensures named { script.now.code.queues ≤ length script.now.queues.items
         → IfOk result (λ halt. All (WaitsAtQueueBelow (length (queue_names (meaning script.now))))
         halt.waits.items) }
+    ensures passed { IfOk result
+        (λ halt. TellsPassed (script_of (meaning script.now)) picks.now halt.passed) }
+    ensures passed_named { script.now.code.queues ≤ length script.now.queues.items
+        → IfOk result (λ halt. IfSome halt.passed (λ told.
+        IsWhyAtQueueBelow (length (queue_names (meaning script.now))) told.first.why)) }
 {
     let mut machine: PlainMachine<J> = PlainMachine::opening(alloc, script)?;
-    for pick in picks {
-        machine.take_pick(&script.code, *pick)?;
+    let mut passed = None;
+    for (before, pick) in picks.iter().enumerate() {
+        let why = machine.take_pick(&script.code, *pick)?;
+        passed = told_after(passed, before + 1, *pick, why);
     }
     machine.run_to_halt(&script.code)?;
     let waits = machine.waits(alloc, &script.code)?;
     let report = machine.into_report(alloc)?;
-    Ok(Halt { report, waits })
+    Ok(Halt {
+        report,
+        waits,
+        passed,
+    })
 }
 
-/// The report of the run that the picks choose, as [`replay`] gives it, and what its blocked fibers wait
-/// for. The writers take both where the code names no queue that is not declared.
+/// The report of the run that the picks choose, as [`replay`] gives it, what its blocked fibers wait for,
+/// and what is told of the picks that were passed over. The writers take all three where the code names no
+/// queue that is not declared.
 pub fn replay_to_halt(alloc: Global, script: &Script, picks: &[Pick]) -> Result<Halt, Memory>
     ensures replayed { IfOk result (λ halt. IsReplayWithWaits (script_of (meaning script.now))
         picks.now halt.report halt.waits.items) }
@@ -67,6 +82,11 @@ pub fn replay_to_halt(alloc: Global, script: &Script, picks: &[Pick]) -> Result<
     ensures named { script.now.code.queues ≤ length script.now.queues.items
         → IfOk result (λ halt. All (WaitsAtQueueBelow (length (queue_names (meaning script.now))))
         halt.waits.items) }
+    ensures passed { IfOk result
+        (λ halt. TellsPassed (script_of (meaning script.now)) picks.now halt.passed) }
+    ensures passed_named { script.now.code.queues ≤ length script.now.queues.items
+        → IfOk result (λ halt. IfSome halt.passed (λ told.
+        IsWhyAtQueueBelow (length (queue_names (meaning script.now))) told.first.why)) }
 {
     replay_named::<Brand>(alloc, script, picks)
 }

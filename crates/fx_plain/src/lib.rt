@@ -24,8 +24,8 @@
 //!
 //! A schedule is a list of picks. It chooses one run:
 //!
-//! 1. `Step(f)` makes one step of fiber f, and is skipped where that fiber cannot step.
-//! 2. `Cancel(f)` requests fiber f from outside, and is skipped where the script has no such number.
+//! 1. `Step(f)` makes one step of fiber f, and is passed over where that fiber cannot step.
+//! 2. `Cancel(f)` requests fiber f from outside, and is passed over where the script has no such number.
 //! 3. After the last pick the fiber with the least number that can step makes one step, again and
 //!    again, until none can.
 //! 4. Where both fibers of a `first` have ended, it learns of the left one.
@@ -54,7 +54,8 @@
 //!
 //! The report of that run has each fiber that started, ascending by number, with its parent, whether it
 //! has ended, and its trace with the stamps; what is left in each queue; and which numbers were requested from outside.
-//! Beside it [`replay_to_halt`] says what each fiber waits for that has not ended.
+//! Beside it [`replay_to_halt`] says what each fiber waits for that has not ended, and how many picks were
+//! passed over, with the first of them and why ([`PassedOver`]).
 //!
 //! What never happens: two fibers of one number; a start that finds its number taken, or no room for
 //! the child; an event after its fiber's end; an element that is taken twice, or by nobody and is gone;
@@ -69,6 +70,7 @@ mod classes;
 pub mod laws;
 mod number_set;
 mod number_sets;
+mod passed;
 mod plain_machine;
 mod plain_port;
 mod plain_queue;
@@ -84,6 +86,7 @@ pub use fx_report::{
     AnswerFault as PlainFault, BLOCKED, ENDED, MOST_OF_SCRIPT, OutFault, REFUSED, Wait,
     format_refusal, format_waits, read_text, status_after, write_report, write_text, write_trace,
 };
+pub use passed::{PassedOver, PassedPick, Why};
 pub use plain_port::PlainPort;
 pub use plain_world::PlainWorld;
 pub use text_replay::replay_text;

@@ -5,18 +5,20 @@ ghost use Rattle.fx_term.specs.Code.{IsCode};
 ghost use Rattle.fx_term.specs.Script.{ScriptView};
 ghost use Rattle.fx_text.specs.View.{meaning};
 ghost use Rattle.fx_text.specs.declared.pick.Pick.{Pick};
+ghost use Rattle.fx_text.specs.declared.pick.Pick.TheVariants as pick;
 ghost use Rattle.fx_plain.specs.WholeMachine.{WholeMachine, opening};
 ghost use Rattle.fx_plain.specs.Chosen.{IsReplay};
 ghost use Rattle.fx_plain.specs.ClassSets.{class_at, is_able};
 ghost use Rattle.fx_plain.specs.NumberSet.{IsLeastOf};
 ghost use Rattle.fx_plain.specs.World.{is_ready_in};
 ghost use Rattle.fx_plain.specs.PlainMachine.{all_reported, StandsForRun, StandsForSome, Tries, IsUnderWay, Halts};
-ghost use Rattle.fx_plain.specs.PlainMachine.{IsGoingAt, StepsAt, BurstsAt, GoesOn};
+ghost use Rattle.fx_plain.specs.PlainMachine.{IsGoingAt, StepsAt, BurstsAt, GoesOn, IsTaken};
 ghost use Rattle.fx_plain.specs.PlainMachine.{all_waits};
 ghost use Rattle.fx_plain.specs.Started.{wait_of};
 ghost use Rattle.fx_plain.specs.declared.plain_machine.Next.TheVariants.{Step};
 ghost use Rattle.fx_report.specs.Script.{script_of};
 
+use crate::passed::Why;
 use crate::plain_port::PlainPort;
 use crate::plain_world::PlainWorld;
 use crate::started::Started;
@@ -266,24 +268,49 @@ impl<J: CodeBrand> PlainMachine<J> {
         Ok(())
     }
 
-    /// Takes a pick: the step of a fiber, or a request from outside. What cannot be done is skipped.
-    pub fn take_pick(&mut self, code: &Code, pick: Pick) -> Result<(), Memory>
+    /// Lets the fiber of a pick make one step; or says why it cannot.
+    fn take_step(&mut self, code: &Code, fiber: u32) -> Result<Option<Why>, Memory>
         requires code { code.now.nodes ≡ J.nodes }
         requires stands { StandsForSome J.nodes self.old }
-        ensures stands { OnOk result (StandsForSome J.nodes self.new) }
-        ensures way { OnOk result ((s : ScriptView) (all left : List Pick)
-            → IsUnderWay J.nodes s all (pick ∷ left) self.old
-            → IsUnderWay J.nodes s all left self.new) }
+        ensures takes { IfOk result (λ why. (s : ScriptView) (m : WholeMachine)
+            → StandsForRun J.nodes s self.old m
+            → IsTaken J.nodes s m (pick.Step fiber) why self.new) }
+    {
+        if self.world.is_ready(fiber) {
+            self.go(code, Some(fiber))?;
+            Ok(self.world.waiting(fiber))
+        } else {
+            Ok(self.world.why(fiber))
+        }
+    }
+
+    /// Requests the fiber of a pick from outside; or says why it cannot.
+    fn take_request(&mut self, fiber: u32) -> Option<Why>
+        requires stands { StandsForSome J.nodes self.old }
+        ensures takes { (s : ScriptView) (m : WholeMachine)
+            → StandsForRun J.nodes s self.old m
+            → IsTaken J.nodes s m (pick.Cancel fiber) result self.new }
+    {
+        self.world.request_from_outside(fiber);
+        if fiber < self.world.total() {
+            None
+        } else {
+            Some(Why::NoFiber)
+        }
+    }
+
+    /// Takes a pick: the step of a fiber, or a request from outside. What cannot be done is passed over, and
+    /// it says why.
+    pub fn take_pick(&mut self, code: &Code, pick: Pick) -> Result<Option<Why>, Memory>
+        requires code { code.now.nodes ≡ J.nodes }
+        requires stands { StandsForSome J.nodes self.old }
+        ensures takes { IfOk result (λ why. (s : ScriptView) (m : WholeMachine)
+            → StandsForRun J.nodes s self.old m → IsTaken J.nodes s m pick why self.new) }
     {
         match pick {
-            Pick::Step(fiber) => {
-                if self.world.is_ready(fiber) {
-                    self.go(code, Some(fiber))?;
-                }
-            }
-            Pick::Cancel(fiber) => self.world.request_from_outside(fiber),
+            Pick::Step(fiber) => self.take_step(code, fiber),
+            Pick::Cancel(fiber) => Ok(self.take_request(fiber)),
         }
-        Ok(())
     }
 
     /// Lets the ready fiber with the least number make one step, again and again, until none is ready.

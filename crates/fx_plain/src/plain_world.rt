@@ -1,12 +1,14 @@
 //! What the fibers of one thread share.
 ghost use Rattle.std.specs.Prelude.{◌≡◌, ◌<◌, ◌≤◌, List, Some, true, false, IfOk, IfSome, IfNone, OnOk, OnErr};
-ghost use Rattle.std.specs.Prelude.{length, map, slice_index_or, slice_set};
+ghost use Rattle.std.specs.Prelude.{length, map, option_map, slice_index_or, slice_set};
 ghost use Rattle.std.specs.List.{filter, range_with_len};
 ghost use Rattle.fx_plain.specs.declared.class.Class.TheVariants.{Able, Waits};
 ghost use Rattle.fx_plain.specs.NumberSet.{IsLeastOf};
 ghost use Rattle.fx_plain.specs.ClassSets.{class_at, is_able};
 ghost use Rattle.fx_plain.specs.PlainQueue.{QueueView, empty_queue, queue_at, have_room, have_element, front_of};
-ghost use Rattle.fx_plain.specs.Classes.{is_ready};
+ghost use Rattle.fx_plain.specs.Classes.{awaited, is_ready};
+ghost use Rattle.fx_plain.specs.TakenPick.{why_of};
+ghost use Rattle.fx_plain.specs.declared.passed.Why.TheVariants as why;
 ghost use Rattle.fx_term.specs.Code.{IsCode};
 ghost use Rattle.fx_term.specs.Script.{ScriptView, total};
 ghost use Rattle.fx_model.specs.Origin.{main_begin_of};
@@ -20,6 +22,7 @@ ghost use Rattle.fx_plain.specs.World.{after_put, after_take, opening_world};
 use crate::class::Class;
 use crate::class_sets::lesser;
 use crate::number_set::NUMBERS;
+use crate::passed::Why;
 use crate::plain_port::PlainPort;
 use crate::plain_queue::PlainQueue;
 use crate::woken_classes::WokenClasses;
@@ -212,6 +215,30 @@ impl PlainWorld {
         ensures { result ≡ is_able (class_at self.now.classes fiber) }
     {
         matches!(self.classes.class(fiber), Class::Able)
+    }
+
+    /// That the fiber waits, and for what, if it is noted to.
+    pub(crate) fn waiting(&self, fiber: u32) -> Option<Why>
+        ensures { result ≡ option_map why.Waits (awaited (class_at self.now.classes fiber)) }
+    {
+        self.classes.class(fiber).waiting()
+    }
+
+    /// Why the fiber cannot step, unless it is able.
+    pub(crate) fn why(&self, fiber: u32) -> Option<Why>
+        ensures { result
+            ≡ why_of (length self.now.classes) fiber (class_at self.now.classes fiber) }
+    {
+        match self.classes.class(fiber) {
+            Class::Able => None,
+            Class::Waits(source) => Some(Why::Waits(source)),
+            Class::Over => Some(Why::Ended),
+            Class::Unstarted => Some(if fiber < self.total() {
+                Why::NotStarted
+            } else {
+                Why::NoFiber
+            }),
+        }
     }
 
     /// Puts the element at the back of the queue.

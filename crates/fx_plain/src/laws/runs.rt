@@ -1,5 +1,5 @@
 //! Laws of the runs of the whole machine and of their reports.
-ghost use Rattle.std.specs.Prelude.{◌≡◌, ℕ, ◌+◌, ◌≤◌, Bool, true, List};
+ghost use Rattle.std.specs.Prelude.{◌≡◌, ℕ, ◌+◌, ◌≤◌, Bool, true, Option, List};
 ghost use Rattle.fx_term.specs.Forms.{IsCore};
 ghost use Rattle.fx_term.specs.Script.{ScriptView};
 ghost use Rattle.fx_model.specs.Row.{Label, Starts};
@@ -16,6 +16,8 @@ ghost use Rattle.fx_plain.specs.SettledRun.{HasSettledRun};
 ghost use Rattle.fx_model.specs.ReportStamps.{stamp_in};
 ghost use Rattle.fx_plain.specs.StampedList.{IsStampedInOneList};
 ghost use Rattle.fx_plain.specs.Chosen.{IsChosen, IsReplay};
+ghost use Rattle.fx_plain.specs.declared.passed.PassedOver.{PassedOver};
+ghost use Rattle.fx_plain.specs.PassedPicks.{TellsPassed};
 
 /// The report of a run of the whole machine is lawful, whoever chose its steps, where at its end no fiber
 /// can step. Every number may be requested from outside.
@@ -119,6 +121,12 @@ pub fn picks_choose_one_run()
 pub fn replay_is_one()
     ensures { (s : ScriptView) (ps : List Pick) (r r' : ReportView) → IsReplay s ps r
         → IsReplay s ps r' → r ≡ r' }
+{}
+
+/// What is told of the picks that it passes over is one: one number of them, and one first with one reason.
+pub fn what_is_told_of_passed_picks_is_one()
+    ensures { (s : ScriptView) (ps : List Pick) (told told' : Option PassedOver)
+        → TellsPassed s ps told → TellsPassed s ps told' → told ≡ told' }
 {}
 
 /// A run of the whole machine has no more steps of fibers than the work of the script's term and two.

@@ -4,31 +4,50 @@ use Rattle.fx_term.proofs.CoreTerms.{code_is_core}
 use Rattle.fx_text.specs.View.{meaning}
 use Rattle.fx_text.specs.declared.pick.Pick.TheVariants as pick
 use Rattle.fx_report.specs.Script.{script_of}
-use Rattle.fx_plain.specs.PlainMachine.{IsUnderWay}
+use Rattle.fx_plain.proofs.PickedWay.{IsPickedWay, picked_begins, picked_on, picked_some, picked_way, tells_passed}
+use Rattle.fx_plain.proofs.PassedNames.{passed_at_names}
 use Rattle.fx_plain.proofs.ChosenRuns.{replay_is_lawful, replay_keeps_promises}
 use Rattle.fx_plain.proofs.Waits.{replay_with_waits, without_waits, waits_at_names}
 use Rattle.fx_report.proofs.QueueNames.{names_declared}
 use Rattle.fx_report.proofs.WritableReports.{lawful_is_writable}
 use Rattle.fx_plain.proofs.chosen_run.replay_named.Goals as goal
 
-pub loop-pick-preserved : goal.loop-pick-preserved
-loop-pick-preserved g c =
+pub take_pick-requires-clause-stands : goal.take_pick-requires-clause-stands
+take_pick-requires-clause-stands g c =
+    picked_some g.J.CodeBrand.nodes (script_of (meaning c.args.script.now)) c.args.picks.now _ _ _ _ c.loop-before.invariant
+
+pub loop-before-init : goal.loop-before-init
+loop-before-init g c =
+    let s = script_of (meaning c.args.script.now) in
+    picked_begins g.J.CodeBrand.nodes s c.args.picks.now _ c.in_ok-machine.ensures.stands
+
+pub loop-before-preserved : goal.loop-before-preserved
+loop-before-preserved g c =
+    let nodes = g.J.CodeBrand.nodes in
+    let s = script_of (meaning c.args.script.now) in
     let picks = c.args.picks.now in
-    let i = c.loop-pick.pick-index in (
-      c.in_ok-take_pick.ensures.stands,
-      c.in_ok-take_pick.ensures.way (script_of (meaning c.args.script.now)) picks (drop (i + 1) picks)
-          (rw (drop_more picks i (pick.Step 0) c.loop-pick-test.true) at c.loop-pick.invariant.1),
-    )
+    let i = c.loop-before.before in
+    rw c.told_after-passed.ensures
+    (picked_on nodes s picks i _ (drop (i + 1) picks) c.loop-before.passed c.in_ok-why.why _ _ (c.in_ok-why.ensures.takes s)
+    (rw (drop_more picks i (pick.Step 0) c.loop-before-test.true) at c.loop-before.invariant))
 
 pub returns-clause-replayed : goal.returns-clause-replayed
 returns-clause-replayed g c =
     let s = script_of (meaning c.args.script.now) in
     let picks = c.args.picks.now in
-    let ended : IsUnderWay g.J.CodeBrand.nodes s picks [] c.loop-pick.machine =
-    rw (drop_all c.loop-pick.pick-index picks (let end = c.loop-pick-test.false in omega arith)) at c.loop-pick.invariant.1 in
-    let under_way = c.in_ok-run_to_halt.ensures.way s picks ended in
+    let taken : IsPickedWay g.J.CodeBrand.nodes s picks _ [] c.loop-before.passed c.loop-before.machine =
+    rw (drop_all c.loop-before.before picks (let end = c.loop-before-test.false in omega arith)) at c.loop-before.invariant in
+    let under_way = c.in_ok-run_to_halt.ensures.way s picks (picked_way g.J.CodeBrand.nodes s picks _ _ _ taken) in
     replay_with_waits g.J.CodeBrand.nodes s _ picks _ _ under_way c.in_ok-run_to_halt.ensures.halts (c.in_ok-report.ensures.replay s picks under_way)
     c.in_ok-report.ensures.fibers c.in_ok-waits.ensures
+
+pub returns-clause-passed : goal.returns-clause-passed
+returns-clause-passed g c =
+    let s = script_of (meaning c.args.script.now) in
+    let picks = c.args.picks.now in
+    let taken : IsPickedWay g.J.CodeBrand.nodes s picks _ [] c.loop-before.passed c.loop-before.machine =
+    rw (drop_all c.loop-before.before picks (let end = c.loop-before-test.false in omega arith)) at c.loop-before.invariant in
+    tells_passed g.J.CodeBrand.nodes s picks _ _ _ taken (returns-clause-replayed g c).chosen
 
 pub returns-clause-promised : goal.returns-clause-promised
 returns-clause-promised g c =
@@ -48,3 +67,8 @@ pub returns-clause-named : goal.returns-clause-named
 returns-clause-named g c = λ le.
     waits_at_names (meaning c.args.script.now) c.args.picks.now _ _ (names_declared c.args.script.now c.in_ok-machine.ensures.code le)
     (returns-clause-replayed g c)
+
+pub returns-clause-passed_named : goal.returns-clause-passed_named
+returns-clause-passed_named g c = λ le.
+    passed_at_names (meaning c.args.script.now) c.args.picks.now _ (names_declared c.args.script.now c.in_ok-machine.ensures.code le)
+    (returns-clause-passed g c)
