@@ -1,8 +1,10 @@
 -- What a replay or a run prints, and its status.
-use Rattle.std.proofs.Common.{◌≡◌, ◌≤◌, ℕ, Err, List}
+use Rattle.std.proofs.Common.{◌≡◌, ◌≤◌, ℕ, Option, Err, List}
 use Rattle.fx_text.specs.declared.pick.Pick.{Pick}
 use Rattle.fx_text.specs.Meaning.{Meaning}
 use Rattle.fx_model.specs.Report.{ReportView}
+use Rattle.fx_plain.specs.declared.passed.PassedOver.{PassedOver}
+use Rattle.fx_plain.specs.PassedPicks.{TellsPassed}
 use Rattle.fx_plain.specs.Waits.{IsReplayWithWaits}
 use Rattle.fx_run.specs.Workers.{most_workers}
 use Rattle.fx_run.specs.RunWaits.{IsLawfulWithWaits}
@@ -16,17 +18,17 @@ use Rattle.fx_command.specs.declared.call.Command.{Command}
 use Rattle.fx_command.specs.declared.call.Command.TheVariants.{Replay, Trace, Run, Record}
 use Rattle.fx_command.specs.declared.command_fault.CommandFault.TheVariants.{Write}
 use Rattle.fx_command.specs.Stream.{StreamView, TakesPart}
+use Rattle.fx_command.specs.Passed.{replay_words}
 use Rattle.fx_command.specs.Performed.{nobody, IsPerformed, replayed, traced, ran, recorded, Performs}
 
-pub replayed_with_status : (m : Meaning) (picks : List Pick) (r : ReportView) (waits : List Wait) (words : List ℕ) (status : ℕ)
-    → IsReplayWithWaits (script_of m) picks r waits → words ≡ waits_text (queue_names m) waits → status ≡ status_of r
-    → IsPerformed m picks Replay words status (report_text (queue_names m) r)
-replayed_with_status m picks r waits words status runs said is = rw (is, said) (replayed runs)
+module _ (m : Meaning) (picks : List Pick) (r : ReportView) (waits : List Wait) (passed : Option PassedOver) (words : List ℕ) (status : ℕ)
+    (runs : IsReplayWithWaits (script_of m) picks r waits) (tells : TellsPassed (script_of m) picks passed)
+    (said : words ≡ replay_words (queue_names m) passed waits) (is : status ≡ status_of r) where
+  pub replayed_with_status : IsPerformed m picks Replay words status (report_text (queue_names m) r)
+  replayed_with_status = rw (is, said) (replayed runs tells)
 
-pub traced_with_status : (m : Meaning) (picks : List Pick) (r : ReportView) (waits : List Wait) (words : List ℕ) (status : ℕ)
-    → IsReplayWithWaits (script_of m) picks r waits → words ≡ waits_text (queue_names m) waits → status ≡ status_of r
-    → IsPerformed m picks Trace words status (trace_text (queue_names m) r)
-traced_with_status m picks r waits words status runs said is = rw (is, said) (traced runs)
+  pub traced_with_status : IsPerformed m picks Trace words status (trace_text (queue_names m) r)
+  traced_with_status = rw (is, said) (traced runs tells)
 
 pub ran_with_status : (m : Meaning) (picks : List Pick) (workers : ℕ) (r : ReportView) (waits : List Wait) (words : List ℕ) (status : ℕ)
     → (1 ≤ workers) × (workers ≤ most_workers) → IsLawfulWithWaits (script_of m) nobody r waits → words ≡ waits_text (queue_names m) waits

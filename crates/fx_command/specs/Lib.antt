@@ -8,6 +8,7 @@ pub mod Stream
 pub mod Printable
 pub mod Said
 pub mod Fetched
+pub mod Passed
 pub mod Performed
 pub mod CommandAnswer
 pub mod Position

@@ -1,10 +1,12 @@
 -- What is done with a script and picks, and what is printed and said of it.
-use Rattle.std.specs.Prelude.{◌≡◌, ℕ, ◌≤◌, Bool, false, Result, Ok, Err, List, [], ◌++◌, codes, decimal, length, string_bytes}
+use Rattle.std.specs.Prelude.{◌≡◌, ℕ, ◌≤◌, Bool, false, Option, Result, Ok, Err, List, [], ◌++◌, codes, decimal, length, string_bytes}
 use Rattle.fx_term.specs.Script.{total}
 use Rattle.fx_text.specs.declared.pick.Pick.{Pick}
 use Rattle.fx_text.specs.Meaning.{Meaning}
 use Rattle.fx_model.specs.Report.{ReportView}
 use Rattle.fx_report.specs.declared.status.TheConstants.{ENDED}
+use Rattle.fx_plain.specs.declared.passed.PassedOver.{PassedOver}
+use Rattle.fx_plain.specs.PassedPicks.{TellsPassed}
 use Rattle.fx_plain.specs.Waits.{IsReplayWithWaits}
 use Rattle.fx_run.specs.Workers.{most_workers}
 use Rattle.fx_run.specs.RunWaits.{IsLawfulWithWaits}
@@ -19,6 +21,7 @@ use Rattle.fx_command.specs.declared.call.Command.TheVariants.{Check, Replay, Tr
 use Rattle.fx_command.specs.declared.call.Command.TheVariants as command
 use Rattle.fx_command.specs.declared.command_fault.CommandFault.{CommandFault}
 use Rattle.fx_command.specs.declared.command_fault.CommandFault.TheVariants.{Refused, Unreadable, Memory, Write, Run}
+use Rattle.fx_command.specs.Passed.{replay_words}
 use Rattle.fx_command.specs.Workers.{CanBeDone, CanFail}
 use Rattle.fx_command.specs.Stream.{StreamView, PrintsAnswer, PrintsPart}
 use Rattle.fx_command.specs.declared.perform.Performed.{Performed}
@@ -37,13 +40,15 @@ nobody f = false
 
 -- the words for people, the status and the printed text: of a check the counts, and no words; else the report of the run that the picks choose, or its
 -- traces, or some lawful report by workers of a number that there can be, or the traces of one with the stamps of the definition; and a line for each
--- blocked fiber
+-- blocked fiber, after one on the picks that the run passed over, if there are any
 pub data IsPerformed (m : Meaning) (picks : List Pick) : Command → List ℕ → ℕ → List ℕ → Type 0 where
   checked : IsPerformed m picks Check [] ENDED (check_text m)
-  replayed : {r : ReportView} {waits : List Wait} → IsReplayWithWaits (script_of m) picks r waits
-      → IsPerformed m picks Replay (waits_text (queue_names m) waits) (status_of r) (report_text (queue_names m) r)
-  traced : {r : ReportView} {waits : List Wait} → IsReplayWithWaits (script_of m) picks r waits
-      → IsPerformed m picks Trace (waits_text (queue_names m) waits) (status_of r) (trace_text (queue_names m) r)
+  replayed : {r : ReportView} {waits : List Wait} {passed : Option PassedOver} → IsReplayWithWaits (script_of m) picks r waits
+      → TellsPassed (script_of m) picks passed
+      → IsPerformed m picks Replay (replay_words (queue_names m) passed waits) (status_of r) (report_text (queue_names m) r)
+  traced : {r : ReportView} {waits : List Wait} {passed : Option PassedOver} → IsReplayWithWaits (script_of m) picks r waits
+      → TellsPassed (script_of m) picks passed
+      → IsPerformed m picks Trace (replay_words (queue_names m) passed waits) (status_of r) (trace_text (queue_names m) r)
   ran : {workers : ℕ} {r : ReportView} {waits : List Wait} → 1 ≤ workers → workers ≤ most_workers → IsLawfulWithWaits (script_of m) nobody r waits
       → IsPerformed m picks (command.Run workers) (waits_text (queue_names m) waits) (status_of r) (report_text (queue_names m) r)
   recorded : {workers : ℕ} {r : ReportView} {waits : List Wait} → 1 ≤ workers → workers ≤ most_workers → IsLawfulWithWaits (script_of m) nobody r waits

@@ -9,7 +9,8 @@
 //!    `schedule_words` say what is wrong. A script is told by what is open at the place, `open_groups`, by
 //!    the parts that a form has, `parts`, and by the word that may have been meant, `advice`.
 //! 4. `perform` checks the script, or replays it and writes its report or its traces, or runs it on
-//!    threads and writes the report. It has words for people about each fiber that is blocked.
+//!    threads and writes the report. It has words for people about each fiber that is blocked, and `passed`
+//!    has those about picks of the schedule that were passed over.
 //! 5. `stream` is what is written to: a writer, of which contracts know whether it has refused a write.
 //! 6. `command` goes through these in that order, gives the status, and says on standard error those
 //!    words, or why nothing was printed.
@@ -30,6 +31,7 @@ pub mod files;
 mod help;
 mod open_groups;
 mod parts;
+mod passed;
 mod perform;
 mod position;
 mod printable;

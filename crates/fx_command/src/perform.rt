@@ -1,14 +1,19 @@
 //! Does with a script what is asked, and prints it.
-ghost use Rattle.std.specs.Prelude.{◌≡◌, ◌≤◌, List, IfOk, length, string_bytes};
+ghost use Rattle.std.specs.Prelude.{◌≡◌, ◌≤◌, List, All, IfOk, IfSome, length, string_bytes};
 ghost use Rattle.fx_text.specs.View.{meaning};
 ghost use Rattle.fx_text.specs.declared.pick.Pick as pick;
 ghost use Rattle.fx_command.specs.declared.call.Command.TheVariants as command;
+ghost use Rattle.fx_report.specs.Text.{queue_names};
+ghost use Rattle.fx_report.specs.Waits.{WaitsAtQueueBelow};
+ghost use Rattle.fx_plain.specs.PassedPicks.{IsWhyAtQueueBelow};
+ghost use Rattle.fx_command.specs.Passed.{replay_words};
 ghost use Rattle.fx_command.specs.Performed.{counts_text, check_text, Performs};
 
 use crate::call::Command;
 use crate::command_fault::CommandFault;
+use crate::passed::format_passed;
 use crate::stream::Stream;
-use fx_plain::replay_to_halt;
+use fx_plain::{Halt, replay_to_halt};
 use fx_report::{ENDED, format_report, format_traces, format_waits, status_after};
 use fx_run::run_to_halt;
 use fx_sched::Free;
@@ -56,6 +61,21 @@ fn check<'a, W: Write>(
     })
 }
 
+/// The words for people about a replay: on the picks that were passed over, and on each blocked fiber.
+fn format_words(alloc: Global, script: &Script, halt: &Halt) -> Result<String, AllocError>
+    requires waits { All (WaitsAtQueueBelow (length (queue_names (meaning script.now))))
+        halt.now.waits.items }
+    requires passed { IfSome halt.now.passed (λ told.
+        IsWhyAtQueueBelow (length (queue_names (meaning script.now))) told.first.why) }
+    ensures { IfOk result (λ text. string_bytes text
+        ≡ replay_words (queue_names (meaning script.now)) halt.now.passed halt.now.waits.items) }
+{
+    let mut words = format_passed(alloc, script, halt.passed)?;
+    let waits = format_waits(alloc, script, &halt.waits)?;
+    words.push_str(&waits)?;
+    Ok(words)
+}
+
 fn report<'a, W: Write>(
     alloc: Global,
     script: &Script,
@@ -67,7 +87,7 @@ fn report<'a, W: Write>(
         out.old out.new }
 {
     let halt = replay_to_halt(alloc, script, picks)?;
-    let words = format_waits(alloc, script, &halt.waits)?;
+    let words = format_words(alloc, script, &halt)?;
     let text = format_report(alloc, script, &halt.report)?;
     out.write(&text)?;
     Ok(Performed {
@@ -87,7 +107,7 @@ fn trace<'a, W: Write>(
         out.old out.new }
 {
     let halt = replay_to_halt(alloc, script, picks)?;
-    let words = format_waits(alloc, script, &halt.waits)?;
+    let words = format_words(alloc, script, &halt)?;
     let text = format_traces(alloc, script, &halt.report)?;
     out.write(&text)?;
     Ok(Performed {
@@ -142,7 +162,8 @@ fn record<'a, R: Wait + Threads + Sync + RandomSource + AllocGlobal, W: Write>(
 
 /// Does with the script and the picks what is asked, and prints it; a run goes by no picks. The script's
 /// code names no queue that is not declared. The status is 0 where all fibers ended or are only counted, and 1 where one waits for
-/// good: then the words are a line for each fiber that does, and else there are none.
+/// good: then the words have a line for each fiber that does. Before these they have one on the picks that a
+/// replay or a trace passed over, if there are any.
 pub(crate) fn perform<'a, R: Wait + Threads + Sync + RandomSource + AllocGlobal, W: Write>(
     rt: &R,
     alloc: Global,
