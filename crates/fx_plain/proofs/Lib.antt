@@ -58,4 +58,5 @@ pub mod PlainMachineReports
 pub mod NamedQueues
 pub mod PassedNames
 pub mod OneTelling
+pub mod MovePicks
 pub mod Waits

@@ -18,5 +18,6 @@ pub mod WorldClasses
 pub mod Started
 pub mod PassedPicks
 pub mod TakenPick
+pub mod MovePicks
 pub mod PlainMachine
 pub mod TextReplay

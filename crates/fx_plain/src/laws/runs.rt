@@ -1,5 +1,5 @@
 //! Laws of the runs of the whole machine and of their reports.
-ghost use Rattle.std.specs.Prelude.{◌≡◌, ℕ, ◌+◌, ◌≤◌, Bool, true, Option, List};
+ghost use Rattle.std.specs.Prelude.{◌≡◌, ℕ, ◌+◌, ◌≤◌, Bool, true, Option, None, List};
 ghost use Rattle.fx_term.specs.Forms.{IsCore};
 ghost use Rattle.fx_term.specs.Script.{ScriptView};
 ghost use Rattle.fx_model.specs.Row.{Label, Starts};
@@ -18,6 +18,7 @@ ghost use Rattle.fx_plain.specs.StampedList.{IsStampedInOneList};
 ghost use Rattle.fx_plain.specs.Chosen.{IsChosen, IsReplay};
 ghost use Rattle.fx_plain.specs.declared.passed.PassedOver.{PassedOver};
 ghost use Rattle.fx_plain.specs.PassedPicks.{TellsPassed};
+ghost use Rattle.fx_plain.specs.MovePicks.{picks_of};
 
 /// The report of a run of the whole machine is lawful, whoever chose its steps, where at its end no fiber
 /// can step. Every number may be requested from outside.
@@ -127,6 +128,15 @@ pub fn replay_is_one()
 pub fn what_is_told_of_passed_picks_is_one()
     ensures { (s : ScriptView) (ps : List Pick) (told told' : Option PassedOver)
         → TellsPassed s ps told → TellsPassed s ps told' → told ≡ told' }
+{}
+
+/// The moves of that run, taken as picks, choose this very run, and none of them is passed over.
+pub fn moves_choose_their_run()
+    ensures run { (s : ScriptView) (ps : List Pick) (moves : List Move) (last : WholeMachine)
+        → IsChosen s ps (opening s) moves last
+        → IsChosen s (picks_of moves) (opening s) moves last }
+    ensures fit { (s : ScriptView) (ps : List Pick) (moves : List Move) (last : WholeMachine)
+        → IsChosen s ps (opening s) moves last → TellsPassed s (picks_of moves) None }
 {}
 
 /// A run of the whole machine has no more steps of fibers than the work of the script's term and two.
