@@ -131,7 +131,8 @@ that spaces or line ends part, and is followed from left to right:
 
 After the last word the fiber with the least number that can step makes one
 step, again and again, until none can. Main is fiber 0, and fibers check says
-how many numbers there are.
+how many numbers there are. Standard error says how many words were passed
+over, and why the first one was.
 
     $ echo '(main (start h (pure 1) (join h (x (pure x)) (e (pure 0))
         (pure 2))))' > script
