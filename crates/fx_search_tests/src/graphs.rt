@@ -69,6 +69,13 @@ fn graphs_are_searched_breadth_first(rt: HostRuntime) -> Result<(), Fail> {
     Ok(())
 }
 
+#[test]
+fn parents_lead_back_to_the_start(rt: HostRuntime) -> Result<(), Fail> {
+    let met = search(rt.alloc(), &mut Graph { lists: WIDE }, 0, 9)?;
+    assert!(rt; met.parents.as_slice() == [0, 0, 0, 1, 2, 3].as_slice());
+    Ok(())
+}
+
 /// A number that has the hash of every other one.
 #[derive(Clone, Copy, PartialEq, Eq)]
 struct Colliding(u32);
