@@ -28,6 +28,7 @@ fn answers(alloc: Global, told: &Told) -> Result<Answers, Fail> {
     Ok(Answers {
         is_requested: told.is_requested,
         outcomes: Vec::from_slice(alloc, &[None])?,
+        keeps_back: false,
         rooms: Vec::from_slice(alloc, &[told.has_room])?,
         fronts: Vec::from_slice(alloc, &[told.front])?,
         note: None,
@@ -49,8 +50,7 @@ fn number_after<J: CodeBrand>(
     let Some(made) = place.step(code, answers)? else {
         return Ok(None);
     };
-    let (next, _child) = made;
-    Ok(Some(places.number_of(next)?))
+    Ok(Some(places.number_of(made.place)?))
 }
 
 /// The first step of the main fiber of a code, made twice.
