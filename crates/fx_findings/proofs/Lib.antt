@@ -1,0 +1,11 @@
+pub mod Findings
+pub mod Followed
+pub mod FoundStates
+pub mod Learned
+pub mod Reports
+pub mod SameTold
+pub mod Searched
+pub mod StepsThere
+pub mod WholeAnswers
+pub mod PrintedSchedules
+pub mod FoundReplays

@@ -1,0 +1,7 @@
+pub mod Explored
+pub mod Findings
+pub mod Searched
+pub mod StatesTold
+pub mod Status
+pub mod Text
+pub mod Printed

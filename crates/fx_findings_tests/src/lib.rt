@@ -1,0 +1,8 @@
+//! What is found of small scripts, and what is printed of findings that are made by hand, with its status, so
+//! that searches and the calls of `fx_findings` are seen to succeed, which no contract says.
+#![tactic(auto)]
+
+#[cfg(test)]
+mod printed;
+#[cfg(test)]
+mod small_scripts;
