@@ -1,5 +1,7 @@
 mod Refused
 mod Performed
 mod WorkersLaws
+mod StatesLaws
 mod Fetched
 mod CommandAnswer
+mod FoundAnswers

@@ -1,5 +1,5 @@
 -- What a replay or a run prints, and its status.
-use Rattle.std.proofs.Common.{◌≡◌, ◌≤◌, ℕ, Option, Err, List}
+use Rattle.std.proofs.Common.{◌≡◌, ◌≤◌, ℕ, Option, Err, List, []}
 use Rattle.fx_text.specs.declared.pick.Pick.{Pick}
 use Rattle.fx_text.specs.Meaning.{Meaning}
 use Rattle.fx_model.specs.Report.{ReportView}
@@ -14,12 +14,16 @@ use Rattle.fx_report.specs.Text.{queue_names, report_text, trace_text}
 use Rattle.fx_report.specs.Status.{status_of}
 use Rattle.fx_report.specs.Waits.{waits_text}
 use Rattle.fx_report.specs.declared.wait.Wait.{Wait}
+use Rattle.fx_findings.specs.declared.explored.Explored.{Explored}
+use Rattle.fx_findings.specs.Explored.{IsExplored}
+use Rattle.fx_findings.specs.Status.{explored_status}
+use Rattle.fx_findings.specs.Text.{explored_text}
 use Rattle.fx_command.specs.declared.call.Command.{Command}
-use Rattle.fx_command.specs.declared.call.Command.TheVariants.{Replay, Trace, Run, Record}
+use Rattle.fx_command.specs.declared.call.Command.TheVariants.{Replay, Trace, Run, Record, Explore}
 use Rattle.fx_command.specs.declared.command_fault.CommandFault.TheVariants.{Write}
 use Rattle.fx_command.specs.Stream.{StreamView, TakesPart}
 use Rattle.fx_command.specs.Passed.{replay_words}
-use Rattle.fx_command.specs.Performed.{nobody, IsPerformed, replayed, traced, ran, recorded, Performs}
+use Rattle.fx_command.specs.Performed.{nobody, IsPerformed, replayed, traced, ran, recorded, explored, Performs}
 
 module _ (m : Meaning) (picks : List Pick) (r : ReportView) (waits : List Wait) (passed : Option PassedOver) (words : List ℕ) (status : ℕ)
     (runs : IsReplayWithWaits (script_of m) picks r waits) (tells : TellsPassed (script_of m) picks passed)
@@ -39,6 +43,11 @@ pub recorded_with_status : (m : Meaning) (picks : List Pick) (workers : ℕ) (r 
     → (1 ≤ workers) × (workers ≤ most_workers) → IsLawfulWithWaits (script_of m) nobody r waits → IsStampedReport (script_of m) nobody r
     → words ≡ waits_text (queue_names m) waits → status ≡ status_of r → IsPerformed m picks (Record workers) words status (trace_text (queue_names m) r)
 recorded_with_status m picks workers r waits words status can lawful stamped said is = rw (is, said) (recorded can.0 can.1 lawful stamped)
+
+pub explored_with_status : (m : Meaning) (picks : List Pick) (most : ℕ) (e : Explored) (words : List ℕ) (status : ℕ)
+    → IsExplored (script_of m) most e → words ≡ [] → status ≡ explored_status e
+    → IsPerformed m picks (Explore most) words status (explored_text (queue_names m) e)
+explored_with_status m picks most e words status is none told = rw (told, none) (explored is)
 
 -- what is left where the text was cut short
 pub cut_short : (m : Meaning) (picks : List Pick) (c : Command) (words : List ℕ) (status : ℕ) (text : List ℕ) (old new : StreamView)

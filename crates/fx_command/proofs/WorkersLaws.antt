@@ -37,7 +37,7 @@ is_number_in word n e =
     }
 
 -- these are the digits and the numbers of `parse`
-own : IsNumeralModel (λ ds. list_all is_digit ds ≡ true) (value_after 0)
+pub own : IsNumeralModel (λ ds. list_all is_digit ds ≡ true) (value_after 0)
 own = numerals_by_fold _ (search rules) value_after (search rules)
 
 number_read : {E : Type 0} (word : List ℕ) (r : Result ℕ E) → list_all is_digit word ≡ true

@@ -1,9 +1,11 @@
 -- Which call of the program the words after its name make.
 use Rattle.std.specs.Prelude.{ℕ, if◌then◌else◌, Option, Some, None, List, [], ◌∷◌, codes, bytes_eq, option_map, option_and_then}
 use Rattle.fx_command.specs.declared.call.Command.{Command}
-use Rattle.fx_command.specs.declared.call.Command.TheVariants.{Check, Replay, Trace, Run, Record}
+use Rattle.fx_command.specs.declared.call.Command.TheVariants.{Check, Replay, Trace, Run, Record, Explore}
 use Rattle.fx_command.specs.declared.call.Call.{Call}
+use Rattle.fx_command.specs.declared.states.TheConstants.{MOST_STATES}
 use Rattle.fx_command.specs.Workers.{workers_in}
+use Rattle.fx_command.specs.States.{states_in}
 
 -- what is done with the script of this name, by the schedule of that name, if there is one
 pub record CallView : Type 0 where
@@ -34,6 +36,16 @@ abbrev pub call_by_workers : Command → List (List ℕ) → Option CallView
 call_by_workers c (script ∷ word ∷ []) = Some (record { command = c; script = script; schedule = None })
 call_by_workers c names = None
 
+-- with the name of a script, and a number of states or none
+abbrev pub states_among : List (List ℕ) → Option ℕ
+states_among (script ∷ []) = Some MOST_STATES
+states_among (script ∷ word ∷ []) = states_in word
+states_among names = None
+
+abbrev pub call_by_states : Command → List (List ℕ) → Option CallView
+call_by_states c (script ∷ names) = Some (record { command = c; script = script; schedule = None })
+call_by_states c [] = None
+
 -- no words replay the script on standard input, and other words make no call
 abbrev pub call_of : List (List ℕ) → Option CallView
 call_of [] = Some (record { command = Replay; script = codes "-"; schedule = None })
@@ -43,4 +55,5 @@ call_of (word ∷ names) =
     else if bytes_eq word (codes "trace") then call_with_names Trace names
     else if bytes_eq word (codes "run") then option_and_then (λ n. call_by_workers (Run n) names) (workers_among names)
     else if bytes_eq word (codes "record") then option_and_then (λ n. call_by_workers (Record n) names) (workers_among names)
+    else if bytes_eq word (codes "explore") then option_and_then (λ n. call_by_states (Explore n) names) (states_among names)
     else None

@@ -2,6 +2,7 @@ pub mod FetchFault
 pub mod Refused
 pub mod CommandFault
 pub mod Workers
+pub mod States
 pub mod Call
 pub mod Help
 pub mod Stream

@@ -16,6 +16,10 @@ use Rattle.fx_report.specs.Script.{script_of}
 use Rattle.fx_report.specs.Text.{line_end, queue_names, report_text, trace_text}
 use Rattle.fx_report.specs.Status.{status_of}
 use Rattle.fx_report.specs.Waits.{waits_text}
+use Rattle.fx_findings.specs.declared.explored.Explored.{Explored}
+use Rattle.fx_findings.specs.Explored.{IsExplored}
+use Rattle.fx_findings.specs.Status.{explored_status}
+use Rattle.fx_findings.specs.Text.{explored_text}
 use Rattle.fx_command.specs.declared.call.Command.{Command}
 use Rattle.fx_command.specs.declared.call.Command.TheVariants.{Check, Replay, Trace}
 use Rattle.fx_command.specs.declared.call.Command.TheVariants as command
@@ -40,7 +44,8 @@ nobody f = false
 
 -- the words for people, the status and the printed text: of a check the counts, and no words; else the report of the run that the picks choose, or its
 -- traces, or some lawful report by workers of a number that there can be, or the traces of one with the stamps of the definition; and a line for each
--- blocked fiber, after one on the picks that the run passed over, if there are any
+-- blocked fiber, after one on the picks that the run passed over, if there are any; or what a search has found that goes on from at most so many states, and
+-- no words
 pub data IsPerformed (m : Meaning) (picks : List Pick) : Command → List ℕ → ℕ → List ℕ → Type 0 where
   checked : IsPerformed m picks Check [] ENDED (check_text m)
   replayed : {r : ReportView} {waits : List Wait} {passed : Option PassedOver} → IsReplayWithWaits (script_of m) picks r waits
@@ -54,6 +59,8 @@ pub data IsPerformed (m : Meaning) (picks : List Pick) : Command → List ℕ �
   recorded : {workers : ℕ} {r : ReportView} {waits : List Wait} → 1 ≤ workers → workers ≤ most_workers → IsLawfulWithWaits (script_of m) nobody r waits
       → IsStampedReport (script_of m) nobody r
       → IsPerformed m picks (command.Record workers) (waits_text (queue_names m) waits) (status_of r) (trace_text (queue_names m) r)
+  explored : {most : ℕ} {e : Explored} → IsExplored (script_of m) most e
+      → IsPerformed m picks (command.Explore most) [] (explored_status e) (explored_text (queue_names m) e)
 
 -- what is done takes the stream from `old` to `new`
 abbrev pub Performs : Command → Meaning → List Pick → Result Performed CommandFault → StreamView → StreamView → Type 0

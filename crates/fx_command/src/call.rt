@@ -1,8 +1,9 @@
 //! What the words after the program's name ask for.
 ghost use Rattle.std.specs.Prelude.{◌≡◌, map, string_bytes};
-ghost use Rattle.fx_command.specs.Call.{workers_among};
+ghost use Rattle.fx_command.specs.Call.{workers_among, states_among};
 
 use crate::files::STANDARD_INPUT;
+use crate::states::{MOST_STATES, states_in};
 use crate::workers::workers_in;
 
 /// What is done with a script.
@@ -18,6 +19,8 @@ pub(crate) enum Command {
     Run(u32),
     /// Its fibers are run by so many workers, and the traces are written.
     Record(u32),
+    /// Each report of its runs is sought, from at most so many states.
+    Explore(u32),
 }
 
 /// A call of the program.
@@ -40,10 +43,21 @@ fn workers_among(names: &[String]) -> Option<u32>
     }
 }
 
+/// The number of states that the second of two words asks for, or that of a search for which there is no such word.
+fn states_among(names: &[String]) -> Option<u32>
+    ensures { result ≡ states_among (map string_bytes names.now) }
+{
+    match names {
+        [_] => Some(MOST_STATES),
+        [_, states] => states_in(states.as_str()),
+        _ => None,
+    }
+}
+
 impl<'a> Call<'a> {
     ghost use Rattle.std.specs.Prelude.{◌≡◌, ◌≢◌, IfSome, codes, map, option_map, string_bytes};
     ghost use Rattle.fx_command.specs.Call.{view_call, call_with_script, call_with_names};
-    ghost use Rattle.fx_command.specs.Call.{call_by_workers, call_of};
+    ghost use Rattle.fx_command.specs.Call.{call_by_workers, call_by_states, call_of};
 
     /// The call that these words make, if they make one.
     pub(crate) fn of(words: &'a [String]) -> Option<Call<'a>>
@@ -64,6 +78,7 @@ impl<'a> Call<'a> {
             "trace" => Call::with_names(Command::Trace, names),
             "run" => Call::by_workers(Command::Run(workers_among(names)?), names),
             "record" => Call::by_workers(Command::Record(workers_among(names)?), names),
+            "explore" => Call::by_states(Command::Explore(states_among(names)?), names),
             _ => None,
         }
     }
@@ -111,6 +126,23 @@ impl<'a> Call<'a> {
     {
         match names {
             [script, _] => Some(Call {
+                command,
+                script: script.as_str(),
+                schedule: None,
+            }),
+            _ => None,
+        }
+    }
+
+    /// The call for a script of this name, which may have a second word for the states.
+    fn by_states(command: Command, names: &'a [String]) -> Option<Call<'a>>
+        ensures call { option_map view_call result
+            ≡ call_by_states command (map string_bytes names.now) }
+        ensures file { IfSome result
+            (λ call. IfSome call.schedule (λ name. name.now ≢ codes "-")) }
+    {
+        match names {
+            [script, ..] => Some(Call {
                 command,
                 script: script.as_str(),
                 schedule: None,

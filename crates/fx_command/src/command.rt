@@ -223,11 +223,12 @@ fn tell_run_fault<E: Write>(alloc: Global, fault: RunFault, err: &mut Stream<E>)
 /// | status | when | what is printed |
 /// |---|---|---|
 /// | 0 | all fibers ended, a check passed, or help was asked for | the text, on `out` |
-/// | 1 | some fiber waits for good | the text, on `out`, and what each such fiber waits for, on `err` |
+/// | 1 | some fiber waits for good | the text, on `out`, and what each such fiber waits for, on `err`, but not after a search |
 /// | 2 | other words | the words that there are, or that there is no such page of help, on `err` |
 /// | 3 | a script or schedule is refused | one line on `out`, and why in words on `err` |
 /// | 4 | a text cannot be read | its name, on `err` |
 /// | 5 | want of memory, a run that gives no report, or `out` refused a write | the fault, on `err` |
+/// | 6 | a search is not complete, and found no fiber that waits for good | the text, on `out` |
 ///
 /// The texts for `out` and for `err` are whole before the first write, so at want of memory nothing is
 /// written on `out`. What a stream refused before this call is not told apart from what it refuses in

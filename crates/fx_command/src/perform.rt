@@ -13,6 +13,7 @@ use crate::call::Command;
 use crate::command_fault::CommandFault;
 use crate::passed::format_passed;
 use crate::stream::Stream;
+use fx_findings::{explore, explored_status, format_explored};
 use fx_plain::{Halt, replay_to_halt};
 use fx_report::{ENDED, format_report, format_traces, format_waits, status_after};
 use fx_run::run_to_halt;
@@ -160,10 +161,32 @@ fn record<'a, R: Wait + Threads + Sync + RandomSource + AllocGlobal, W: Write>(
     })
 }
 
-/// Does with the script and the picks what is asked, and prints it; a run goes by no picks. The script's
-/// code names no queue that is not declared. The status is 0 where all fibers ended or are only counted, and 1 where one waits for
-/// good: then the words have a line for each fiber that does. Before these they have one on the picks that a
-/// replay or a trace passed over, if there are any.
+/// Visits the script's runs, in a search that goes on from at most so many states, and writes what it has
+/// found.
+fn find<'a, W: Write>(
+    alloc: Global,
+    script: &Script,
+    most: u32,
+    out: &mut Stream<W>,
+) -> Result<Performed, CommandFault<'a>>
+    ensures { (picks : List pick.Pick) → Performs (command.Explore most) (meaning script.now) picks
+        result out.old out.new }
+{
+    let explored = explore(alloc, script, most as usize)?;
+    let text = format_explored(alloc, script, &explored)?;
+    out.write(&text)?;
+    Ok(Performed {
+        status: explored_status(&explored),
+        words: String::new(alloc),
+    })
+}
+
+/// Does with the script and the picks what is asked, and prints it; a run and a search go by no picks. The
+/// script's code names no queue that is not declared. The status is 0 where all fibers ended or are only
+/// counted, and 1 where one waits for good: then the words have a line for each fiber that does. Before these
+/// they have one on the picks that a replay or a trace passed over, if there are any. After a search there are
+/// none, whatever it has found, and the status is 6 where it is not complete and has found no fiber that waits
+/// for good.
 pub(crate) fn perform<'a, R: Wait + Threads + Sync + RandomSource + AllocGlobal, W: Write>(
     rt: &R,
     alloc: Global,
@@ -182,5 +205,6 @@ pub(crate) fn perform<'a, R: Wait + Threads + Sync + RandomSource + AllocGlobal,
         Command::Trace => trace(alloc, script, picks, out),
         Command::Run(workers) => run(rt, alloc, script, workers, out),
         Command::Record(workers) => record(rt, alloc, script, workers, out),
+        Command::Explore(most) => find(alloc, script, most, out),
     }
 }

@@ -4,7 +4,7 @@ ghost use Rattle.fx_command.specs.Help.{calls_page};
 
 const HELP: &str = "\
 fibers replays a script of cancellable fibers, or runs it on threads, and prints
-how each fiber ended.
+how each fiber ended; or it visits all runs of the script.
 
   fibers                      as fibers replay -
   fibers check F              counts the fibers and the queues of a script
@@ -14,6 +14,8 @@ how each fiber ended.
   fibers run F WORKERS        runs the fibers by 1 to 64 workers, each on a
                               thread, and prints the report
   fibers record F WORKERS     runs them so, and prints what each fiber did
+  fibers explore F [MOST]     visits all runs, from at most so many states, and
+                              prints each report that some run has
   fibers help [WORD]          prints this page, or the one on a word
 
 F is a file with a script, or - for standard input. SCHEDULE is a file with the
@@ -25,16 +27,17 @@ step makes each step.
     fiber 1 canceled
     fiber 2 succeeded 5
 
-There are pages on check, replay, trace, run, record, schedule, forms, which
-lists what a script is made of, and on each form, as bracket.
+There are pages on check, replay, trace, run, record, explore, schedule, forms,
+which lists what a script is made of, and on each form, as bracket.
 
 Status  when
   0     all fibers have ended, a check passed, or help was printed
-  1     some fiber waits for good; standard error says for what
+  1     some fiber waits for good; standard error says for what (not of explore)
   2     other words
   3     the script or the schedule is refused; standard error says where and why
   4     a file cannot be read
   5     another fault: of memory, of a write, or of the number of workers
+  6     not all runs were visited, and no fiber was found that waits for good
 ";
 
 const CHECK: &str = "\
@@ -122,6 +125,34 @@ it stands on.
     1 2 ended succeeded 3
 ";
 
+const EXPLORE: &str = "\
+fibers explore F [MOST]
+
+Visits all runs of the script in the file F in which nobody is requested from
+outside, and prints each report that some run has, each once, those first in
+which a fiber is blocked: the word schedule with the words of a schedule under
+which fibers replay has that report, or the words no schedule where none is
+known; the report; and an empty line. F is - for standard input.
+
+The last line says how many reports there are, from how many states of all
+fibers the search went on, and whether it is complete, so that there are no
+other reports. It is incomplete where there are more than MOST states, a number
+from 1 to 4294967295, and 1000000 if it is left out, or where memory ran out.
+
+The status is 1 where a report has a blocked fiber, 6 where none has and the
+search is incomplete, and else 0. Standard error has nothing: what a blocked
+fiber waits for, fibers replay says there, by the schedule.
+
+    $ echo '(queue q 1) (main (start h (offer q 1) (offer q 2)))' > script
+    $ fibers explore script | head -4
+    schedule
+    fiber 0 succeeded 0
+    fiber 1 blocked
+    queue q left 2
+    $ fibers explore script | tail -1
+    explored: 2 reports, 5 states, complete
+";
+
 const SCHEDULE: &str = "\
 A schedule chooses one run of a script. It is the text of a file, with words
 that spaces or line ends part, and is followed from left to right:
@@ -156,6 +187,7 @@ pub(super) fn page_on(word: &str) -> Option<&'static str>
         "trace" => Some(TRACE),
         "run" => Some(RUN),
         "record" => Some(RECORD),
+        "explore" => Some(EXPLORE),
         "schedule" => Some(SCHEDULE),
         _ => None,
     }

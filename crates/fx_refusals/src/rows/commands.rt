@@ -7,6 +7,8 @@ use crate::shown::room;
 use fx_command::command::{FAULT, command};
 use fx_command::files::{FetchFault, Files};
 use fx_command::stream::Stream;
+use fx_findings::INCOMPLETE;
+use fx_report::BLOCKED as OF_BLOCKED;
 use std::alloc::{AllocGlobal, Global};
 use std::io;
 use std::io::Read;
@@ -16,7 +18,7 @@ use std::thread::Threads;
 
 /// The words after the program's name, and what is answered: the status, which text of the script is printed on
 /// standard output, and what is printed on standard error. The words name a script F, and a schedule S that picks
-/// fiber 0, fiber 0 and fiber 1.
+/// fiber 0, which can step at first whatever the script is.
 #[derive(Clone, Copy)]
 pub struct Said {
     pub words: &'static str,
@@ -73,7 +75,7 @@ const BLOCKED: Worked = Worked {
 const WAITS: &str = "fiber 1 waits for an element of queue q\nfiber 2 waits for fiber 1 to end\n";
 
 /// Calls that have words for people, or a fault to tell.
-pub static FAULTS: [(Said, Worked); 5] = [
+pub static FAULTS: [(Said, Worked); 6] = [
     (
         Said {
             words: "replay F",
@@ -124,6 +126,15 @@ pub static FAULTS: [(Said, Worked); 5] = [
     ),
     (
         Said {
+            words: "explore F",
+            status: 1,
+            out: Printed::Report,
+            err: "",
+        },
+        SEARCHED,
+    ),
+    (
+        Said {
             words: "run F 0",
             status: 5,
             out: Printed::Report,
@@ -138,6 +149,17 @@ pub static FAULTS: [(Said, Worked); 5] = [
         },
     ),
 ];
+
+/// A script of which each run leaves a fiber blocked, with what a search of all runs prints.
+const SEARCHED: Worked = Worked {
+    name: "searched",
+    text: "(queue q 1) (main (start h (offer q 1) (offer q 2)))",
+    counts: "",
+    report: "schedule\nfiber 0 succeeded 0\nfiber 1 blocked\nqueue q left 2\n\n\
+            schedule 0 1\nfiber 0 blocked\nfiber 1 succeeded 0\nqueue q left 1\n\n\
+            explored: 2 reports, 5 states, complete\n",
+    traces: "",
+};
 
 /// A text in memory. Contracts know none of its bytes.
 #[derive(Drop)]
@@ -169,7 +191,7 @@ impl Files for Texts {
             "F" => Ok(Text {
                 left: self.script.as_bytes(),
             }),
-            "S" => Ok(Text { left: b"0 0 1" }),
+            "S" => Ok(Text { left: b"0" }),
             _ => Err(FetchFault::Unreadable),
         }
     }
@@ -189,9 +211,19 @@ fn words_of(alloc: Global, line: &str) -> Option<Vec<String>> {
     Some(words)
 }
 
-/// What such an answer is. At want of memory nothing is printed on standard output.
+/// Whether a search was cut short, with a status that such a search has, and says so.
+fn is_cut_short(status: u8, out: &[u8], err: &[u8]) -> bool {
+    (status == OF_BLOCKED || status == INCOMPLETE)
+        && out.ends_with(b", incomplete\n")
+        && err.is_empty()
+}
+
+/// What such an answer is. At want of memory nothing is printed on standard output, or what a search has found by then.
 fn answer_of(said: &Said, on: &Worked, status: u8, out: &[u8], err: &[u8]) -> Answer {
     if status == FAULT && out.is_empty() && err == b"fault memory\n".as_slice() {
+        return Answer::Memory;
+    }
+    if is_cut_short(status, out, err) {
         return Answer::Memory;
     }
     let is_out = out == on.printed(said.out).as_bytes();
