@@ -71,7 +71,8 @@ module _ (s : ScriptView) where
   -- two runs that the same picks choose pass over the same
   same_skipped : {ps : List Pick} {m last last' : WholeMachine} {vs vs' : List Move} (place : ℕ) (c : IsChosen s ps m vs last) (c' : IsChosen s ps m vs' last')
       → passed_over place c ≡ passed_over place c'
-  same_skipped place (chosen.step {f = f} {l = l} {ps = ps} {m = m} {m' = m'} made rest) (chosen.step {l = l'} {m' = m''} {last = last'} {vs = vs'} made' rest') =
+  same_skipped place (chosen.step {f = f} {l = l} {ps = ps} {m = m} {m' = m'} made rest)
+      (chosen.step {l = l'} {m' = m''} {last = last'} {vs = vs'} made' rest') =
       subst (λ (n : WholeMachine). (d : IsChosen s ps n vs' last') → passed_over (place + 1) rest ≡ passed_over (place + 1) d)
       (one_step s m f l l' m' m'' made made') (λ d. same_skipped (place + 1) rest d) rest'
   same_skipped place (chosen.step made rest) (chosen.no_step cannot rest') = absurd (let can = made.can in cc)

@@ -1,5 +1,6 @@
 -- A machine on the way of the run that picks choose, with what is told of those that were passed over so far.
-use Rattle.std.proofs.Common.{◌≡◌, ℕ, ◌+◌, ◌<◌, ◌≤◌, Option, Some, None, List, [], ◌∷◌, ◌++◌, length, refl, sym, ◌∙◌, ap, subst, append-nil, append_assoc, arith}
+use Rattle.std.proofs.Common.{◌≡◌, ℕ, ◌+◌, ◌<◌, ◌≤◌, Option, Some, None, List, [], ◌∷◌, ◌++◌, length, refl, sym, ◌∙◌, ap, subst, append-nil, append_assoc}
+use Rattle.std.proofs.Common.{arith}
 use Rattle.std.proofs.lemmas.List.{length-append}
 use Rattle.std.specs.Prelude.{IfSome}
 use Rattle.fx_term.specs.declared.node.Node.{Node}
@@ -127,7 +128,8 @@ module _ {J : Type 0} (nodes : List Node) (s : ScriptView) (all : List Pick) whe
         stands = t.stands;
         way = taken_way s all left t.takes u.way;
         passed = u.passed ++ skipped_at (taken + 1) p u.machine ∷ [];
-        on = λ xs h. rw (append_assoc u.passed (skipped_at (taken + 1) p u.machine ∷ []) xs) (u.on (skipped_at (taken + 1) p u.machine ∷ xs) (passes t.takes h));
+        on = λ xs h. rw (append_assoc u.passed (skipped_at (taken + 1) p u.machine ∷ []) xs)
+            (u.on (skipped_at (taken + 1) p u.machine ∷ xs) (passes t.takes h));
         tells = told_one_more s u.passed told (taken + 1) p u.machine why (passed_same s t.takes).1 u.tells;
         few = let few = u.few in let e = one_more s (length u.passed) (skipped_at (taken + 1) p u.machine) u.passed refl in omega arith;
       }
