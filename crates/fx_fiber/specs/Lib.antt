@@ -15,6 +15,7 @@ pub mod Interruption
 pub mod MakesCall
 pub mod Advances
 pub mod Fiber
+pub mod Cancels
 pub mod Bare
 pub mod MakesStep
 pub mod MakesStart

@@ -66,6 +66,7 @@ impl<P: Port> Fiber<P> {
     ghost use Rattle.fx_fiber.specs.Fiber.{is_fiber_number, IsAtFirst, IsLawful, IsUnchanged, progress};
     ghost use Rattle.fx_fiber.specs.MakesStep.{DoesStep};
     ghost use Rattle.fx_fiber.specs.Bursts.{Bursts, BurstsShort};
+    ghost use Rattle.fx_fiber.specs.Cancels.{CancelsAmong};
     ghost use Rattle.std.specs.Prelude.{option_and_then};
     ghost use Rattle.fx_model.specs.Step.{Runs, leaf_at, has_ended};
     ghost use Rattle.fx_model.specs.Waiting.{wait_at};
@@ -172,6 +173,16 @@ impl<P: Port> Fiber<P> {
         ensures { result ≡ option_and_then wait_at (leaf_at (progress P.theory.code self.now)) }
     {
         self.body.machine.waits_for(code)
+    }
+
+    /// The numbers that fibers have whom the fiber can cancel: each `cancel` in what it has left has one of
+    /// these. Some may stand for no fiber, or for one that it cancels no more: they are those of all
+    /// `cancel`s of the code, by the numbers of the names in scope.
+    pub fn cancels(&self, code: &Code) -> Result<Vec<u64>, Memory>
+        requires code { code.now.nodes ≡ P.theory.code }
+        ensures { IfOk result (λ numbers. CancelsAmong numbers.items (progress P.theory.code self.now)) }
+    {
+        self.body.machine.cancels(code)
     }
 
     /// What the fiber last registered for, if it has not yielded since.

@@ -1,5 +1,5 @@
 //! The numbers of the names in scope.
-ghost use Rattle.std.specs.Prelude.{◌≡◌, ◌<◌, Some, [], length, IfOk, OnOk, OnErr};
+ghost use Rattle.std.specs.Prelude.{◌≡◌, ◌<◌, Some, [], length, slice_get, IfOk, OnOk, OnErr};
 ghost use Rattle.std.specs.Bool.{Decides};
 ghost use Rattle.fx_term.specs.declared.node.Arg.TheVariants.{Number};
 ghost use Rattle.fx_term.specs.Fill.{fill_arg};
@@ -76,6 +76,16 @@ impl Registers {
         let below = slot as usize;
         self.numbers.truncate(below);
         self.numbers.push_reserved(number);
+    }
+
+    /// The number in this slot, if there is one.
+    pub fn get(&self, slot: u32) -> Option<u64>
+        ensures { result ≡ slice_get self.now slot }
+    {
+        match self.numbers.get(slot as usize) {
+            Some(number) => Some(*number),
+            None => None,
+        }
     }
 
     /// The number that an argument stands for.
