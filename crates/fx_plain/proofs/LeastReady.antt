@@ -9,7 +9,7 @@ use Rattle.fx_plain.specs.declared.class.Class.TheVariants.{Unstarted, Able, Wai
 use Rattle.fx_plain.specs.NumberSet.{IsLeastOf, lesser}
 use Rattle.fx_plain.specs.PlainQueue.{QueueView, no_queue, queue_at, have_room, have_element, has_room_in, has_element_in}
 use Rattle.fx_plain.specs.Classes.{is_ready}
-use Rattle.fx_plain.specs.ClassSets.{class_at, is_able, waits_there, SetsView, members, AreAble, ForRoom, ForElement, passes}
+use Rattle.fx_plain.specs.ClassSets.{class_at, is_able, waits_there, waits_for_room_there, waits_for_element_there, SetsView, members, AreAble, ForRoom, ForElement, passes}
 use Rattle.fx_plain.specs.ClassSets.{AreSets, is_ready_there, NobodyWaitsBetween}
 
 module _ (s t : ℕ → Bool) where
@@ -51,8 +51,17 @@ module _ (classes : List Class) (sets : SetsView) (are : AreSets classes sets) (
   found_there : (f : ℕ) → is_ready_there sets q own f ≡ waits_there q own (class_at classes f)
   found_there f = rw (are (ForRoom q) kept f, are (ForElement q) kept f) refl
 
-  pub least_waits_there : (least : Option ℕ) → IsLeastOf (is_ready_there sets q own) least → IsLeastOf (λ f. waits_there q own (class_at classes f)) least
-  least_waits_there least = least_same (is_ready_there sets q own) (λ f. waits_there q own (class_at classes f)) least found_there
+  pub least_waits_for_room : (least : Option ℕ) → IsLeastOf (λ f. has_room_in own && members sets (ForRoom q) f) least
+      → IsLeastOf (λ f. waits_for_room_there q own (class_at classes f)) least
+  least_waits_for_room least =
+      least_same (λ f. has_room_in own && members sets (ForRoom q) f) (λ f. waits_for_room_there q own (class_at classes f)) least
+      (λ f. ap (λ (b : Bool). has_room_in own && b) (are (ForRoom q) kept f))
+
+  pub least_waits_for_element : (least : Option ℕ) → IsLeastOf (λ f. has_element_in own && members sets (ForElement q) f) least
+      → IsLeastOf (λ f. waits_for_element_there q own (class_at classes f)) least
+  least_waits_for_element least =
+      least_same (λ f. has_element_in own && members sets (ForElement q) f) (λ f. waits_for_element_there q own (class_at classes f)) least
+      (λ f. ap (λ (b : Bool). has_element_in own && b) (are (ForElement q) kept f))
 
 module _ (queues : List QueueView) where
   -- it is able, or waits at one of the first n queues, which has what it waits for

@@ -2,7 +2,7 @@
 use Rattle.std.proofs.Common.{◌≡◌, ◌≢◌, ℕ, ◌<◌, Bool, true, false, Option, Some, None, List, length, refl, sym, ◌∙◌, ap, inl, inr, arith}
 use Rattle.std.proofs.Common.{get_or-set_same, get_or-set_other}
 use Rattle.std.specs.Prelude.{◌==◌, ◌||◌, ◌&&◌, IfSome, min, slice_set}
-use Rattle.std.proofs.lemmas.Bool.{cases_eq, cases_lt, eq-eqb, ne_eqb}
+use Rattle.std.proofs.lemmas.Bool.{cases_eq, cases_lt, eq-eqb, ne_eqb, eqb-true}
 use Rattle.std.proofs.lemmas.List.{set-set, set-get_or}
 use Rattle.fx_model.specs.declared.source.Source.{Source}
 use Rattle.fx_model.specs.declared.source.Source.TheVariants.{Nothing, Outcome, Either, Room, Element}
@@ -11,17 +11,11 @@ use Rattle.fx_plain.specs.declared.class.Class.TheVariants.{Unstarted, Able, Wai
 use Rattle.fx_plain.specs.NumberSet.{IsLeastOf, lesser}
 use Rattle.fx_plain.specs.PlainQueue.{QueueView, no_queue, queue_at, have_room, have_element, has_room_in, has_element_in}
 use Rattle.fx_plain.specs.Classes.{is_ready}
-use Rattle.fx_plain.specs.ClassSets.{class_at, is_able, waits_there}
-use Rattle.fx_plain.specs.WokenClasses.{with_woken, IsLeastThere}
+use Rattle.fx_plain.specs.ClassSets.{class_at, is_able, waits_for_room_there, waits_for_element_there}
+use Rattle.fx_plain.specs.WokenClasses.{with_woken, IsLeastOrAble}
 use Rattle.fx_term.proofs.MapLaws.{at_that, at_other}
 use Rattle.fx_plain.proofs.ClassSets.{class_at_set, as_view, same_view}
 use Rattle.fx_plain.proofs.LeastReady.{least_of_both, least_same}
-
-neither : (a b : Bool) → ((a && false) || (b && false)) ≡ false
-neither true true = refl
-neither true false = refl
-neither false true = refl
-neither false false = refl
 
 or_true : (a b : Bool) → b ≡ true → (a || b) ≡ true
 or_true true b e = refl
@@ -59,140 +53,169 @@ module _ (room element : ℕ → Bool) where
         | inr apart ↦ rw (ne_eqb n f apart) (sym (ap (is_ready room element) (at_others classes f lt n apart)))
       ]
 
-module _ (q : ℕ) (own : QueueView) where
-  -- of those that are kept the least one that waits at a queue is the least there, or was woken
+-- of those that are kept the least one that passes a test is the least one that does, or was woken
+module _ (test : Class → Bool) (not_able : test Able ≡ false) where
   module _ (classes : List Class) (f : ℕ) (lt : f < length classes) where
-    unseen : (g : ℕ) → waits_there q own (class_at classes g) ≡ false → waits_there q own (class_at (slice_set classes f Able) g) ≡ false
+    unseen : (g : ℕ) → test (class_at classes g) ≡ false → test (class_at (slice_set classes f Able) g) ≡ false
     unseen g e = elim (cases_eq g f) [
-      | inl is ↦ ap (waits_there q own) (at_woken classes f lt g is) ∙ neither (has_room_in own) (has_element_in own)
-      | inr apart ↦ ap (waits_there q own) (at_others classes f lt g apart) ∙ e
+      | inl is ↦ ap test (at_woken classes f lt g is) ∙ not_able
+      | inr apart ↦ ap test (at_others classes f lt g apart) ∙ e
     ]
 
-    seen : (g : ℕ) → waits_there q own (class_at classes g) ≡ true
-        → (is_able (class_at (slice_set classes f Able) g) || waits_there q own (class_at (slice_set classes f Able) g)) ≡ true
+    seen : (g : ℕ) → test (class_at classes g) ≡ true
+        → (is_able (class_at (slice_set classes f Able) g) || test (class_at (slice_set classes f Able) g)) ≡ true
     seen g e = elim (cases_eq g f) [
-      | inl is ↦ ap (λ (k : Class). is_able k || waits_there q own k) (at_woken classes f lt g is)
-      | inr apart ↦ ap (λ (k : Class). is_able k || waits_there q own k) (at_others classes f lt g apart)
-          ∙ or_true (is_able (class_at classes g)) (waits_there q own (class_at classes g)) e
+      | inl is ↦ ap (λ (k : Class). is_able k || test k) (at_woken classes f lt g is)
+      | inr apart ↦ ap (λ (k : Class). is_able k || test k) (at_others classes f lt g apart) ∙ or_true (is_able (class_at classes g)) (test (class_at classes g)) e
     ]
 
-  pub least_there_woken : (classes : List Class) (woken least : Option ℕ) → IfSome woken (λ f. f < length classes)
-      → IsLeastOf (λ f. waits_there q own (class_at classes f)) least → IsLeastThere (with_woken woken classes) q own least
-  least_there_woken classes None None lt h = h
-  least_there_woken classes None (Some n) lt h = (or_true (is_able (class_at classes n)) (waits_there q own (class_at classes n)) h.0, h.1)
-  least_there_woken classes (Some f) None lt h = λ g. unseen classes f lt g (h g)
-  least_there_woken classes (Some f) (Some n) lt h = (seen classes f lt n h.0, λ g below. unseen classes f lt g (h.1 g below))
+  pub least_or_woken : (classes : List Class) (woken least : Option ℕ) → IfSome woken (λ f. f < length classes)
+      → IsLeastOf (λ f. test (class_at classes f)) least → IsLeastOrAble test (with_woken woken classes) least
+  least_or_woken classes None None lt h = h
+  least_or_woken classes None (Some n) lt h = (or_true (is_able (class_at classes n)) (test (class_at classes n)) h.0, h.1)
+  least_or_woken classes (Some f) None lt h = λ g. unseen classes f lt g (h g)
+  least_or_woken classes (Some f) (Some n) lt h = (seen classes f lt n h.0, λ g below. unseen classes f lt g (h.1 g below))
 
-  -- the queue changes
-  module _ (classes : List Class) (queues : List QueueView) (lt : q < length queues) where
-    abbrev ready_by : List QueueView → Class → Bool
-    ready_by some k = is_ready (have_room some) (have_element some) k
+pub nobody_able : (b : Bool) → (b && false) ≡ false
+nobody_able true = refl
+nobody_able false = refl
 
-    abbrev after : List QueueView
-    after = slice_set queues q own
+-- a queue changes
+module _ (q : ℕ) (own : QueueView) (queues : List QueueView) (lt : q < length queues) where
+  abbrev ready_by : List QueueView → Class → Bool
+  ready_by some k = is_ready (have_room some) (have_element some) k
 
-    this : (r : ℕ) → r ≡ q → queue_at after r ≡ own
-    this r is = ap (queue_at after) is ∙ get_or-set_same queues q own no_queue lt
+  abbrev after : List QueueView
+  after = slice_set queues q own
 
-    another : (r : ℕ) → r ≢ q → queue_at after r ≡ queue_at queues r
-    another r apart = get_or-set_other queues q r own no_queue apart
+  this : (r : ℕ) → r ≡ q → queue_at after r ≡ own
+  this r is = ap (queue_at after) is ∙ get_or-set_same queues q own no_queue lt
 
-    not_first : (a b : Bool) → ((a && true) || (b && false)) ≡ false → a ≡ false
-    not_first true b e = absurd cc
-    not_first false b e = refl
+  another : (r : ℕ) → r ≢ q → queue_at after r ≡ queue_at queues r
+  another r apart = get_or-set_other queues q r own no_queue apart
 
-    not_second : (a b : Bool) → ((a && false) || (b && true)) ≡ false → b ≡ false
-    not_second true true e = absurd cc
-    not_second false true e = absurd cc
-    not_second a false e = refl
+  second_false : (a b : Bool) → b ≡ true → (a && b) ≡ false → a ≡ false
+  second_false true true e h = absurd cc
+  second_false true false e h = absurd cc
+  second_false false b e h = refl
 
-    is_first : (a b : Bool) → ((a && true) || (b && false)) ≡ true → a ≡ true
-    is_first true b e = refl
-    is_first false true e = absurd cc
-    is_first false false e = absurd cc
+  both_true : (a b : Bool) → (a && b) ≡ true → (a ≡ true) × (b ≡ true)
+  both_true true true h = (refl, refl)
+  both_true true false h = absurd cc
+  both_true false b h = absurd cc
 
-    is_second : (a b : Bool) → ((a && false) || (b && true)) ≡ true → b ≡ true
-    is_second a true e = refl
-    is_second true false e = absurd cc
-    is_second false false e = absurd cc
+  same_number : (r : ℕ) → (r == q) ≡ true → r ≡ q
+  same_number r e = eqb-true r q e
 
-    -- who was not ready, and does not wait there for what it has now, is not ready
-    still_unready : (k : Class) → ready_by queues k ≡ false → waits_there q own k ≡ false → ready_by after k ≡ false
-    still_unready Able e h = absurd cc
-    still_unready (Waits (Room r)) e h = elim (cases_eq r q) [
-      | inl is ↦ ap has_room_in (this r is) ∙ not_first (has_room_in own) (has_element_in own) (rw (eq-eqb r q is) at h)
-      | inr apart ↦ ap has_room_in (another r apart) ∙ e
-    ]
-    still_unready (Waits (Element r)) e h = elim (cases_eq r q) [
-      | inl is ↦ ap has_element_in (this r is) ∙ not_second (has_room_in own) (has_element_in own) (rw (eq-eqb r q is) at h)
-      | inr apart ↦ ap has_element_in (another r apart) ∙ e
-    ]
-    still_unready (Waits Nothing) e h = refl
-    still_unready (Waits (Outcome g)) e h = refl
-    still_unready (Waits (Either g g')) e h = refl
-    still_unready Unstarted e h = refl
-    still_unready Over e h = refl
-
-    nobody : (k : Class) → ((has_room_in own && false) || (has_element_in own && false)) ≡ true → ready_by after k ≡ true
-    nobody k e = let z : true ≡ false = sym e ∙ neither (has_room_in own) (has_element_in own) in absurd cc
-
-    -- who waits there for what it has now is ready
-    ready_there : (k : Class) → waits_there q own k ≡ true → ready_by after k ≡ true
-    ready_there (Waits (Room r)) h = elim (cases_eq r q) [
-      | inl is ↦ ap has_room_in (this r is) ∙ is_first (has_room_in own) (has_element_in own) (rw (eq-eqb r q is) at h)
-      | inr apart ↦ nobody (Waits (Room r)) (rw (ne_eqb r q apart) at h)
-    ]
-    ready_there (Waits (Element r)) h = elim (cases_eq r q) [
-      | inl is ↦ ap has_element_in (this r is) ∙ is_second (has_room_in own) (has_element_in own) (rw (eq-eqb r q is) at h)
-      | inr apart ↦ nobody (Waits (Element r)) (rw (ne_eqb r q apart) at h)
-    ]
-    ready_there Able h = refl
-    ready_there (Waits Nothing) h = nobody (Waits Nothing) h
-    ready_there (Waits (Outcome g)) h = nobody (Waits (Outcome g)) h
-    ready_there (Waits (Either g g')) h = nobody (Waits (Either g g')) h
-    ready_there Unstarted h = nobody Unstarted h
-    ready_there Over h = nobody Over h
-
+  -- the least one that is ready is who was, if it is able, or who passes a test below it, where who passes it is ready now, and who is ready now was or
+  -- passes it
+  module _ (test : Class → Bool) (unready : (k : Class) → ready_by queues k ≡ false → test k ≡ false → ready_by after k ≡ false)
+      (passing : (k : Class) → test k ≡ true → ready_by after k ≡ true) where
     able_ready : (k : Class) → is_able k ≡ true → ready_by after k ≡ true
     able_ready Able e = refl
     able_ready _ e = absurd cc
 
-    may_ready : (k : Class) → (is_able k || waits_there q own k) ≡ true → ready_by after k ≡ true
+    may_ready : (k : Class) → (is_able k || test k) ≡ true → ready_by after k ≡ true
     may_ready k e = by_test (is_able k) refl
       where
         by_test : (b : Bool) → is_able k ≡ b → ready_by after k ≡ true
         by_test true able = able_ready k able
-        by_test false unable = ready_there k (ap (λ (b : Bool). b || waits_there q own k) (sym unable) ∙ e)
+        by_test false unable = passing k (ap (λ (b : Bool). b || test k) (sym unable) ∙ e)
 
-    abbrev test : ℕ → Bool
-    test f = ready_by after (class_at classes f)
+    module _ (classes : List Class) where
+      abbrev now : ℕ → Bool
+      now f = ready_by after (class_at classes f)
 
-    -- so the least one that is ready is who was, if it is able, or who waits there below it
-    pub least_beside : (n : ℕ) (there : Option ℕ) → IsLeastOf (λ f. ready_by queues (class_at classes f)) (Some n) → is_able (class_at classes n) ≡ true
-        → IsLeastThere classes q own there → IsLeastOf (λ f. ready_by after (class_at classes f)) (lesser (Some n) there)
-    least_beside n None least able none =
-        (able_ready (class_at classes n) able, λ f below. still_unready (class_at classes f) (least.1 f below) (none f))
-    least_beside n (Some m) least able there = elim (cases_lt n m) [
-      | inl lt ↦ (let e : min n m ≡ n = omega arith in (
-        ap test e ∙ able_ready (class_at classes n) able,
-        λ f below. still_unready (class_at classes f) (least.1 f (omega arith)) (there.1 f (omega arith)),
-      ))
-      | inr le ↦ (let e : min n m ≡ m = omega arith in (
-        ap test e ∙ may_ready (class_at classes m) there.0,
-        λ f below. still_unready (class_at classes f) (least.1 f (omega arith)) (there.1 f (omega arith)),
-      ))
-    ]
+      least_beside : (n : ℕ) (there : Option ℕ) → IsLeastOf (λ f. ready_by queues (class_at classes f)) (Some n) → is_able (class_at classes n) ≡ true
+          → IsLeastOrAble test classes there → IsLeastOf now (lesser (Some n) there)
+      least_beside n None least able none =
+          (able_ready (class_at classes n) able, λ f below. unready (class_at classes f) (least.1 f below) (none f))
+      least_beside n (Some m) least able there = elim (cases_lt n m) [
+        | inl lt ↦ (let e : min n m ≡ n = omega arith in (
+          ap now e ∙ able_ready (class_at classes n) able,
+          λ f below. unready (class_at classes f) (least.1 f (omega arith)) (there.1 f (omega arith)),
+        ))
+        | inr le ↦ (let e : min n m ≡ m = omega arith in (
+          ap now e ∙ may_ready (class_at classes m) there.0,
+          λ f below. unready (class_at classes f) (least.1 f (omega arith)) (there.1 f (omega arith)),
+        ))
+      ]
 
-  -- the least fiber that is ready by these queues
-  abbrev IsLeastBy : List QueueView → List Class → ℕ → Type 0
-  IsLeastBy queues classes n = IsLeastOf (λ f. is_ready (have_room queues) (have_element queues) (class_at classes f)) (Some n)
+      -- and who was found is found again
+      found_beside : (found : Option ℕ) (n : ℕ) → found ≡ Some n → class_at classes n ≡ Able → (there result : Option ℕ)
+          → IsLeastOrAble test classes there → result ≡ lesser (Some n) there → IfSome found (λ k. IsLeastOf (λ f. ready_by queues (class_at classes f)) (Some k))
+          → IfSome result (λ k. IsLeastOf now (Some k))
+      found_beside found n is able there result h e least = rw e (by_there there h)
+        where
+          by_there : (there : Option ℕ) → IsLeastOrAble test classes there → IfSome (lesser (Some n) there) (λ k. IsLeastOf now (Some k))
+          by_there None h = least_beside n None (rw is at least) (ap is_able able) h
+          by_there (Some m) h = least_beside n (Some m) (rw is at least) (ap is_able able) h
 
-  -- and who was found is found again
-  pub found_beside : (classes : List Class) (found : Option ℕ) (n : ℕ) → found ≡ Some n → class_at classes n ≡ Able → (there result : Option ℕ)
-      → IsLeastThere classes q own there → result ≡ lesser (Some n) there → (queues : List QueueView) → q < length queues
-      → IfSome found (IsLeastBy queues classes) → IfSome result (IsLeastBy (slice_set queues q own) classes)
-  found_beside classes found n is able there result h e queues lt least = rw e (by_there there h)
-    where
-      by_there : (there : Option ℕ) → IsLeastThere classes q own there → IfSome (lesser (Some n) there) (IsLeastBy (slice_set queues q own) classes)
-      by_there None h = least_beside classes queues lt n None (rw is at least) (ap is_able able) h
-      by_there (Some m) h = least_beside classes queues lt n (Some m) (rw is at least) (ap is_able able) h
+  -- where it had room, those are ready now who were, and who wait there for an element, if it has one
+  unready_after_put : have_room queues q ≡ true → (k : Class) → ready_by queues k ≡ false → waits_for_element_there q own k ≡ false → ready_by after k ≡ false
+  unready_after_put room Able e h = absurd cc
+  unready_after_put room (Waits (Room r)) e h = elim (cases_eq r q) [
+    | inl is ↦ absurd (let z : true ≡ false = sym room ∙ ap (have_room queues) (sym is) ∙ e in cc)
+    | inr apart ↦ ap has_room_in (another r apart) ∙ e
+  ]
+  unready_after_put room (Waits (Element r)) e h = elim (cases_eq r q) [
+    | inl is ↦ ap has_element_in (this r is) ∙ second_false (has_element_in own) (r == q) (eq-eqb r q is) h
+    | inr apart ↦ ap has_element_in (another r apart) ∙ e
+  ]
+  unready_after_put room (Waits Nothing) e h = refl
+  unready_after_put room (Waits (Outcome g)) e h = refl
+  unready_after_put room (Waits (Either g g')) e h = refl
+  unready_after_put room Unstarted e h = refl
+  unready_after_put room Over e h = refl
+
+  element_ready : (k : Class) → waits_for_element_there q own k ≡ true → ready_by after k ≡ true
+  element_ready (Waits (Element r)) h =
+      let both = both_true (has_element_in own) (r == q) h in ap has_element_in (this r (same_number r both.1)) ∙ both.0
+  element_ready (Waits (Room r)) h = absurd (let both = both_true (has_element_in own) false h in cc)
+  element_ready (Waits Nothing) h = absurd (let both = both_true (has_element_in own) false h in cc)
+  element_ready (Waits (Outcome g)) h = absurd (let both = both_true (has_element_in own) false h in cc)
+  element_ready (Waits (Either g g')) h = absurd (let both = both_true (has_element_in own) false h in cc)
+  element_ready Able h = refl
+  element_ready Unstarted h = absurd (let both = both_true (has_element_in own) false h in cc)
+  element_ready Over h = absurd (let both = both_true (has_element_in own) false h in cc)
+
+  -- where it had an element, those are ready now who were, and who wait there for room, if it has some
+  unready_after_take : have_element queues q ≡ true → (k : Class) → ready_by queues k ≡ false → waits_for_room_there q own k ≡ false → ready_by after k ≡ false
+  unready_after_take element Able e h = absurd cc
+  unready_after_take element (Waits (Element r)) e h = elim (cases_eq r q) [
+    | inl is ↦ absurd (let z : true ≡ false = sym element ∙ ap (have_element queues) (sym is) ∙ e in cc)
+    | inr apart ↦ ap has_element_in (another r apart) ∙ e
+  ]
+  unready_after_take element (Waits (Room r)) e h = elim (cases_eq r q) [
+    | inl is ↦ ap has_room_in (this r is) ∙ second_false (has_room_in own) (r == q) (eq-eqb r q is) h
+    | inr apart ↦ ap has_room_in (another r apart) ∙ e
+  ]
+  unready_after_take element (Waits Nothing) e h = refl
+  unready_after_take element (Waits (Outcome g)) e h = refl
+  unready_after_take element (Waits (Either g g')) e h = refl
+  unready_after_take element Unstarted e h = refl
+  unready_after_take element Over e h = refl
+
+  room_ready : (k : Class) → waits_for_room_there q own k ≡ true → ready_by after k ≡ true
+  room_ready (Waits (Room r)) h =
+      let both = both_true (has_room_in own) (r == q) h in ap has_room_in (this r (same_number r both.1)) ∙ both.0
+  room_ready (Waits (Element r)) h = absurd (let both = both_true (has_room_in own) false h in cc)
+  room_ready (Waits Nothing) h = absurd (let both = both_true (has_room_in own) false h in cc)
+  room_ready (Waits (Outcome g)) h = absurd (let both = both_true (has_room_in own) false h in cc)
+  room_ready (Waits (Either g g')) h = absurd (let both = both_true (has_room_in own) false h in cc)
+  room_ready Able h = refl
+  room_ready Unstarted h = absurd (let both = both_true (has_room_in own) false h in cc)
+  room_ready Over h = absurd (let both = both_true (has_room_in own) false h in cc)
+
+  module _ (classes : List Class) (found : Option ℕ) (n : ℕ) (is : found ≡ Some n) (able : class_at classes n ≡ Able) (there result : Option ℕ) where
+    pub found_after_put : have_room queues q ≡ true → IsLeastOrAble (waits_for_element_there q own) classes there → result ≡ lesser (Some n) there
+        → IfSome found (λ k. IsLeastOf (λ f. ready_by queues (class_at classes f)) (Some k))
+        → IfSome result (λ k. IsLeastOf (λ f. ready_by after (class_at classes f)) (Some k))
+    found_after_put room h e least =
+        found_beside (waits_for_element_there q own) (unready_after_put room) element_ready classes found n is able there result h e least
+
+    pub found_after_take : have_element queues q ≡ true → IsLeastOrAble (waits_for_room_there q own) classes there → result ≡ lesser (Some n) there
+        → IfSome found (λ k. IsLeastOf (λ f. ready_by queues (class_at classes f)) (Some k))
+        → IfSome result (λ k. IsLeastOf (λ f. ready_by after (class_at classes f)) (Some k))
+    found_after_take element h e least =
+        found_beside (waits_for_room_there q own) (unready_after_take element) room_ready classes found n is able there result h e least

@@ -49,9 +49,15 @@ passes AreAble k = is_able k
 passes (ForRoom q) k = waits_for_room q k
 passes (ForElement q) k = waits_for_element q k
 
--- it waits at the queue of that number, which is this one, for what that has
+-- it waits at the queue of that number, which is this one, for room, and that has some; or for an element, and that has one; or for either
+abbrev pub waits_for_room_there : ℕ → QueueView → Class → Bool
+waits_for_room_there q own k = has_room_in own && waits_for_room q k
+
+abbrev pub waits_for_element_there : ℕ → QueueView → Class → Bool
+waits_for_element_there q own k = has_element_in own && waits_for_element q k
+
 abbrev pub waits_there : ℕ → QueueView → Class → Bool
-waits_there q own k = (has_room_in own && waits_for_room q k) || (has_element_in own && waits_for_element q k)
+waits_there q own k = waits_for_room_there q own k || waits_for_element_there q own k
 
 -- the sets as they are kept, each by its words
 pub record SetsView : Type 0 where

@@ -1,8 +1,9 @@
 //! The sets of fibers by their classes.
-ghost use Rattle.std.specs.Prelude.{◌≡◌, ℕ, ◌<◌, true, false, IfOk, IfSome, length};
+ghost use Rattle.std.specs.Prelude.{◌≡◌, ℕ, ◌<◌, ◌&&◌, true, false, IfOk, IfSome, length};
 ghost use Rattle.fx_plain.specs.NumberSet.{is_member, is_member_of, IsLeastOf, lesser};
 ghost use Rattle.std.specs.Bool.{OnTrue};
-ghost use Rattle.fx_plain.specs.ClassSets.{Kind, members, AreWith, is_ready_there};
+ghost use Rattle.fx_plain.specs.ClassSets.{Kind, ForRoom, ForElement, members, AreWith, is_ready_there};
+ghost use Rattle.fx_plain.specs.PlainQueue.{has_room_in, has_element_in};
 ghost use Rattle.fx_plain.specs.ClassSets.{NobodyWaitsAt, AreWaitedAt, IsNextWaited};
 
 use crate::class::Class;
@@ -146,20 +147,35 @@ impl ClassSets {
         self.waited.least_from(from)
     }
 
+    /// The least number of a fiber that waits at this queue for room, if that has some.
+    pub fn least_for_room(&self, queue: usize, own: &PlainQueue) -> Option<u32>
+        ensures { IsLeastOf (λ f. has_room_in own.now && members self.now (ForRoom queue) f) result }
+    {
+        if own.has_room() {
+            self.for_room.least(queue)
+        } else {
+            None
+        }
+    }
+
+    /// The least number of a fiber that waits at this queue for an element, if that has one.
+    pub fn least_for_element(&self, queue: usize, own: &PlainQueue) -> Option<u32>
+        ensures { IsLeastOf (λ f. has_element_in own.now && members self.now (ForElement queue) f) result }
+    {
+        if own.has_element() {
+            self.for_element.least(queue)
+        } else {
+            None
+        }
+    }
+
     /// The least number of a fiber that waits at this queue for what that has.
     pub fn least_there(&self, queue: usize, own: &PlainQueue) -> Option<u32>
         ensures { IsLeastOf (is_ready_there self.now queue own.now) result }
     {
-        let for_room = if own.has_room() {
-            self.for_room.least(queue)
-        } else {
-            None
-        };
-        let for_element = if own.has_element() {
-            self.for_element.least(queue)
-        } else {
-            None
-        };
-        lesser(for_room, for_element)
+        lesser(
+            self.least_for_room(queue, own),
+            self.least_for_element(queue, own),
+        )
     }
 }

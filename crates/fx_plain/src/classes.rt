@@ -4,7 +4,7 @@ ghost use Rattle.fx_plain.specs.declared.class.Class.TheVariants.{Unstarted, Abl
 ghost use Rattle.fx_plain.specs.NumberSet.{IsLeastOf, IsLeastFrom};
 ghost use Rattle.fx_plain.specs.PlainQueue.{have_room, have_element};
 ghost use Rattle.fx_plain.specs.Classes.{waits_for_end, class_at_end, is_ready};
-ghost use Rattle.fx_plain.specs.ClassSets.{class_at, with_request, with_end, waits_there};
+ghost use Rattle.fx_plain.specs.ClassSets.{class_at, with_request, with_end, waits_for_room_there, waits_for_element_there};
 
 use crate::class::Class;
 use crate::class_sets::{ClassSets, lesser};
@@ -90,13 +90,20 @@ impl Classes {
         least
     }
 
-    /// The least number of a fiber that waits at this queue for what it has.
-    pub fn least_there(&self, queue: u8, own: &PlainQueue) -> Option<u32>
+    /// The least number of a fiber that waits at this queue for room, if that has some.
+    pub fn least_for_room(&self, queue: u8, own: &PlainQueue) -> Option<u32>
         requires { queue < self.now.queues }
-        ensures { IsLeastOf (λ f. waits_there queue own.now (class_at self.now.of f)) result }
+        ensures { IsLeastOf (λ f. waits_for_room_there queue own.now (class_at self.now.of f)) result }
     {
-        let index = queue as usize;
-        self.sets.least_there(index, own)
+        self.sets.least_for_room(queue as usize, own)
+    }
+
+    /// The least number of a fiber that waits at this queue for an element, if that has one.
+    pub fn least_for_element(&self, queue: u8, own: &PlainQueue) -> Option<u32>
+        requires { queue < self.now.queues }
+        ensures { IsLeastOf (λ f. waits_for_element_there queue own.now (class_at self.now.of f)) result }
+    {
+        self.sets.least_for_element(queue as usize, own)
     }
 
     /// The fiber comes into that class.

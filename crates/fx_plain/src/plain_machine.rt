@@ -28,6 +28,11 @@ use fx_term::{Code, CodeBrand, Memory};
 use fx_text::{Pick, Script};
 use std::alloc::Global;
 
+/// How many have started.
+fn count_started<J: CodeBrand>(fibers: &[Option<Started<J>>]) -> usize {
+    fibers.iter().filter(|place| place.is_some()).count()
+}
+
 /// What is reported of those that have started.
 fn reports_of<J: CodeBrand>(
     alloc: Global,
@@ -35,7 +40,7 @@ fn reports_of<J: CodeBrand>(
 ) -> Result<Vec<FiberReport>, Memory>
     ensures { IfOk result (λ reports. reports.items ≡ all_reported J.nodes fibers.items) }
 {
-    let mut reports = Vec::new(alloc);
+    let mut reports = Vec::with_capacity(alloc, count_started(&fibers))?;
     for fiber in fibers {
         if let Some(started) = fiber {
             reports.push(started.into_report())?;

@@ -71,16 +71,16 @@ fn not_above(found: Option<u32>, fiber: u32) -> Option<u32>
     if least <= fiber { Some(least) } else { None }
 }
 
-/// The least fiber that is ready once this queue has changed, where it is known: who was found, if it is
-/// able, or who waits there below it.
-fn found_after(
+/// The least fiber that is ready once an element was put into this queue, where it is known: who was found, if
+/// it is able, or who waits there for an element below it.
+fn found_after_put(
     found: Option<u32>,
     classes: &WokenClasses,
     queue: u8,
     own: &PlainQueue,
 ) -> Option<u32>
     requires { queue < classes.now.queues }
-    ensures { (queues : List QueueView) → queue < length queues
+    ensures { (queues : List QueueView) → queue < length queues → have_room queues queue ≡ true
         → IfSome found (λ n. IsLeastOf (λ f. is_ready (have_room queues) (have_element queues)
         (class_at classes.now.of f)) (Some n))
         → IfSome result (λ n. IsLeastOf (λ f. is_ready (have_room (slice_set queues queue own.now))
@@ -88,7 +88,30 @@ fn found_after(
 {
     let least = found?;
     if matches!(classes.class(least), Class::Able) {
-        lesser(Some(least), classes.least_there(queue, own))
+        lesser(Some(least), classes.least_for_element(queue, own))
+    } else {
+        None
+    }
+}
+
+/// The least fiber that is ready once an element was taken out of this queue, where it is known: who was found, if
+/// it is able, or who waits there for room below it.
+fn found_after_take(
+    found: Option<u32>,
+    classes: &WokenClasses,
+    queue: u8,
+    own: &PlainQueue,
+) -> Option<u32>
+    requires { queue < classes.now.queues }
+    ensures { (queues : List QueueView) → queue < length queues → have_element queues queue ≡ true
+        → IfSome found (λ n. IsLeastOf (λ f. is_ready (have_room queues) (have_element queues)
+        (class_at classes.now.of f)) (Some n))
+        → IfSome result (λ n. IsLeastOf (λ f. is_ready (have_room (slice_set queues queue own.now))
+        (have_element (slice_set queues queue own.now)) (class_at classes.now.of f)) (Some n)) }
+{
+    let least = found?;
+    if matches!(classes.class(least), Class::Able) {
+        lesser(Some(least), classes.least_for_room(queue, own))
     } else {
         None
     }
@@ -252,7 +275,7 @@ impl PlainWorld {
             unreachable!();
         };
         own.put(item)?;
-        self.found = found_after(self.found, &self.classes, queue, own);
+        self.found = found_after_put(self.found, &self.classes, queue, own);
         Ok(())
     }
 
@@ -265,7 +288,7 @@ impl PlainWorld {
     {
         let own = self.queues.get_mut(queue as usize)?;
         let item = own.take()?;
-        self.found = found_after(self.found, &self.classes, queue, own);
+        self.found = found_after_take(self.found, &self.classes, queue, own);
         Some(item)
     }
 

@@ -5,8 +5,8 @@ ghost use Rattle.fx_plain.specs.declared.class.Class.TheVariants.{Unstarted, Abl
 ghost use Rattle.fx_plain.specs.NumberSet.{IsLeastOf};
 ghost use Rattle.fx_plain.specs.PlainQueue.{have_room, have_element};
 ghost use Rattle.fx_plain.specs.Classes.{is_ready};
-ghost use Rattle.fx_plain.specs.ClassSets.{class_at, with_request, with_end};
-ghost use Rattle.fx_plain.specs.WokenClasses.{with_woken, IsLeastThere};
+ghost use Rattle.fx_plain.specs.ClassSets.{class_at, with_request, with_end, waits_for_room_there, waits_for_element_there};
+ghost use Rattle.fx_plain.specs.WokenClasses.{with_woken, IsLeastOrAble};
 
 use crate::class::Class;
 use crate::class_sets::lesser;
@@ -106,13 +106,22 @@ impl WokenClasses {
         lesser(self.woken, self.kept.least(queues))
     }
 
-    /// The least number of a fiber that waits at this queue for what it has, or that of one below which
-    /// is able.
-    pub fn least_there(&self, queue: u8, own: &PlainQueue) -> Option<u32>
+    /// The least number of a fiber that waits at this queue for room, if that has some, or that of one below
+    /// which is able.
+    pub fn least_for_room(&self, queue: u8, own: &PlainQueue) -> Option<u32>
         requires { queue < self.now.queues }
-        ensures { IsLeastThere self.now.of queue own.now result }
+        ensures { IsLeastOrAble (waits_for_room_there queue own.now) self.now.of result }
     {
-        self.kept.least_there(queue, own)
+        self.kept.least_for_room(queue, own)
+    }
+
+    /// The least number of a fiber that waits at this queue for an element, if that has one, or that of one
+    /// below which is able.
+    pub fn least_for_element(&self, queue: u8, own: &PlainQueue) -> Option<u32>
+        requires { queue < self.now.queues }
+        ensures { IsLeastOrAble (waits_for_element_there queue own.now) self.now.of result }
+    {
+        self.kept.least_for_element(queue, own)
     }
 
     /// The fiber may step. Where it waits at a queue it is not moved yet.

@@ -1,9 +1,9 @@
 use Rattle.std.proofs.Common.{◌≡◌, ◌∙◌, true, false, sym}
 use Rattle.fx_plain.specs.declared.class.Class.TheVariants.{Able}
 use Rattle.fx_plain.specs.ClassSets.{class_at}
-use Rattle.fx_plain.proofs.WokenClasses.{found_beside}
-use Rattle.fx_plain.proofs.plain_world.found_after.Goals.{in-Able, in_default}
-use Rattle.fx_plain.proofs.plain_world.found_after.Goals as goal
+use Rattle.fx_plain.proofs.WokenClasses.{found_after_put}
+use Rattle.fx_plain.proofs.plain_world.found_after_put.Goals.{in-Able, in_default}
+use Rattle.fx_plain.proofs.plain_world.found_after_put.Goals as goal
 
 pub returns-then-matches : goal.returns-then-matches
 returns-then-matches c =
@@ -12,5 +12,6 @@ returns-then-matches c =
       | in-Able w ↦ sym w.in-Able.ensures
       | in_default w ↦ absurd (let z : true ≡ false = sym c.if-matches.true ∙ w.matches-is in cc)
     ] in
-    found_beside c.args.queue c.args.own.now classes c.args.found c.in_ok-least.least c.in_ok-least.was able c.least_there.result c.lesser.result
-    c.least_there.ensures c.lesser.ensures
+    λ queues lt room least.
+    found_after_put c.args.queue c.args.own.now queues lt classes c.args.found c.in_ok-least.least c.in_ok-least.was able
+    c.least_for_element.result c.lesser.result room c.least_for_element.ensures c.lesser.ensures least

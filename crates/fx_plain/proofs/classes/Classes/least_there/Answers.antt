@@ -1,8 +1,0 @@
-use Rattle.fx_plain.proofs.LeastReady.{least_waits_there}
-use Rattle.fx_plain.proofs.classes.Classes.least_there.Goals as goal
-
-pub returns : goal.returns
-returns c =
-    rw (← c.self.view_is)
-    (least_waits_there c.self.inside.of.items c.self.inside.sets c.self.invariant.1 c.args.queue c.args.own.now
-    (rw (← c.self.view_is) at c.requires) c.least_there.result c.least_there.ensures)
