@@ -17,7 +17,7 @@ use Rattle.fx_laws.proofs.Doomed.{must_forced}
 use Rattle.fx_laws.proofs.NeverLaws.{never_matches}
 use Rattle.fx_laws.proofs.SameHere.{AreSameHere}
 use Rattle.fx_laws.proofs.Showing.{showing, shows_too}
-use Rattle.fx_laws.proofs.ForcingLaws.{dropping, drops, same_in_cleanup, comes_to_value, comes_to_zero, must_too, forced_shows_all}
+use Rattle.fx_laws.proofs.ForcingLaws.{drops, same_in_cleanup, comes_to_value, comes_to_zero, must_too, first_shows_all}
 
 module _ (fs : List Context) (t u : Term) (s : LeadsSilently t u) (same : IsSamePlace t Never) where
   -- cancellation does the same at both
@@ -57,42 +57,41 @@ module _ (fs : List Context) (t u : Term) (s : LeadsSilently t u) (same : IsSame
 as_wanted : {c : Counts} {p : Progress} {ls ms : List Label} → ls ≡ ms → HasRun showing c p ls → CanShowFrom c p ms
 as_wanted e h = record { labels = h.labels; counts = h.counts; progress = h.progress; run = h.leads; shown_is = h.seen_is ∙ e }
 
--- a term that comes to a value, which is dropped, and stays at one place up to there
-module _ (a t : Term) (n : ℕ) (same : IsSamePlace (forced_after a t) (dropping t n))
-    (comes : (place : Place) → AreSameHere showing place (forced_after a t) (dropping t n)) where
+-- a term that comes to one which makes the silent step, and stays at one place up to there
+module _ {first before t : Term} (leads : LeadsSilently before t) (as_never : IsSamePlace before Never) (same : IsSamePlace first before)
+    (comes : (place : Place) → AreSameHere showing place first before) where
   abbrev OneShows : Place → Counts → List Label → Type 0
   OneShows place c ls =
       CanShowFrom c (come_to place Never) ls
-      ⊎ ((must_cancel_at c.known (come_to place (forced_after a t)) ≡ false) × CanShowFrom c (come_to place t) ls)
+      ⊎ ((must_cancel_at c.known (come_to place first) ≡ false) × CanShowFrom c (come_to place t) ls)
 
-  same_as_never : IsSamePlace (dropping t n) Never
-  same_as_never = record { closed = λ outer. refl; leaf_is = refl; clean = refl }
-
-  in_term : (fs : List Context) (c : Counts) (ls : List Label) (b : Bool) → must_cancel c.known (placed fs (dropping t n)) ≡ b
-      → CanShowFrom c (Runs (placed fs (dropping t n))) ls → OneShows (InTerm fs) c ls
-  in_term fs c ls true must h = inl (shows_too (canceled_both fs (dropping t n) t (drops t n) same_as_never c must).0 h)
+  in_term : (fs : List Context) (c : Counts) (ls : List Label) (b : Bool) → must_cancel c.known (placed fs before) ≡ b
+      → CanShowFrom c (Runs (placed fs before)) ls → OneShows (InTerm fs) c ls
+  in_term fs c ls true must h = inl (shows_too (canceled_both fs before t leads as_never c must).0 h)
   in_term fs c ls false free h =
-      by_run (either_shows fs (dropping t n) t (drops t n) same_as_never c free h.labels h.counts h.progress h.run)
+      by_run (either_shows fs before t leads as_never c free h.labels h.counts h.progress h.run)
     where
-      by_run : EitherShows fs (dropping t n) t (drops t n) same_as_never c (shown h.labels) → OneShows (InTerm fs) c ls
+      by_run : EitherShows fs before t leads as_never c (shown h.labels) → OneShows (InTerm fs) c ls
       by_run (inl k) = inl (as_wanted h.shown_is k)
-      by_run (inr k) = inr (must_too a t n same comes (InTerm fs) c.known ∙ free, as_wanted h.shown_is k)
+      by_run (inr k) = inr (must_too leads same comes (InTerm fs) c.known ∙ free, as_wanted h.shown_is k)
 
-  to_one : (place : Place) (c : Counts) (ls : List Label) → CanShowFrom c (come_to place (dropping t n)) ls → OneShows place c ls
-  to_one (InTerm fs) c ls h = in_term fs c ls (must_cancel c.known (placed fs (dropping t n))) refl h
-  to_one (InCleanup k rest fs) c ls h = inr (refl, shows_too (same_in_cleanup t n k rest fs c).0 h)
+  to_one : (place : Place) (c : Counts) (ls : List Label) → CanShowFrom c (come_to place before) ls → OneShows place c ls
+  to_one (InTerm fs) c ls h = in_term fs c ls (must_cancel c.known (placed fs before)) refl h
+  to_one (InCleanup k rest fs) c ls h = inr (refl, shows_too (same_in_cleanup leads k rest fs c).0 h)
 
-  from_one : (place : Place) (c : Counts) (ls : List Label) → OneShows place c ls → CanShowFrom c (come_to place (forced_after a t)) ls
-  from_one place c ls (inl h) = shows_too (comes place c).1 (shows_too (never_matches showing place (same_turned same_as_never) c) h)
-  from_one place c ls (inr h) = forced_shows_all a t n same comes place c ls h.0 h.1
+  from_one : (place : Place) (c : Counts) (ls : List Label) → OneShows place c ls → CanShowFrom c (come_to place first) ls
+  from_one place c ls (inl h) = shows_too (comes place c).1 (shows_too (never_matches showing place (same_turned as_never) c) h)
+  from_one place c ls (inr h) = first_shows_all leads same comes place c ls h.0 h.1
 
-  forced_exactly : ShowsItOrIsCanceledBefore (forced_after a t) t
-  forced_exactly place c ls = (λ h. to_one place c ls (shows_too (comes place c).0 h), from_one place c ls)
+  pub first_exactly : ShowsItOrIsCanceledBefore first t
+  first_exactly place c ls = (λ h. to_one place c ls (shows_too (comes place c).0 h), from_one place c ls)
 
 pub dropped_value_exactly : (n : ℕ) (t : Term) → ShowsItOrIsCanceledBefore (forced_after (Pure (Number n)) t) t
 dropped_value_exactly n t =
-    forced_exactly (Pure (Number n)) t n (record { closed = λ outer. refl; leaf_is = refl; clean = refl }) (comes_to_value n t)
+    first_exactly (drops t n) (record { closed = λ outer. refl; leaf_is = refl; clean = refl })
+    (record { closed = λ outer. refl; leaf_is = refl; clean = refl }) (comes_to_value n t)
 
 pub dropped_error_exactly : (n : ℕ) (t : Term) → ShowsItOrIsCanceledBefore (forced_after (Raise (Number n)) t) t
 dropped_error_exactly n t =
-    forced_exactly (Raise (Number n)) t 0 (record { closed = λ outer. refl; leaf_is = refl; clean = refl }) (comes_to_zero n t)
+    first_exactly (drops t 0) (record { closed = λ outer. refl; leaf_is = refl; clean = refl })
+    (record { closed = λ outer. refl; leaf_is = refl; clean = refl }) (comes_to_zero n t)

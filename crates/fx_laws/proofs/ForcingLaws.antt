@@ -50,68 +50,69 @@ ShowsAllOf t u =
     (place : Place) (c : Counts) (ls : List Label) → must_cancel_at c.known (come_to place t) ≡ false
     → CanShowFrom c (come_to place u) ls → CanShowFrom c (come_to place t) ls
 
--- a term after a value that is dropped
-module _ (t : Term) (n : ℕ) where
-  abbrev pub dropping : Term
-  dropping = Let None (Finished (Val n)) t
+-- a term of which one silent step makes the other
+module _ {before t : Term} (leads : LeadsSilently before t) where
+  pub same_in_cleanup : (k : Option ℕ) (rest : List CleanupTerm) (fs : List Context) → AreSameHere showing (InCleanup k rest fs) before t
+  same_in_cleanup k rest fs c = silent_left showing (cleans_silently k rest fs leads c) (itself showing, itself showing)
 
-  pub drops : LeadsSilently dropping t
-  drops = let_value_leads None n t
+  same_at_closed : (fs : List Context) → is_open (placed fs before) ≡ false → AreSameHere showing (InTerm fs) before t
+  same_at_closed fs closed c = silent_left showing (runs_only closed (only_placed fs (only_silent c leads))) (itself showing, itself showing)
 
-  pub same_in_cleanup : (k : Option ℕ) (rest : List CleanupTerm) (fs : List Context) → AreSameHere showing (InCleanup k rest fs) dropping t
-  same_in_cleanup k rest fs c = silent_left showing (cleans_silently k rest fs drops c) (itself showing, itself showing)
-
-  same_at_closed : (fs : List Context) → is_open (placed fs dropping) ≡ false → AreSameHere showing (InTerm fs) dropping t
-  same_at_closed fs closed c = silent_left showing (runs_only closed (only_placed fs (only_silent c drops))) (itself showing, itself showing)
-
-  dropping_shows_all : ShowsAllOf dropping t
-  dropping_shows_all (InTerm fs) c ls free h =
-      let start = silent_step (leads_placed fs drops) free in
-      let there : IsMatched showing c (Runs (placed fs t)) c (Runs (placed fs dropping)) = λ ms d q k. silent_first showing start (itself showing ms d q k) in
+  leads_shows_all : ShowsAllOf before t
+  leads_shows_all (InTerm fs) c ls free h =
+      let start = silent_step (leads_placed fs leads) free in
+      let there : IsMatched showing c (Runs (placed fs t)) c (Runs (placed fs before)) = λ ms d q k. silent_first showing start (itself showing ms d q k) in
       shows_too there h
-  dropping_shows_all (InCleanup k rest fs) c ls free h = shows_too (same_in_cleanup k rest fs c).1 h
+  leads_shows_all (InCleanup k rest fs) c ls free h = shows_too (same_in_cleanup k rest fs c).1 h
 
-  module _ (fs : List Context) (c : Counts) (ls : List Label) (free : must_cancel c.known (placed fs dropping) ≡ false)
-      (unseen : looks_first c.known (Runs (placed fs dropping)) ≡ true → BeginsWithSeen ls → ⊥) (h : CanShowFrom c (Runs (placed fs dropping)) ls) where
-    at_open : is_open (placed fs dropping) ≡ true → CanShowFrom c (Runs (placed fs t)) ls
+  module _ (fs : List Context) (c : Counts) (ls : List Label) (free : must_cancel c.known (placed fs before) ≡ false)
+      (unseen : looks_first c.known (Runs (placed fs before)) ≡ true → BeginsWithSeen ls → ⊥) (h : CanShowFrom c (Runs (placed fs before)) ls) where
+    at_open : is_open (placed fs before) ≡ true → CanShowFrom c (Runs (placed fs t)) ls
     at_open opened =
-        let looks : looks_first c.known (Runs (placed fs dropping)) ≡ true = both_hold _ _ opened free in
+        let looks : looks_first c.known (Runs (placed fs before)) ≡ true = both_hold _ _ opened free in
         let unseen' = subst (λ (ms : List Label). BeginsWithSeen ms → ⊥) (sym h.shown_is) (unseen looks) in
-        let m = shows_next c (leads_placed fs drops) free h.labels h.counts h.progress h.run unseen' in
+        let m = shows_next c (leads_placed fs leads) free h.labels h.counts h.progress h.run unseen' in
         record { labels = m.labels; counts = m.counts; progress = m.progress; run = m.leads; shown_is = m.seen_is ∙ h.shown_is }
 
-    by_place : (b : Bool) → is_open (placed fs dropping) ≡ b → CanShowFrom c (Runs (placed fs t)) ls
+    by_place : (b : Bool) → is_open (placed fs before) ≡ b → CanShowFrom c (Runs (placed fs t)) ls
     by_place true opened = at_open opened
     by_place false closed = shows_too (same_at_closed fs closed c).0 h
 
-  shows_no_more : (place : Place) (c : Counts) (ls : List Label) → must_cancel_at c.known (come_to place dropping) ≡ false
-      → (looks_first c.known (come_to place dropping) ≡ true → BeginsWithSeen ls → ⊥) → CanShowFrom c (come_to place dropping) ls
+  shows_no_more : (place : Place) (c : Counts) (ls : List Label) → must_cancel_at c.known (come_to place before) ≡ false
+      → (looks_first c.known (come_to place before) ≡ true → BeginsWithSeen ls → ⊥) → CanShowFrom c (come_to place before) ls
       → CanShowFrom c (come_to place t) ls
-  shows_no_more (InTerm fs) c ls free unseen h = by_place fs c ls free unseen h (is_open (placed fs dropping)) refl
+  shows_no_more (InTerm fs) c ls free unseen h = by_place fs c ls free unseen h (is_open (placed fs before)) refl
   shows_no_more (InCleanup k rest fs) c ls free unseen h = shows_too (same_in_cleanup k rest fs c).0 h
 
--- and so after a term that comes to such a value and stays at one place up to there
-module _ (a t : Term) (n : ℕ) (same : IsSamePlace (forced_after a t) (dropping t n))
-    (comes : (place : Place) → AreSameHere showing place (forced_after a t) (dropping t n)) where
+-- and so of one that comes to such a term and stays at one place up to there
+module _ {first before t : Term} (leads : LeadsSilently before t) (same : IsSamePlace first before)
+    (comes : (place : Place) → AreSameHere showing place first before) where
   pub must_too : (place : Place) (known : Bool)
-      → must_cancel_at known (come_to place (forced_after a t)) ≡ must_cancel_at known (come_to place (dropping t n))
+      → must_cancel_at known (come_to place first) ≡ must_cancel_at known (come_to place before)
   must_too (InTerm fs) known = (same_whole fs same).must known
   must_too (InCleanup k rest fs) known = refl
 
-  looks_too : (place : Place) (known : Bool) → looks_first known (come_to place (forced_after a t)) ≡ looks_first known (come_to place (dropping t n))
+  looks_too : (place : Place) (known : Bool) → looks_first known (come_to place first) ≡ looks_first known (come_to place before)
   looks_too (InTerm fs) known = let p = (same_whole fs same).must known in let q = (same_whole fs same).open_is in cc
   looks_too (InCleanup k rest fs) known = refl
 
-  pub forced_shows_all : ShowsAllOf (forced_after a t) t
-  forced_shows_all place c ls free h =
-      shows_too (comes place c).1 (dropping_shows_all t n place c ls (sym (must_too place c.known) ∙ free) h)
+  pub first_shows_all : ShowsAllOf first t
+  first_shows_all place c ls free h =
+      shows_too (comes place c).1 (leads_shows_all leads place c ls (sym (must_too place c.known) ∙ free) h)
 
-  forced_is_nothing : ShowTheSameEverywhereUnlessSeenFirst (forced_after a t) t
-  forced_is_nothing place c ls free unseen = (
-    λ h. shows_no_more t n place c ls (sym (must_too place c.known) ∙ free) (λ looks. unseen (looks_too place c.known ∙ looks))
+  pub first_is_nothing : ShowTheSameEverywhereUnlessSeenFirst first t
+  first_is_nothing place c ls free unseen = (
+    λ h. shows_no_more leads place c ls (sym (must_too place c.known) ∙ free) (λ looks. unseen (looks_too place c.known ∙ looks))
         (shows_too (comes place c).0 h),
-    forced_shows_all place c ls free,
+    first_shows_all place c ls free,
   )
+
+-- a term after a value that is dropped
+abbrev pub dropping : Term → ℕ → Term
+dropping t n = Let None (Finished (Val n)) t
+
+pub drops : (t : Term) (n : ℕ) → LeadsSilently (dropping t n) t
+drops t n = let_value_leads None n t
 
 module _ (n : ℕ) (t : Term) where
   abbrev in_let : List Context
@@ -141,11 +142,11 @@ module _ (n : ℕ) (t : Term) where
 
 pub dropped_value_is_nothing : (n : ℕ) (t : Term) → ShowTheSameEverywhereUnlessSeenFirst (forced_after (Pure (Number n)) t) t
 dropped_value_is_nothing n t =
-    forced_is_nothing (Pure (Number n)) t n (record { closed = λ outer. refl; leaf_is = refl; clean = refl }) (comes_to_value n t)
+    first_is_nothing (drops t n) (record { closed = λ outer. refl; leaf_is = refl; clean = refl }) (comes_to_value n t)
 
 pub dropped_error_is_nothing : (n : ℕ) (t : Term) → ShowTheSameEverywhereUnlessSeenFirst (forced_after (Raise (Number n)) t) t
 dropped_error_is_nothing n t =
-    forced_is_nothing (Raise (Number n)) t 0 (record { closed = λ outer. refl; leaf_is = refl; clean = refl }) (comes_to_zero n t)
+    first_is_nothing (drops t 0) (record { closed = λ outer. refl; leaf_is = refl; clean = refl }) (comes_to_zero n t)
 
 -- three terms, each forced after the one before
 module _ (a b f : Term) (place : Place) where

@@ -40,3 +40,5 @@ pub mod SteppedAlike
 pub mod CaseSteps
 pub mod CaseLaws
 pub mod CaseReleases
+pub mod MonadLaws
+pub mod SeenBefore

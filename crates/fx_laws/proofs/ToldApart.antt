@@ -21,23 +21,23 @@ use Rattle.fx_laws.proofs.OnlyRows.{only_silent, only_self_request, only_placed}
 use Rattle.fx_laws.proofs.MaskStarts.{SeesEndAlone, nothing_yet, its_end, unwound_sees}
 use Rattle.fx_laws.proofs.Doomed.{must_forced}
 
-abbrev put_one : Label
+abbrev pub put_one : Label
 put_one = Shows (event.Put 0 1)
 
-abbrev c : Counts
+abbrev pub c : Counts
 c = counts_at 0 1 1
 
-abbrev puts : Term
+abbrev pub puts : Term
 puts = Offer 0 (Number 1)
 
 -- after the step that is forced
-after : (f : Counts) (r : Progress) {d e : Counts} {p q : Progress} {l m : Label} (ls : List Label) → IsForced d p l e q → Leads d p (m ∷ ls) f r
+pub after : (f : Counts) (r : Progress) {d e : Counts} {p q : Progress} {l m : Label} (ls : List Label) → IsForced d p l e q → Leads d p (m ∷ ls) f r
     → (m ≡ l) × Leads e q ls f r
 after f r {e = e} {q = q} {m = m} ls s h =
     let o = s.only m h.0 h.1 h.2 in let go : Leads e q ls f r = rw (sym o.1, sym o.2) h.3 in (o.0, go)
 
 -- what is canceled with no clean-up puts nothing
-end_alone_is_no_put : {ls : List Label} → SeesEndAlone ls → visible ls ≡ put_one ∷ [] → ⊥
+pub end_alone_is_no_put : {ls : List Label} → SeesEndAlone ls → visible ls ≡ put_one ∷ [] → ⊥
 end_alone_is_no_put (nothing_yet e) f = absurd cc
 end_alone_is_no_put (its_end e) f = absurd cc
 

@@ -1,7 +1,8 @@
-//! What can be told apart, so that the laws say something.
+//! What can be told apart, so that the laws say something, and one pair that cannot.
 ghost use Rattle.std.specs.Prelude.{None, []};
 ghost use Rattle.fx_term.specs.declared.node.Arg.TheVariants.{Number};
-ghost use Rattle.fx_term.specs.Term.{Pure, Canceled, Let, Mask, OnCancel, Offer};
+ghost use Rattle.fx_term.specs.Term.{Pure, Raise, Canceled, Never, Cede, Let, Handle, Mask, OnCancel, Offer};
+ghost use Rattle.fx_model.specs.MaskLaws.{ShowTheSame, forced_after};
 ghost use Rattle.fx_laws.specs.Everywhere.{InCleanup, ShowTheSameAt, ShowTheSameEverywhere};
 ghost use Rattle.fx_laws.specs.Others.{LookTheSame};
 
@@ -33,4 +34,44 @@ pub fn numbers_of_regions_tell_a_masked_finalizer()
 pub fn finalizer_stands_inside_a_mask_or_outside()
     ensures { LookTheSame (Mask 0 (OnCancel (Pure (Number 1)) (Offer 0 (Number 1))))
         (OnCancel (Mask 0 (Pure (Number 1))) (Offer 0 (Number 1))) → ⊥ }
+{}
+
+/// A term with a step before it is not that term: a request that is seen before the step leaves out a
+/// finalizer which, with nothing before it, always runs. So `(forcer (pure n) A)`, `(forcer (raise n) A)`,
+/// `(let _ (pure n) A)` and `(handle (raise n) _ A)` are not `A` at the place of a whole term, not even as
+/// others see it, where `A` is `(oncancel (canceled) (offer q 1))`.
+pub fn request_is_seen_before_the_first_step()
+    ensures forced { LookTheSame (forced_after (Pure (Number 0)) (OnCancel Canceled (Offer 0 (Number 1))))
+        (OnCancel Canceled (Offer 0 (Number 1))) → ⊥ }
+    ensures forced_error { LookTheSame (forced_after (Raise (Number 0)) (OnCancel Canceled (Offer 0 (Number 1))))
+        (OnCancel Canceled (Offer 0 (Number 1))) → ⊥ }
+    ensures bound { LookTheSame (Let None (Pure (Number 0)) (OnCancel Canceled (Offer 0 (Number 1))))
+        (OnCancel Canceled (Offer 0 (Number 1))) → ⊥ }
+    ensures handled { LookTheSame (Handle (Raise (Number 0)) None (OnCancel Canceled (Offer 0 (Number 1))))
+        (OnCancel Canceled (Offer 0 (Number 1))) → ⊥ }
+{}
+
+/// For the same reason `(oncancel (oncancel (canceled) F) G)` is not
+/// `(forcer (mask p (forcer F G)) (canceled))` without exception: the latter can be canceled before its
+/// mask, and then neither `F` nor `G` runs.
+pub fn request_is_seen_before_the_mask_of_finalizers()
+    ensures { LookTheSame (OnCancel (OnCancel Canceled (Offer 0 (Number 1))) (Pure (Number 0)))
+        (forced_after (Mask 0 (forced_after (Offer 0 (Number 1)) (Pure (Number 0)))) Canceled) → ⊥ }
+{}
+
+/// `(mask p T)` is not `T`: in the mask a fiber that requests itself goes on.
+pub fn mask_is_not_its_inside()
+    ensures { LookTheSame (Mask 0 (Let None Canceled (Offer 0 (Number 1))))
+        (Let None Canceled (Offer 0 (Number 1))) → ⊥ }
+{}
+
+/// `(never)` is not `(canceled)`: it is canceled once it has seen a request, and not before.
+pub fn never_is_not_canceled()
+    ensures { ShowTheSame Never Canceled → ⊥ }
+{}
+
+/// `(cede)` cannot be told from `(pure 0)`: that a fiber gives up its turn is no event, so no report tells
+/// it. What it does is said of turns alone.
+pub fn cede_is_pure_of_zero()
+    ensures { ShowTheSameEverywhere Cede (Pure (Number 0)) }
 {}

@@ -13,6 +13,7 @@
 //! |---|---|
 //! | [`never`], [`cancellation`] | what comes after `never` and `canceled` |
 //! | [`forcing`], [`binding`] | what is forced after a term, and what takes its value |
+//! | [`monads`] | values and errors that come at once |
 //! | [`finalizers`], [`brackets`] | which forms of finalizers are the same, and what a bracket is |
 //! | [`cases`] | what a bracket with a release for each outcome is |
 //! | [`everywhere`] | what holds everywhere holds of whole fibers, and to which places these come |
@@ -27,4 +28,5 @@ pub mod cases;
 pub mod everywhere;
 pub mod finalizers;
 pub mod forcing;
+pub mod monads;
 pub mod never;

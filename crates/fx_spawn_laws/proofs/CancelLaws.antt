@@ -16,10 +16,10 @@ use Rattle.fx_model.specs.Run.{first_counts, events}
 use Rattle.fx_model.specs.Report.{ReportView, trace_in, outcome_shown, is_request_for}
 use Rattle.fx_model.specs.LawfulReport.{starts_of, IsLawfulReport}
 use Rattle.fx_model.proofs.ComputedSteps.{Next}
-use Rattle.fx_spawn_laws.specs.MainFiber.{MainEnds, hands_back, start_cancel_and_join, masked_start, masked_cancel}
+use Rattle.fx_spawn_laws.specs.MainFiber.{FiberEnds, MainEnds, hands_back, start_cancel_and_join, masked_start, masked_cancel}
 use Rattle.fx_spawn_laws.proofs.HaltingRuns.{GoesTo, goes_to}
 use Rattle.fx_spawn_laws.proofs.Outcomes.{ComesTo, can_by_leaf, after_step, at_end, pure_comes}
-use Rattle.fx_spawn_laws.proofs.StartedFibers.{main_ends, main_runs, requested_never_ends}
+use Rattle.fx_spawn_laws.proofs.StartedFibers.{child_in_report, fiber_ends, main_ends, main_runs, requested_never_ends}
 
 -- the child, and the main fiber after its start
 abbrev child : Origin
@@ -86,6 +86,12 @@ module _ (s : ScriptView) (may : ℕ → Bool) (r : ReportView) where
       requested_never_ends s may r lawful 1 n (ap (λ (ks : List Label). starts_of 1 (events ks)) is ∙ starts) child refl (rw is holds)
       (ap (λ (ks : List Label). list_any (is_request_for 1) (events ks)) is ∙ asks)
 
+  child_ends : (lawful : IsLawfulReport s may r) → (ls : List Label) → lawful.runs.labels 0 ≡ ls → (n : ℕ) → starts_of 1 (events ls) ≡ suc n
+      → outcome_shown (trace_in r 1) ≡ Some outcome.Canceled → FiberEnds r 1 outcome.Canceled
+  child_ends lawful ls is n starts told =
+      let there = child_in_report s may r lawful 1 n (ap (λ (ks : List Label). starts_of 1 (events ks)) is ∙ starts) in
+      fiber_ends s may r lawful 1 there.0 there.1 outcome.Canceled told
+
   -- the wait for a child that has ended as canceled, which comes to 0, in a mask or not
   masked_wait_comes : outcome_shown (trace_in r 1) ≡ Some outcome.Canceled → (c : Counts) → c.known ≡ false
       → ComesTo s r 0 c (Runs (Masked 0 (Await 1))) (Some (Succeeded 0))
@@ -133,10 +139,14 @@ module _ (s : ScriptView) (may : ℕ → Bool) (r : ReportView) where
           (can_by_leaf s r 0 (joined_after m) (joining m) (rw told refl)) tt (λ room front. rw told refl) (λ ls. refl)
           (pure_comes s r 0 (joined_after m) refl m)))
 
-  pub started_in_mask : s.term ≡ masked_start → IsLawfulReport s may r → r.outside ≡ [] → MainEnds r (Succeeded 0)
+  pub started_in_mask : s.term ≡ masked_start → IsLawfulReport s may r → r.outside ≡ []
+      → MainEnds r (Succeeded 0) × FiberEnds r 1 outcome.Canceled
   started_in_mask is lawful alone =
-      main_ends s may r lawful (Succeeded 0)
-      (ap (λ (ls : List Label). outcome_shown (events ls)) all_is ∙ masked_wait_comes told masked_after refl asked.labels asked.rest)
+      (
+        main_ends s may r lawful (Succeeded 0)
+            (ap (λ (ls : List Label). outcome_shown (events ls)) all_is ∙ masked_wait_comes told masked_after refl asked.labels asked.rest),
+        child_ends lawful (Silent ∷ Starts 1 child ∷ Shows (event.Request 1) ∷ asked.labels) all_is (starts_of 1 (events asked.labels)) refl told,
+      )
     where
       entered : GoesTo s r 0 (silently_to masked_inside (Masked 0 (Start 1 Never (Cancel (Slot 1))))) (lawful.runs.labels 0)
       entered =
@@ -162,10 +172,14 @@ module _ (s : ScriptView) (may : ℕ → Bool) (r : ReportView) where
           ends_canceled lawful (Silent ∷ Starts 1 child ∷ Shows (event.Request 1) ∷ asked.labels) all_is (starts_of 1 (events asked.labels)) refl
           (1, omega arith, refl) refl
 
-  pub canceled_in_mask : s.term ≡ masked_cancel → IsLawfulReport s may r → r.outside ≡ [] → MainEnds r (Succeeded 0)
+  pub canceled_in_mask : s.term ≡ masked_cancel → IsLawfulReport s may r → r.outside ≡ []
+      → MainEnds r (Succeeded 0) × FiberEnds r 1 outcome.Canceled
   canceled_in_mask is lawful alone =
-      main_ends s may r lawful (Succeeded 0)
-      (ap (λ (ls : List Label). outcome_shown (events ls)) all_is ∙ masked_wait_comes told cancel_inside refl asked.labels asked.rest)
+      (
+        main_ends s may r lawful (Succeeded 0)
+            (ap (λ (ls : List Label). outcome_shown (events ls)) all_is ∙ masked_wait_comes told cancel_inside refl asked.labels asked.rest),
+        child_ends lawful (Starts 1 child ∷ Silent ∷ Shows (event.Request 1) ∷ asked.labels) all_is (starts_of 1 (events asked.labels)) refl told,
+      )
     where
       started : GoesTo s r 0 (started_at cancel_before (Mask 1 (Cancel (Number 1)))) (lawful.runs.labels 0)
       started =

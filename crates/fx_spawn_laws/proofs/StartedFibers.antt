@@ -20,7 +20,7 @@ use Rattle.fx_model.proofs.OutcomeLaws.{run_outcome, run_stops}
 use Rattle.fx_model.proofs.StartLaws.{HasStart}
 use Rattle.fx_model.proofs.HeadlineLaws.{begin_told}
 use Rattle.fx_report.proofs.Keys.{found_passes}
-use Rattle.fx_spawn_laws.specs.MainFiber.{MainEnds, MainIsBlocked}
+use Rattle.fx_spawn_laws.specs.MainFiber.{FiberEnds, MainEnds, MainIsBlocked}
 use Rattle.fx_spawn_laws.proofs.Requests.{main_is_unrequested}
 use Rattle.fx_spawn_laws.proofs.HaltingRuns.{RunsToHalt, runs_to_halt}
 use Rattle.fx_spawn_laws.proofs.Outcomes.{ComesTo}
@@ -44,6 +44,18 @@ module _ (s : ScriptView) (may : ℕ → Bool) (r : ReportView) (lawful : IsLawf
   -- the outcome that the trace of a fiber tells is that of its labels
   pub told_by_labels : (f : ℕ) (x : FiberReportView) → fiber_in r f ≡ Some x → outcome_shown (trace_in r f) ≡ outcome_shown (events (labels_of f))
   told_by_labels f x at = ap outcome_shown (ap trace_of_report at ∙ sym (lawful.runs.run f x at).trace)
+
+  pub fiber_ends : (f : ℕ) (x : FiberReportView) → fiber_in r f ≡ Some x → (o : Outcome) → outcome_shown (trace_in r f) ≡ Some o → FiberEnds r f o
+  fiber_ends f x at o told =
+      let run = lawful.runs.run f x at in
+      let here = sym (shown_at f x at) ∙ sym (told_by_labels f x at) ∙ told in
+      let stops = run_stops (lawful.runs.origin f) (labels_of f) (lawful.runs.counts f) (lawful.runs.progress f) o run.run here in
+      record {
+        fiber = x;
+        is_fiber = at;
+        has_ended = sym run.state ∙ ended_so (lawful.runs.progress f) o here;
+        ends = record { before = stops.ends.before; is = sym run.trace ∙ stops.ends.is };
+      }
 
   pub main_ends : (o : Outcome) → outcome_shown (events (labels_of 0)) ≡ Some o → MainEnds r o
   main_ends o shown =

@@ -19,6 +19,13 @@ pub record MainEnds (r : ReportView) (o : Outcome) : Type 0 where
   pub has_ended : fiber.has_ended ≡ true
   pub ends : EndsWith fiber.trace o
 
+-- this fiber is in the report and has ended, with that outcome
+pub record FiberEnds (r : ReportView) (f : ℕ) (o : Outcome) : Type 0 where
+  pub fiber : FiberReportView
+  pub is_fiber : fiber_in r f ≡ Some fiber
+  pub has_ended : fiber.has_ended ≡ true
+  pub ends : EndsWith fiber.trace o
+
 -- the main fiber has not ended: it waits, since no fiber of a lawful report that has not ended can step
 pub record MainIsBlocked (r : ReportView) : Type 0 where
   pub fiber : FiberReportView

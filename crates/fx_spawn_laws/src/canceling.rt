@@ -2,12 +2,12 @@
 //! is the law.
 ghost use Rattle.std.specs.Prelude.{◌≡◌, ℕ, Bool, []};
 ghost use Rattle.fx_term.specs.declared.node.Arg.TheVariants.{Number};
-ghost use Rattle.fx_term.specs.declared.outcome.Outcome.TheVariants.{Succeeded};
+ghost use Rattle.fx_term.specs.declared.outcome.Outcome.TheVariants.{Succeeded, Canceled};
 ghost use Rattle.fx_term.specs.Script.{ScriptView};
 ghost use Rattle.fx_term.specs.Term.{Pure, Never, Start};
 ghost use Rattle.fx_model.specs.LawfulReport.{IsLawfulReport};
 ghost use Rattle.fx_model.specs.Report.{ReportView};
-ghost use Rattle.fx_spawn_laws.specs.MainFiber.{MainEnds, start_cancel_and_join, masked_start, masked_cancel};
+ghost use Rattle.fx_spawn_laws.specs.MainFiber.{FiberEnds, MainEnds, start_cancel_and_join, masked_start, masked_cancel};
 
 /// `start(never).flatMap(f => f.cancel *> f.join)` comes to the third part of the join.
 pub fn fiber_cancelation_is_outcome_canceled()
@@ -24,16 +24,23 @@ pub fn fiber_start_of_never_is_unit()
 {}
 
 /// A fiber that is started inside a mask can be canceled: `(mask p (start h (never) (cancel h)))` comes to
-/// its end.
+/// its end, and the fiber has ended as canceled.
 pub fn uncancelable_start_is_cancelable()
-    ensures { (s : ScriptView) (may : ℕ → Bool) (r : ReportView)
+    ensures main { (s : ScriptView) (may : ℕ → Bool) (r : ReportView)
         → s.term ≡ masked_start
         → IsLawfulReport s may r → r.outside ≡ [] → MainEnds r (Succeeded 0) }
+    ensures child { (s : ScriptView) (may : ℕ → Bool) (r : ReportView)
+        → s.term ≡ masked_start
+        → IsLawfulReport s may r → r.outside ≡ [] → FiberEnds r 1 Canceled }
 {}
 
-/// A mask round `cancel` does not hold it up: `(start h (never) (mask p (cancel h)))` comes to its end.
+/// A mask round `cancel` does not hold it up: `(start h (never) (mask p (cancel h)))` comes to its end, and
+/// the fiber has ended as canceled.
 pub fn uncancelable_cancel_cancels()
-    ensures { (s : ScriptView) (may : ℕ → Bool) (r : ReportView)
+    ensures main { (s : ScriptView) (may : ℕ → Bool) (r : ReportView)
         → s.term ≡ masked_cancel
         → IsLawfulReport s may r → r.outside ≡ [] → MainEnds r (Succeeded 0) }
+    ensures child { (s : ScriptView) (may : ℕ → Bool) (r : ReportView)
+        → s.term ≡ masked_cancel
+        → IsLawfulReport s may r → r.outside ≡ [] → FiberEnds r 1 Canceled }
 {}

@@ -1,5 +1,8 @@
 use Rattle.fx_spawn_laws.proofs.CancelLaws.{canceled_in_mask}
 use Rattle.fx_spawn_laws.proofs.canceling.uncancelable_cancel_cancels.Goals as goal
 
-pub returns : goal.returns
-returns c s may r = canceled_in_mask s may r
+pub returns-clause-main : goal.returns-clause-main
+returns-clause-main c s may r is lawful alone = (canceled_in_mask s may r is lawful alone).0
+
+pub returns-clause-child : goal.returns-clause-child
+returns-clause-child c s may r is lawful alone = (canceled_in_mask s may r is lawful alone).1
