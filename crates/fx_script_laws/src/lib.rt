@@ -1,0 +1,4 @@
+//! Terms that can be put for one another anywhere in a script.
+#![tactic(auto)]
+
+pub mod contexts;
