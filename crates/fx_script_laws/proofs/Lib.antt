@@ -4,3 +4,6 @@ pub mod FilledPlaces
 pub mod FilledSteps
 pub mod Interchanged
 pub mod WholeTerms
+pub mod StartsFound
+pub mod ReportsKept
+pub mod SameReports

@@ -44,7 +44,7 @@ module _ {Pair : Term → Term → Type 0} {Ends : Counts → Progress → Type 
   either_needs t u (as_is p) = law.needs t u p
   either_needs t u (turned p) = sym (law.needs u t p)
 
-  either_come : PairsCome (EitherWay Pair) Ends
+  pub either_come : PairsCome (EitherWay Pair) Ends
   either_come t u (as_is p) place c ls h = (law.come t u p place c ls).0 h
   either_come t u (turned p) place c ls h = (law.come u t p place c ls).1 h
 

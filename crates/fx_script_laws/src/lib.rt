@@ -2,3 +2,4 @@
 #![tactic(auto)]
 
 pub mod contexts;
+pub mod scripts;

@@ -1,0 +1,58 @@
+-- Two scripts with such terms put for one another have the same lawful reports.
+use Rattle.std.proofs.Common.{◌≡◌, ℕ, Bool, true, false, None, sym}
+use Rattle.std.specs.Prelude.{◌↔◌}
+use Rattle.fx_term.specs.Term.{Term}
+use Rattle.fx_term.specs.Script.{ScriptView}
+use Rattle.fx_model.specs.Outside.{Outside}
+use Rattle.fx_model.specs.LawfulReport.{IsLawfulReport}
+use Rattle.fx_model.specs.Report.{ReportView}
+use Rattle.fx_script_laws.specs.Filled.{IsFilled}
+use Rattle.fx_script_laws.specs.Filled as filled
+use Rattle.fx_script_laws.specs.Interchange.{StopsThere, HoldsEverywhere, EitherWay, as_is, turned, AreTheTwo, WaitForTheSameWithNumbers, IsWithOther}
+use Rattle.fx_script_laws.proofs.WholeTerms.{stops_kept, either_puts, either_needs, either_come, waited_law}
+use Rattle.fx_script_laws.proofs.ReportsKept.{report_kept}
+
+module _ {Pair : Term → Term → Type 0} where
+  turned_pair : {t u : Term} → EitherWay Pair t u → EitherWay Pair u t
+  turned_pair (as_is p) = turned p
+  turned_pair (turned p) = as_is p
+
+  pub turned_filled : {t u : Term} → IsFilled (EitherWay Pair) t u → IsFilled (EitherWay Pair) u t
+  turned_filled (filled.pair s) = filled.pair (turned_pair s)
+  turned_filled filled.same = filled.same
+  turned_filled (filled.let_ p q) = filled.let_ (turned_filled p) (turned_filled q)
+  turned_filled (filled.handle p q) = filled.handle (turned_filled p) (turned_filled q)
+  turned_filled (filled.if_ p q) = filled.if_ (turned_filled p) (turned_filled q)
+  turned_filled (filled.for_ p) = filled.for_ (turned_filled p)
+  turned_filled (filled.mask p) = filled.mask (turned_filled p)
+  turned_filled (filled.poll p) = filled.poll (turned_filled p)
+  turned_filled (filled.oncancel p q) = filled.oncancel (turned_filled p) (turned_filled q)
+  turned_filled (filled.bracket p q r) = filled.bracket (turned_filled p) (turned_filled q) (turned_filled r)
+  turned_filled (filled.bracket_case p q r s w) =
+      filled.bracket_case (turned_filled p) (turned_filled q) (turned_filled r) (turned_filled s) (turned_filled w)
+  turned_filled (filled.start p q) = filled.start (turned_filled p) (turned_filled q)
+  turned_filled (filled.join p q r) = filled.join (turned_filled p) (turned_filled q) (turned_filled r)
+  turned_filled (filled.try_take p q) = filled.try_take (turned_filled p) (turned_filled q)
+  turned_filled (filled.masked p) = filled.masked (turned_filled p)
+  turned_filled (filled.opened p) = filled.opened (turned_filled p)
+  turned_filled (filled.in_use p q) = filled.in_use (turned_filled p) (turned_filled q)
+  turned_filled (filled.in_use_case p q r s) = filled.in_use_case (turned_filled p) (turned_filled q) (turned_filled r) (turned_filled s)
+  turned_filled (filled.in_release p) = filled.in_release (turned_filled p)
+  turned_filled (filled.loop p) = filled.loop (turned_filled p)
+
+module _ (t u : Term) (same : WaitForTheSameWithNumbers t u) where
+  abbrev law : (o : Outside) (f : ℕ) (ended : Bool) → HoldsEverywhere (StopsThere o f ended) (AreTheTwo t u)
+  law o f ended = waited_law t u o f ended same
+
+  one_way : (s z : ScriptView) (may : ℕ → Bool) (r : ReportView) → IsWithOther t u s.term z.term → s.capacities ≡ z.capacities → IsLawfulReport s may r
+      → IsLawfulReport z may r
+  one_way s z may r terms capacities lawful =
+      report_kept (either_puts (law o0 0 true)) (either_needs (law o0 0 true)) stops_kept (λ o f ended. either_come (law o f ended)) s z may r lawful terms
+      capacities
+    where
+      o0 : Outside
+      o0 = record { outcome = λ f. None; has_room = λ q. false; has_element = λ q. false; is_requested = λ f. false }
+
+  pub same_reports : (s z : ScriptView) (may : ℕ → Bool) (r : ReportView) → IsWithOther t u s.term z.term → s.capacities ≡ z.capacities
+      → IsLawfulReport s may r ↔ IsLawfulReport z may r
+  same_reports s z may r terms capacities = (one_way s z may r terms capacities, one_way z s may r (turned_filled terms) (sym capacities))
