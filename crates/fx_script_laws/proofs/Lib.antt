@@ -7,3 +7,5 @@ pub mod WholeTerms
 pub mod StartsFound
 pub mod ReportsKept
 pub mod SameReports
+pub mod Followed
+pub mod FollowedPlaces
