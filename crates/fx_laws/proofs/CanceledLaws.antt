@@ -50,10 +50,10 @@ canceled_row : {k : Bool} {c d : Counts} {l : Label} {w : Term} → Row k c Canc
 canceled_row (self_request h) = (h, refl, refl, refl)
 canceled_row (inside f e g r) = absurd (no_context f _ _ refl e)
 
-abbrev IsSelfRequestIn : List Context → Bool → Counts → Label → Counts → Term → Type 0
+abbrev pub IsSelfRequestIn : List Context → Bool → Counts → Label → Counts → Term → Type 0
 IsSelfRequestIn fs k c l d w = (k ≡ true) × (l ≡ Shows event.SelfRequest) × (d ≡ known_canceled c) × (w ≡ placed fs (Finished (Val 0)))
 
-only_in : {k : Bool} {c d : Counts} {l : Label} {x w : Term} (fs : List Context) → RowOfPlaced k c fs x l d w → x ≡ Canceled → IsSelfRequestIn fs k c l d w
+pub only_in : {k : Bool} {c d : Counts} {l : Label} {x w : Term} (fs : List Context) → RowOfPlaced k c fs x l d w → x ≡ Canceled → IsSelfRequestIn fs k c l d w
 only_in {k} {c} fs (moves_in {w = w} {l = l} {d = d} r) at =
     let o = canceled_row (subst (λ (z : Term). Row k c z l d w) at r) in (o.0, o.1, o.2, ap (placed fs) o.3)
 only_in fs (result_in {w = w}) at = cc

@@ -56,7 +56,7 @@ module _ (place : Place) (v : Option ℕ) (x y z : ℕ) (u r : Term) (use_put : 
   bracket_alike : (a : Term) → AreSameHere showing place (Bracket v a u r) (BracketCase x a u y r z r r)
   bracket_alike = same_inside showing place (AcquireIn v u r ∷ []) (AcquireCaseIn x u y r z r r ∷ []) (λ outer. refl) (λ xs. refl) acquire_ends
 
-unused_put : (x y m n : ℕ) (r : Term) → IsUsedAs kind.OtherPoll y r → put y n (put x m r) ≡ put x m r
+pub unused_put : (x y m n : ℕ) (r : Term) → IsUsedAs kind.OtherPoll y r → put y n (put x m r) ≡ put x m r
 unused_put x y m n r h = put_unused y n (put x m r) (put_used y kind.OtherPoll x m r h)
 
 pub bracket_of_one_release : (scope : ℕ → Option NameKind) (x y z : ℕ) (a u r : Term)

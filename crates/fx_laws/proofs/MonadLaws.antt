@@ -94,7 +94,7 @@ error_raised_again x a =
     everywhere (Handle a (Some x) (Raise (Slot x))) a
     (λ place. same_inside showing place (HandleIn (Some x) (Raise (Slot x)) ∷ []) [] (λ outer. refl) (λ xs. refl) (error_again x a place) a)
 
-cede_leads : LeadsSilently Cede (Finished (Val 0))
+pub cede_leads : LeadsSilently Cede (Finished (Val 0))
 cede_leads = record { there = λ k c. rule.cede; only = λ k c d l w r. one r; going = λ w e. cc }
   where
     one : {k : Bool} {c d : Counts} {l : Label} {w : Term} → Row k c Cede l d w → (l ≡ Silent) × (d ≡ c) × (w ≡ Finished (Val 0))

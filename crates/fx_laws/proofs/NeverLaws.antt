@@ -18,7 +18,7 @@ use Rattle.fx_laws.proofs.Showing.{showing, everywhere}
 never_has_no_row : {k : Bool} {c d : Counts} {l : Label} {u : Term} → Row k c Never l d u → ⊥
 never_has_no_row (inside f e g r) = no_context f _ _ refl e
 
-never_has_no_rule : {k : Bool} {c d : Counts} {l : Label} {x u : Term} {fs : List Context} → RowOfPlaced k c fs x l d u → x ≡ Never → ⊥
+pub never_has_no_rule : {k : Bool} {c d : Counts} {l : Label} {x u : Term} {fs : List Context} → RowOfPlaced k c fs x l d u → x ≡ Never → ⊥
 never_has_no_rule {k} {c} (moves_in {w = w} {l = l} {d = d} r) at = never_has_no_row (subst (λ (z : Term). Row k c z l d w) at r)
 never_has_no_rule (result_in {w = w}) at = cc
 

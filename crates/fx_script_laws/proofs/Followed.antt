@@ -1,18 +1,16 @@
 -- Terms of which the one follows the other step by step, but for silent steps at one place, wherever they stand.
-use Rattle.std.proofs.Common.{◌≡◌, ℕ, Bool, true, false, not, Option, None, List, [], ◌∷◌, ◌++◌, refl, sym, ◌∙◌, ap, subst}
+use Rattle.std.proofs.Common.{◌≡◌, Bool, List, [], ◌∷◌, ◌++◌, refl, sym, ◌∙◌, ap, subst}
 use Rattle.fx_term.specs.declared.done.Done.{Done}
-use Rattle.fx_term.specs.declared.done.Done.TheVariants.{Val, Err}
 use Rattle.fx_term.specs.Term.{Term, Finished}
 use Rattle.fx_mask.specs.Closing.{Closing}
-use Rattle.fx_model.specs.Path.{Context, CleanupTerm, closed_along, closed_regions, leaf, cleanup_terms, is_canceled_form, is_open, must_cancel}
-use Rattle.fx_model.specs.Row.{Counts, Label, Silent, Row, known_canceled}
-use Rattle.fx_model.specs.Step.{Progress, Runs, Unwinds, CleansUp, Step}
-use Rattle.fx_model.specs.Step as step
+use Rattle.fx_model.specs.Path.{Context, CleanupTerm, closed_along, closed_regions, leaf, cleanup_terms, is_canceled_form}
+use Rattle.fx_model.specs.Row.{Counts, Label, Silent, Row}
+use Rattle.fx_model.specs.Step.{Progress, Step}
 use Rattle.fx_model.specs.Run.{Leads, shown}
 use Rattle.fx_model.specs.Outside.{Outside, leaf_can_step}
-use Rattle.fx_laws.specs.Everywhere.{placed, Place, InTerm, InCleanup, come_to}
+use Rattle.fx_laws.specs.Everywhere.{placed}
 use Rattle.fx_laws.proofs.Placed.{around, closed_placed, leaf_placed, cleanups_placed, result_placed, row_placed, RowOfPlaced, moves_in, result_in, row_of_placed}
-use Rattle.fx_laws.proofs.SamePlaces.{IsSamePlace, IsSameWhole, same_whole}
+use Rattle.fx_laws.proofs.SamePlaces.{IsSamePlace}
 use Rattle.fx_laws.proofs.SilentRows.{LeadsSilently}
 use Rattle.fx_laws.proofs.Showing.{shown_more}
 use Rattle.fx_script_laws.specs.Interchange.{CanComeTo}
@@ -173,7 +171,7 @@ module _ {at : Term → Progress} {closed : Term → Bool} {IsFree : Counts → 
     result_comes {l = l} (inside gs hs closes clean results x) w free is run =
         let at_x : x ≡ Finished w = (result_placed gs x w (sym is)).1 in
         subst (λ (z : Term). IsFree c (placed gs z) → placed gs z ≡ Finished w → Leads c (at (placed gs z)) (l ∷ ls) d q
-            → CanComeTo Ends c (at (placed hs z)) (shown (l ∷ ls))) (sym at_x)
+        → CanComeTo Ends c (at (placed hs z)) (shown (l ∷ ls))) (sym at_x)
         (λ free' is' run'. result_comes (results w) w free' is' run') free is run
 
   pub comes : (ls : List Label) → Comes ls

@@ -1,10 +1,8 @@
 -- A term that follows another one does so wherever a fiber comes to them.
-use Rattle.std.proofs.Common.{◌≡◌, ℕ, Bool, true, false, not, Option, None, List, [], ◌∷◌, refl, sym, ◌∙◌, ap, subst}
-use Rattle.std.specs.Prelude.{◌&&◌, ◌||◌}
-use Rattle.fx_term.specs.declared.done.Done.{Done}
+use Rattle.std.proofs.Common.{◌≡◌, ℕ, Bool, true, false, not, Option, List, refl, sym, ◌∙◌, ap, subst}
 use Rattle.fx_term.specs.declared.done.Done.TheVariants.{Val, Err}
 use Rattle.fx_term.specs.declared.event.Event.TheVariants as event
-use Rattle.fx_term.specs.Term.{Term, Finished}
+use Rattle.fx_term.specs.Term.{Term}
 use Rattle.fx_model.specs.Path.{Context, CleanupTerm, leaf, cleanup_terms, is_open, must_cancel}
 use Rattle.fx_model.specs.Row.{Counts, Label, Shows, Row}
 use Rattle.fx_model.specs.Step.{Progress, Runs, Unwinds, CleansUp, Step}
@@ -12,7 +10,7 @@ use Rattle.fx_model.specs.Step as step
 use Rattle.fx_model.specs.Outside.{Outside, can_step, leaf_can_step}
 use Rattle.fx_laws.specs.Everywhere.{placed, Place, InTerm, InCleanup, come_to}
 use Rattle.fx_laws.proofs.Placed.{leaf_placed, result_placed, row_placed, RowOfPlaced, moves_in, result_in, row_of_placed}
-use Rattle.fx_laws.proofs.SamePlaces.{IsSameWhole, same_whole}
+use Rattle.fx_laws.proofs.SamePlaces.{same_whole}
 use Rattle.fx_script_laws.specs.Interchange.{Anywhere, StopsThere, CanComeTo, ComeToTheSame}
 use Rattle.fx_script_laws.proofs.Followed.{IsSameSpot, IsFollowed, StepThere, a_row, a_result, leaves, looks, IsPlaceOf, comes}
 

@@ -9,3 +9,5 @@ pub mod ReportsKept
 pub mod SameReports
 pub mod Followed
 pub mod FollowedPlaces
+pub mod EachFollows
+pub mod LawsInScripts

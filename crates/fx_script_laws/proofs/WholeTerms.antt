@@ -82,6 +82,14 @@ shows_is_come t u same place c ls = (
       record { labels = k.labels; counts = k.counts; progress = k.progress; run = k.run; shown_is = k.shown_is; ends = tt },
 )
 
+pub come_is_shown : (t u : Term) → ComeToTheSame Anywhere t u → ShowTheSameEverywhere t u
+come_is_shown t u same place c ls = (
+  λ h. let k = (same place c ls).0 (record { labels = h.labels; counts = h.counts; progress = h.progress; run = h.run; shown_is = h.shown_is; ends = tt }) in
+      record { labels = k.labels; counts = k.counts; progress = k.progress; run = k.run; shown_is = k.shown_is },
+  λ h. let k = (same place c ls).1 (record { labels = h.labels; counts = h.counts; progress = h.progress; run = h.run; shown_is = h.shown_is; ends = tt }) in
+      record { labels = k.labels; counts = k.counts; progress = k.progress; run = k.run; shown_is = k.shown_is },
+)
+
 pub shown_law : (t u : Term) → ShowTheSameWithNumbers t u → HoldsEverywhere Anywhere (AreTheTwo t u)
 shown_law t u h = of_two Anywhere t u h.needs (λ numbers. shows_is_come (put_each numbers t) (put_each numbers u) (h.shows numbers))
 

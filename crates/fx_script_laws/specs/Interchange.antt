@@ -87,6 +87,10 @@ pub record WaitForTheSameWithNumbers (t u : Term) : Type 0 where
   pub needs : (numbers : List (ℕ × ℕ)) → need (put_each numbers t) ≡ need (put_each numbers u)
   pub waits : (numbers : List (ℕ × ℕ)) (o : Outside) (f : ℕ) (ended : Bool) → ComeToTheSame (StopsThere o f ended) (put_each numbers t) (put_each numbers u)
 
+pub record AreInterchangeable (t u : Term) : Type 0 where
+  pub shows : ShowTheSameWithNumbers t u
+  pub waits : WaitForTheSameWithNumbers t u
+
 -- a whole term is another one, with the two put for one another at some places
 abbrev pub IsWithOther : Term → Term → Term → Term → Type 0
 IsWithOther t u = IsFilled (EitherWay (AreTheTwo t u))
