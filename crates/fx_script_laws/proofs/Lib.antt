@@ -11,3 +11,5 @@ pub mod Followed
 pub mod FollowedPlaces
 pub mod EachFollows
 pub mod LawsInScripts
+pub mod PutNeeds
+pub mod EndsInScripts

@@ -2,4 +2,5 @@
 #![tactic(auto)]
 
 pub mod contexts;
+pub mod laws;
 pub mod scripts;
