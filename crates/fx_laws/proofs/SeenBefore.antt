@@ -1,10 +1,10 @@
 -- A request that is seen before a first step, and a fiber that masks what another one is canceled at.
 use Rattle.std.proofs.Common.{◌≡◌, true, false, None, List, [], ◌∷◌, refl, sym, ◌∙◌, ap, subst}
-use Rattle.fx_term.specs.declared.node.Arg.TheVariants.{Number}
+use Rattle.fx_term.specs.declared.node.Arg.TheVariants.{Number, Slot}
 use Rattle.fx_term.specs.declared.done.Done.TheVariants.{Val}
 use Rattle.fx_term.specs.declared.outcome.Outcome.TheVariants as outcome
 use Rattle.fx_term.specs.declared.event.Event.TheVariants as event
-use Rattle.fx_term.specs.Term.{Term, Pure, Raise, Canceled, Never, Let, Handle, Mask, OnCancel, Offer, Finished, Masked}
+use Rattle.fx_term.specs.Term.{Term, Pure, Raise, Canceled, Never, Let, Handle, Mask, Poll, OnCancel, Offer, Finished, Masked}
 use Rattle.fx_model.specs.Path.{LetIn, MaskedIn, CleanupTerm, Finalizer, cleanup_terms, is_open, must_cancel}
 use Rattle.fx_model.specs.Row.{Counts, Label, Silent, Shows, Row, known_canceled, one_more_mask}
 use Rattle.fx_model.specs.Row as rule
@@ -84,6 +84,9 @@ forced_error_is_told = told_by_request (forced_after (Raise (Number 0)) with_fin
 
 pub bound_is_told : LookTheSame (Let None (Pure (Number 0)) (OnCancel Canceled (Offer 0 (Number 1)))) (OnCancel Canceled (Offer 0 (Number 1))) → ⊥
 bound_is_told = told_by_request (Let None (Pure (Number 0)) with_finalizer) refl refl refl refl
+
+pub polled_is_told : LookTheSame (Mask 0 (Poll (Slot 0) (OnCancel Canceled (Offer 0 (Number 1))))) (OnCancel Canceled (Offer 0 (Number 1))) → ⊥
+polled_is_told = told_by_request (Mask 0 (Poll (Slot 0) with_finalizer)) refl refl refl refl
 
 pub handled_is_told : LookTheSame (Handle (Raise (Number 0)) None (OnCancel Canceled (Offer 0 (Number 1)))) (OnCancel Canceled (Offer 0 (Number 1))) → ⊥
 handled_is_told = told_by_request (Handle (Raise (Number 0)) None with_finalizer) refl refl refl refl
