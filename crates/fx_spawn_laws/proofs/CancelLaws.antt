@@ -141,12 +141,11 @@ module _ (s : ScriptView) (may : ℕ → Bool) (r : ReportView) where
 
   pub started_in_mask : s.term ≡ masked_start → IsLawfulReport s may r → r.outside ≡ []
       → MainEnds r (Succeeded 0) × FiberEnds r 1 outcome.Canceled
-  started_in_mask is lawful alone =
-      (
-        main_ends s may r lawful (Succeeded 0)
-            (ap (λ (ls : List Label). outcome_shown (events ls)) all_is ∙ masked_wait_comes told masked_after refl asked.labels asked.rest),
-        child_ends lawful (Silent ∷ Starts 1 child ∷ Shows (event.Request 1) ∷ asked.labels) all_is (starts_of 1 (events asked.labels)) refl told,
-      )
+  started_in_mask is lawful alone = (
+    main_ends s may r lawful (Succeeded 0)
+        (ap (λ (ls : List Label). outcome_shown (events ls)) all_is ∙ masked_wait_comes told masked_after refl asked.labels asked.rest),
+    child_ends lawful (Silent ∷ Starts 1 child ∷ Shows (event.Request 1) ∷ asked.labels) all_is (starts_of 1 (events asked.labels)) refl told,
+  )
     where
       entered : GoesTo s r 0 (silently_to masked_inside (Masked 0 (Start 1 Never (Cancel (Slot 1))))) (lawful.runs.labels 0)
       entered =
@@ -174,12 +173,11 @@ module _ (s : ScriptView) (may : ℕ → Bool) (r : ReportView) where
 
   pub canceled_in_mask : s.term ≡ masked_cancel → IsLawfulReport s may r → r.outside ≡ []
       → MainEnds r (Succeeded 0) × FiberEnds r 1 outcome.Canceled
-  canceled_in_mask is lawful alone =
-      (
-        main_ends s may r lawful (Succeeded 0)
-            (ap (λ (ls : List Label). outcome_shown (events ls)) all_is ∙ masked_wait_comes told cancel_inside refl asked.labels asked.rest),
-        child_ends lawful (Starts 1 child ∷ Silent ∷ Shows (event.Request 1) ∷ asked.labels) all_is (starts_of 1 (events asked.labels)) refl told,
-      )
+  canceled_in_mask is lawful alone = (
+    main_ends s may r lawful (Succeeded 0)
+        (ap (λ (ls : List Label). outcome_shown (events ls)) all_is ∙ masked_wait_comes told cancel_inside refl asked.labels asked.rest),
+    child_ends lawful (Starts 1 child ∷ Silent ∷ Shows (event.Request 1) ∷ asked.labels) all_is (starts_of 1 (events asked.labels)) refl told,
+  )
     where
       started : GoesTo s r 0 (started_at cancel_before (Mask 1 (Cancel (Number 1)))) (lawful.runs.labels 0)
       started =
