@@ -17,6 +17,7 @@ pub mod StampedRuns
 pub mod StampedPlaces
 pub mod QueueNumbers
 pub mod Keeping
+pub mod Reach
 pub mod Cancels
 pub mod Telling
 pub mod Bursts

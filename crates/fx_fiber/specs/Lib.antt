@@ -16,6 +16,7 @@ pub mod MakesCall
 pub mod Advances
 pub mod Fiber
 pub mod Cancels
+pub mod Reach
 pub mod Bare
 pub mod MakesStep
 pub mod MakesStart

@@ -175,9 +175,8 @@ impl<P: Port> Fiber<P> {
         self.body.machine.waits_for(code)
     }
 
-    /// The numbers that fibers have whom the fiber can cancel: each `cancel` in what it has left has one of
-    /// these. Some may stand for no fiber, or for one that it cancels no more: they are those of all
-    /// `cancel`s of the code, by the numbers of the names in scope.
+    /// The numbers of those whom the fiber can cancel: each `cancel` in what it has left has one of these.
+    /// There may be more, since one of a fiber that is to be started is read by what its slot has now.
     pub fn cancels(&self, code: &Code) -> Result<Vec<u64>, Memory>
         requires code { code.now.nodes ≡ P.theory.code }
         ensures { IfOk result (λ numbers. CancelsAmong numbers.items (progress P.theory.code self.now)) }
