@@ -50,7 +50,7 @@ fn number_after<J: CodeBrand>(
     let Some(made) = place.step(code, answers)? else {
         return Ok(None);
     };
-    Ok(Some(places.number_of(made.place)?))
+    Ok(Some(places.number_of(made.place, code)?))
 }
 
 /// The first step of the main fiber of a code, made twice.
