@@ -27,7 +27,8 @@ canceled_alone : (t : Term) → must_cancel false t ≡ false → is_open t ≡ 
     → OthersCanSee (record { term = t; next = 1; end = 1 }) (the_end ∷ [])
 canceled_alone t free opened must clean =
     let k = known_canceled c in
-    let unwinds : Leads k (Unwinds (cleanup_terms t)) (the_end ∷ []) k (HasEnded outcome.Canceled) = rw clean (k, HasEnded outcome.Canceled, unwound, (refl, refl)) in
+    let unwinds : Leads k (Unwinds (cleanup_terms t)) (the_end ∷ []) k (HasEnded outcome.Canceled) =
+    rw clean (k, HasEnded outcome.Canceled, unwound, (refl, refl)) in
     record {
       labels = Shows event.Seen ∷ Shows event.Cancelled ∷ the_end ∷ [];
       counts = k;

@@ -1,8 +1,7 @@
 -- The laws of terms of which the one has a part that never runs, so that it may start no fiber: fiber numbers would differ.
-use Rattle.std.proofs.Common.{◌≡◌, ℕ, ◌+◌, Bool, Option, None, List, [], ◌∷◌, refl, sym, ◌∙◌, subst, arith}
+use Rattle.std.proofs.Common.{◌≡◌, ℕ, Bool, Option, None, List, [], ◌∷◌, refl, sym, ◌∙◌, subst, arith}
 use Rattle.fx_term.specs.declared.node.Arg.{Arg}
 use Rattle.fx_term.specs.declared.node.Arg.TheVariants.{Number, Slot}
-use Rattle.fx_term.specs.declared.done.Done.{Done}
 use Rattle.fx_term.specs.declared.done.Done.TheVariants.{Val, Err}
 use Rattle.fx_term.specs.Term.{Term, Pure, Raise, Never, Let, Handle, Finished, put_arg, put}
 use Rattle.fx_term.specs.Need.{need}

@@ -142,7 +142,8 @@ module _ (Pair : Term → Term → Type 0) where
     pub fewer : (b b' : Term) (h : IsFilled Pair b b') → suc (holes h) ≤ n → suc (holes (whole b b' h)) ≤ m
 
 module _ {Pair : Term → Term → Type 0} where
-  abbrev one_more : {xs ys us vs : List CleanupTerm} → AreFilledCleanups Pair xs ys → AreFilledCleanups Pair us vs → AreFilledCleanups Pair (xs ++ us) (ys ++ vs)
+  abbrev one_more : {xs ys us vs : List CleanupTerm} → AreFilledCleanups Pair xs ys → AreFilledCleanups Pair us vs
+      → AreFilledCleanups Pair (xs ++ us) (ys ++ vs)
   one_more none q = q
   one_more (finalizer f p) q = finalizer f (one_more p q)
   one_more (release r p) q = release r (one_more p q)
@@ -166,7 +167,8 @@ module _ {Pair : Term → Term → Type 0} where
   with_release : (k : ℕ) {xs ys : List CleanupTerm} {f f' : Term} {n : ℕ} → AreCleanups Pair xs ys n → (q : IsFilled Pair f f')
       → AreCleanups Pair (xs ++ Release k f ∷ []) (ys ++ Release k f' ∷ []) (n + holes q)
   with_release k s q =
-      record { filled = one_more s.filled (release {k = k} q none); few = let e = one_more_holes s.filled (release {k = k} q none) in let h = s.few in omega arith }
+      let last : AreFilledCleanups Pair (Release k _ ∷ []) (Release k _ ∷ []) = release {k = k} q none in
+      record { filled = one_more s.filled last; few = let e = one_more_holes s.filled last in let h = s.few in omega arith }
 
   more_room : {xs ys : List CleanupTerm} {n m : ℕ} → n ≤ m → AreCleanups Pair xs ys n → AreCleanups Pair xs ys m
   more_room h s = record { filled = s.filled; few = let e = s.few in omega arith }

@@ -69,7 +69,16 @@ module _ (Pair : Term → Term → Type 0) (puts : (x n : ℕ) (t u : Term) → 
   inside : (f : Context) {a u : Term} (p : AreAlong Pair (plug f a) u) → IsInside f a u (holes_along p)
   inside (LetIn x b) {a} along.same = inside_same (LetIn x b) a
   inside (LetIn x b) (along.let_ {b' = b'} p q) =
-      record { context = LetIn x b'; part = _; is = refl; parts = p; rest = holes q; count_is = refl; whole = λ b b' h. filled.let_ h q; whole_is = λ b b' h. refl }
+      record {
+        context = LetIn x b';
+        part = _;
+        is = refl;
+        parts = p;
+        rest = holes q;
+        count_is = refl;
+        whole = λ b b' h. filled.let_ h q;
+        whole_is = λ b b' h. refl;
+      }
   inside (HandleIn x b) {a} along.same = inside_same (HandleIn x b) a
   inside (HandleIn x b) (along.handle {b' = b'} p q) =
       record {
@@ -233,7 +242,8 @@ module _ (Pair : Term → Term → Type 0) (puts : (x n : ℕ) (t u : Term) → 
       let f = put_holes puts x n r in
       let g = put_holes puts x n s in
       let h = put_holes puts x n w in
-      by_row row.acquired_case (filled.in_use_case (put_filled puts x n q) (put_filled puts x n r) (put_filled puts x n s) (put_filled puts x n w)) (omega arith)
+      by_row row.acquired_case (filled.in_use_case (put_filled puts x n q) (put_filled puts x n r) (put_filled puts x n s) (put_filled puts x n w))
+      (omega arith)
   row_filled row.acquire_case_fails (along.bracket_case along.same q r s w) = by_row row.acquire_case_fails filled.same (omega arith)
   row_filled row.used (along.in_use along.same q) = by_row row.used (filled.in_release q) (omega arith)
   row_filled (row.use_succeeded {y = y} {n = n}) (along.in_use_case along.same q r s) =

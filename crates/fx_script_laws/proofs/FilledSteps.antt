@@ -47,7 +47,8 @@ module _ {Pair : Term → Term → Type 0} (puts : (x n : ℕ) (t u : Term) → 
       → StepIsFilled Pair c q l d m n
   same_step {m' = m'} {l = l} s f few = record { label = l; progress = m'; step = s; like = itself; is_filled = f; few = few }
 
-  runs_on : {c d : Counts} {u : Term} {l : Label} {t' : Term} {n : ℕ} → must_cancel c.known u ≡ false → RowIsFilled Pair puts needs (not (is_open u)) c u l d t' n
+  runs_on : {c d : Counts} {u : Term} {l : Label} {t' : Term} {n : ℕ} → must_cancel c.known u ≡ false
+      → RowIsFilled Pair puts needs (not (is_open u)) c u l d t' n
       → StepIsFilled Pair c (Runs u) l d (Runs t') n
   runs_on free r = record { label = r.label; progress = Runs r.term; step = step.row free r.row; like = r.like; is_filled = runs r.is_filled; few = r.few }
 

@@ -9,7 +9,8 @@ use Rattle.fx_model.specs.Step.{Progress, Step}
 use Rattle.fx_model.specs.Run.{Leads, shown}
 use Rattle.fx_model.specs.Outside.{Outside, leaf_can_step}
 use Rattle.fx_laws.specs.Everywhere.{placed}
-use Rattle.fx_laws.proofs.Placed.{around, closed_placed, leaf_placed, cleanups_placed, result_placed, row_placed, RowOfPlaced, moves_in, result_in, row_of_placed}
+use Rattle.fx_laws.proofs.Placed.{around, closed_placed, leaf_placed, cleanups_placed, result_placed, row_placed, RowOfPlaced, moves_in, result_in}
+use Rattle.fx_laws.proofs.Placed.{row_of_placed}
 use Rattle.fx_laws.proofs.SamePlaces.{IsSamePlace}
 use Rattle.fx_laws.proofs.SilentRows.{LeadsSilently}
 use Rattle.fx_laws.proofs.Showing.{shown_more}
@@ -157,7 +158,8 @@ module _ {at : Term → Progress} {closed : Term → Bool} {IsFree : Counts → 
         (shorter t1 (after k c e l t1 r) (next k c e l t1 r) e d q rest ends)
     row_comes {t1 = t1} {l = l} {e = e} (inside gs hs closes clean results x) free r rest =
         inside_comes gs hs l closes clean results e (row_of_placed gs x r) refl free rest
-        (λ w is. subst (λ (z : Term). IsFree c (placed gs z) → Row (closed (placed gs z)) c (placed gs z) l e t1 → CanComeTo Ends c (at (placed hs z)) (shown (l ∷ ls))) is
+        (λ w is. subst (λ (z : Term). IsFree c (placed gs z) → Row (closed (placed gs z)) c (placed gs z) l e t1
+        → CanComeTo Ends c (at (placed hs z)) (shown (l ∷ ls))) is
         (λ free' r'. row_comes (results w) free' r' rest) free r)
 
     -- the term is a result

@@ -139,8 +139,10 @@ canceled_each t u (canceled_first a) =
     let handled = one_leads (leads_placed (LetIn None a ∷ []) (handle_value_leads None 0 (Pure (Number 0)))) (spot_by (λ outer. refl) refl refl (λ o. refl))
     (itself (Let None (Finished (Val 0)) a)) in
     record {
-      to = canceled_follows (LetIn None a ∷ HandleIn None (Pure (Number 0)) ∷ []) (LetIn None a ∷ []) (spot_by (λ outer. refl) refl refl (λ o. refl)) handled.to;
-      from = canceled_follows (LetIn None a ∷ []) (LetIn None a ∷ HandleIn None (Pure (Number 0)) ∷ []) (spot_by (λ outer. refl) refl refl (λ o. refl)) handled.from;
+      to = canceled_follows (LetIn None a ∷ HandleIn None (Pure (Number 0)) ∷ []) (LetIn None a ∷ []) (spot_by (λ outer. refl) refl refl (λ o. refl))
+          handled.to;
+      from = canceled_follows (LetIn None a ∷ []) (LetIn None a ∷ HandleIn None (Pure (Number 0)) ∷ []) (spot_by (λ outer. refl) refl refl (λ o. refl))
+          handled.from;
     }
 
 pub forced_canceled : (a : Term) → AreInterchangeable (forced_after Canceled a) (Let None Canceled a)

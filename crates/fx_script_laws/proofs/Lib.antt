@@ -13,3 +13,4 @@ pub mod EachFollows
 pub mod LawsInScripts
 pub mod PutNeeds
 pub mod EndsInScripts
+pub mod ExampleScripts

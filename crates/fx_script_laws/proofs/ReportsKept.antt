@@ -1,23 +1,27 @@
 -- Each lawful report of the one script is one of the other.
-use Rattle.std.proofs.Common.{◌≡◌, ◌≢◌, ℕ, zero, suc, ◌+◌, ◌==◌, ◌<◌, ◌≤◌, Bool, true, false, if◌then◌else◌, Option, Some, None, List, [], All, refl, sym, ◌∙◌, ap, subst, arith, inl, inr}
-use Rattle.std.specs.Prelude.{length, slice_index}
+use Rattle.std.proofs.Common.{◌≡◌, ◌≢◌, ℕ, zero, suc, ◌+◌, ◌==◌, ◌<◌, ◌≤◌, Bool, true, false, if◌then◌else◌, Option, Some, None, List, [], All}
+use Rattle.std.proofs.Common.{refl, sym, ◌∙◌, ap, subst, arith, inl, inr}
+use Rattle.std.specs.Prelude.{length, slice_get}
 use Rattle.std.proofs.lemmas.Bool.{eqb-true, cases_eq}
 use Rattle.std.proofs.lemmas.Option.{none-some, same_Some}
+use Rattle.fx_term.specs.declared.outcome.Outcome.{Outcome}
+use Rattle.fx_term.specs.declared.event.Event.{Event}
 use Rattle.fx_term.specs.Term.{Term, put}
 use Rattle.fx_term.specs.Need.{need}
 use Rattle.fx_term.specs.Script.{ScriptView}
-use Rattle.fx_model.specs.Row.{Counts, Label}
+use Rattle.fx_model.specs.Row.{Counts, Label, Learns}
 use Rattle.fx_model.specs.Origin.{Origin, main_origin}
 use Rattle.fx_model.specs.Step.{Progress, Runs, has_ended}
 use Rattle.fx_model.specs.Run.{first_counts, IsRun, shown, events}
 use Rattle.fx_model.specs.Outside.{Outside, can_step}
-use Rattle.fx_model.specs.Report.{FiberReportView, ReportView, fiber_in, parent_in, parent_of_report, final_outside}
-use Rattle.fx_model.specs.LawfulReport.{starts_of, is_parent, HasRun, HasRuns, BeginsAs, HasOrigins, HasHistory, IsLearnt, IsSeenRightly}
-use Rattle.fx_model.specs.LawfulReport.{IsLawfulReport}
+use Rattle.fx_model.specs.Report.{FiberReportView, ReportView, fiber_in, parent_in, trace_in, parent_of_report, trace_of_report, final_outside}
+use Rattle.fx_model.specs.LawfulReport.{starts_of, is_parent, HasRun, HasRuns, BeginsAs, HasOrigins, IsLearnt, IsSeenRightly, IsLawfulReport}
+use Rattle.fx_model.specs.Causes.{IsEvent, Needs, taken_element, end_of_other, start, LeavesQueue, CausesComeFirst, IsLawfulInOneOrder}
+use Rattle.fx_model.specs.Happenings.{IsLawfulInOneList}
 use Rattle.fx_model.proofs.StartLaws.{run_starts}
 use Rattle.fx_model.proofs.HeadlineLaws.{started_once, child_begins, numbers_above}
 use Rattle.fx_script_laws.specs.Filled.{IsFilled}
-use Rattle.fx_script_laws.specs.Interchange.{StopsThere, CanComeLike, AreFilledOrigins, AreFilledLabels, itself, starts, AllFilled}
+use Rattle.fx_script_laws.specs.Interchange.{StopsThere, CanComeLike, AreFilledOrigins, AreFilledLabels, itself, starts, AllFilled, none, more}
 use Rattle.fx_script_laws.proofs.Holes.{filled_need}
 use Rattle.fx_script_laws.proofs.FilledSteps.{runs}
 use Rattle.fx_script_laws.proofs.Interchanged.{AreEndsKept, PairsCome, filled_come}
@@ -37,8 +41,11 @@ module _ {Pair : Term → Term → Type 0} (puts : (x n : ℕ) (t u : Term) → 
       (filled_come puts needs (kept o f (has_ended p)) (pairs o f (has_ended p)) (first_counts b) (Runs b.term) (Runs b'.term) (runs s.term) ls c p run
       (unable, refl))
 
-  module _ (s s' : ScriptView) (may : ℕ → Bool) (r : ReportView) (lawful : IsLawfulReport s may r) (terms : IsFilled Pair s.term s'.term)
-      (capacities : s.capacities ≡ s'.capacities) where
+  module _ (s : ScriptView) (other : Term) (may : ℕ → Bool) (r : ReportView) (lawful : IsLawfulReport s may r) (terms : IsFilled Pair s.term other) where
+    -- the script with the other term
+    abbrev s' : ScriptView
+    s' = record { term = other; capacities = s.capacities }
+
     abbrev outside : Outside
     outside = final_outside s r
 
@@ -70,7 +77,8 @@ module _ {Pair : Term → Term → Type 0} (puts : (x n : ℕ) (t u : Term) → 
           }
       by_fiber (Some x) e =
           let h = lawful.runs.run f x e in
-          let k = run_too outside f (lawful.runs.origin f) b (begins x e) (lawful.runs.labels f) (lawful.runs.counts f) (lawful.runs.progress f) h.run h.unable in
+          let k = run_too outside f (lawful.runs.origin f) b (begins x e) (lawful.runs.labels f) (lawful.runs.counts f) (lawful.runs.progress f) h.run
+          h.unable in
           record {
             origin = b;
             labels = k.labels;
@@ -89,14 +97,14 @@ module _ {Pair : Term → Term → Type 0} (puts : (x n : ℕ) (t u : Term) → 
       from_here_origin : from_here.origin ≡ b
       from_here_origin = by_fiber_origin (fiber_in r f) refl
 
-    main_begins : AreFilledOrigins Pair (lawful.runs.origin 0) (main_origin s'.term)
+    main_begins : AreFilledOrigins Pair (lawful.runs.origin 0) (main_origin other)
     main_begins =
-        let same : need s.term ≡ need s'.term = filled_need needs terms in
-        let at : AreFilledOrigins Pair (main_origin s.term) (main_origin s'.term) = record { term = terms; next_is = refl; end_is = rw same refl } in
-        subst (λ (b : Origin). AreFilledOrigins Pair b (main_origin s'.term)) (sym lawful.origins.main) at
+        let same : need s.term ≡ need other = filled_need needs terms in
+        let at : AreFilledOrigins Pair (main_origin s.term) (main_origin other) = record { term = terms; next_is = refl; end_is = rw same refl } in
+        subst (λ (b : Origin). AreFilledOrigins Pair b (main_origin other)) (sym lawful.origins.main) at
 
     abbrev main_run : NewRun 0
-    main_run = from_here 0 (main_origin s'.term) (λ x at. main_begins)
+    main_run = from_here 0 (main_origin other) (λ x at. main_begins)
 
     -- what a child begins with, by the labels of its parent
     abbrev or_else : Origin → Option Origin → Origin
@@ -230,11 +238,8 @@ module _ {Pair : Term → Term → Type 0} (puts : (x n : ℕ) (t u : Term) → 
         parent_origin (suc f) (not_main f) (parent_in r (suc f)) refl p is (λ q h. run_within (suc f) q (earlier (suc f) (suc f) q (itself_below (suc f)) h))
         (λ q e h. same_within (suc f) (suc f) p q e (earlier (suc f) (suc f) q (itself_below (suc f)) h))
 
-    main_origin_is : (run_of 0).origin ≡ main_origin s'.term
-    main_origin_is = from_here_origin 0 (main_origin s'.term) (λ x at. main_begins)
-
-    same_outside : final_outside s r ≡ final_outside s' r
-    same_outside = ap (λ (cs : List ℕ). final_outside (record { term = s.term; capacities = cs }) r) capacities
+    main_origin_is : (run_of 0).origin ≡ main_origin other
+    main_origin_is = from_here_origin 0 (main_origin other) (λ x at. main_begins)
 
     trace_too : (f : ℕ) (x : FiberReportView) → fiber_in r f ≡ Some x → events (run_of f).labels ≡ x.trace
     trace_too f x at =
@@ -248,7 +253,7 @@ module _ {Pair : Term → Term → Type 0} (puts : (x n : ℕ) (t u : Term) → 
           run = k.run;
           trace = trace_too f x at;
           state = k.state ∙ (lawful.runs.run f x at).state;
-          unable = ap (λ (o : Outside). can_step o f (run_of f).counts (run_of f).progress) (sym same_outside) ∙ k.unable;
+          unable = k.unable;
         }
 
     abbrev new_runs : HasRuns s' r
@@ -285,7 +290,8 @@ module _ {Pair : Term → Term → Type 0} (puts : (x n : ℕ) (t u : Term) → 
         begins f x at =
             all_begin (λ g. (run_of g).origin) (run_of f).labels
             (λ g. started_by g f (starts_of g (events (run_of f).labels)) (is_parent (parent_in r g) f) refl (once f x at g))
-            (λ g b e. let many : 1 ≤ (if is_parent (parent_in r g) f then 1 else 0) = subst (λ (n : ℕ). 1 ≤ n) (once f x at g) (traced g b (run_of f).labels e) in
+            (λ g b e. let many : 1 ≤ (if is_parent (parent_in r g) f then 1 else 0) =
+            subst (λ (n : ℕ). 1 ≤ n) (once f x at g) (traced g b (run_of f).labels e) in
             let is = is_started_by g f (parent_in r g) refl many in
             child_origin_is g f is ∙ found_is g f (run_of f) b e)
 
@@ -297,18 +303,77 @@ module _ {Pair : Term → Term → Type 0} (puts : (x n : ℕ) (t u : Term) → 
     seen_like f l l' itself h = h
     seen_like f l l' (starts s) h = tt
 
-    pub report_kept : IsLawfulReport s' may r
-    report_kept =
-        let same : need s.term ≡ need s'.term = filled_need needs terms in
+    abbrev report_here : IsLawfulReport s' may r
+    report_here =
         record {
           starters = lawful.starters;
           runs = new_runs;
           origins = new_origins;
-          left_by_queue = lawful.left_by_queue ∙ ap (λ (cs : List ℕ). length cs) capacities;
-          histories = λ q. subst (λ (cs : List ℕ). HasHistory r q (slice_index cs q)) capacities (lawful.histories q);
-          learnt = λ f x at. all_kept (IsLearnt r) Pair learnt_like tt (lawful.runs.labels f) (run_of f).labels ((run_of f).told x at).like (lawful.learnt f x at);
+          left_by_queue = lawful.left_by_queue;
+          histories = lawful.histories;
+          learnt = λ f x at.
+              all_kept (IsLearnt r) Pair learnt_like tt (lawful.runs.labels f) (run_of f).labels ((run_of f).told x at).like (lawful.learnt f x at);
           seen = λ f x at.
               all_kept (IsSeenRightly r f) Pair (seen_like f) tt (lawful.runs.labels f) (run_of f).labels ((run_of f).told x at).like (lawful.seen f x at);
           outside_ascending = lawful.outside_ascending;
-          outside_named = λ f h. let k = lawful.outside_named f h in (subst (λ (n : ℕ). f < 1 + n) same k.0, k.1);
+          outside_named = λ f h. let k = lawful.outside_named f h in (subst (λ (n : ℕ). f < 1 + n) (filled_need needs terms) k.0, k.1);
         }
+
+    -- the events that learn of an end are the same
+    learns_at : {ls ls' : List Label} → AllFilled Pair ls ls' → (i g : ℕ) (o : Outcome) (e : Event) → slice_get ls' i ≡ Some (Learns g o e)
+        → slice_get ls i ≡ Some (Learns g o e)
+    learns_at none i g o e at = at
+    learns_at (more itself q) zero g o e at = at
+    learns_at (more (starts s) q) zero g o e at = absurd cc
+    learns_at (more p q) (suc i) g o e at = learns_at q i g o e at
+
+    is_told : (f i : ℕ) → IsEvent (trace_in r) f i → (x : FiberReportView) × (fiber_in r f ≡ Some x)
+    is_told f i h = by_report (fiber_in r f) refl
+      where
+        by_report : (v : Option FiberReportView) → fiber_in r f ≡ v → (x : FiberReportView) × (fiber_in r f ≡ Some x)
+        by_report None e = absurd (let k : i < length (trace_of_report None) = subst (λ (w : Option FiberReportView). i < length (trace_of_report w)) e h in
+            omega (arith, k))
+        by_report (Some x) e = (x, e)
+
+    needs_too : (f i g j : ℕ) → IsEvent (trace_in r) f i → Needs (trace_in r) (λ h. (run_of h).labels) (LeavesQueue s may r lawful) f i g j
+        → Needs (trace_in r) lawful.runs.labels (LeavesQueue s may r lawful) f i g j
+    needs_too f i g j h (taken_element t) = taken_element t
+    needs_too f i g j h (end_of_other t) =
+        let x = is_told f i h in
+        end_of_other (record {
+          outcome = t.outcome;
+          learning = t.learning;
+          learns = learns_at ((run_of f).told x.0 x.1).like i g t.outcome t.learning t.learns;
+          tells = t.tells;
+          ended = t.ended;
+        })
+    needs_too f i g j h (start e k) = start e k
+
+    -- an order of all events in which causes come first is one still
+    abbrev causes_here : CausesComeFirst s may r lawful → CausesComeFirst s' may r report_here
+    causes_here c =
+        record {
+          moment = c.moment;
+          in_order = record {
+            distinct = c.in_order.distinct;
+            keeps = c.in_order.keeps;
+            needed = λ f i g j h k n. c.in_order.needed f i g j h k (needs_too f i g j h n);
+            requested = c.in_order.requested;
+          };
+        }
+
+  module _ (s : ScriptView) (other : Term) (may : ℕ → Bool) (r : ReportView) (terms : IsFilled Pair s.term other) where
+    abbrev pub with_other : ScriptView
+    with_other = record { term = other; capacities = s.capacities }
+
+    pub report_kept : IsLawfulReport s may r → IsLawfulReport with_other may r
+    report_kept lawful = report_here s other may r lawful terms
+
+    abbrev order_here : IsLawfulInOneOrder s may r → IsLawfulInOneOrder with_other may r
+    order_here h = record { lawful = report_here s other may r h.lawful terms; causes = causes_here s other may r h.lawful terms h.causes }
+
+    pub order_kept : IsLawfulInOneOrder s may r → IsLawfulInOneOrder with_other may r
+    order_kept h = order_here h
+
+    pub list_kept : IsLawfulInOneList s may r → IsLawfulInOneList with_other may r
+    list_kept h = record { in_order = order_here h.in_order; list = h.list; listed = h.listed }

@@ -1,16 +1,18 @@
 -- Two scripts with such terms put for one another have the same lawful reports.
-use Rattle.std.proofs.Common.{◌≡◌, ℕ, Bool, true, false, None, sym}
+use Rattle.std.proofs.Common.{◌≡◌, ℕ, Bool, true, false, None, List, sym, ap, subst}
 use Rattle.std.specs.Prelude.{◌↔◌}
 use Rattle.fx_term.specs.Term.{Term}
 use Rattle.fx_term.specs.Script.{ScriptView}
 use Rattle.fx_model.specs.Outside.{Outside}
 use Rattle.fx_model.specs.LawfulReport.{IsLawfulReport}
 use Rattle.fx_model.specs.Report.{ReportView}
+use Rattle.fx_model.specs.Causes.{IsLawfulInOneOrder}
+use Rattle.fx_model.specs.Happenings.{IsLawfulInOneList}
 use Rattle.fx_script_laws.specs.Filled.{IsFilled}
 use Rattle.fx_script_laws.specs.Filled as filled
 use Rattle.fx_script_laws.specs.Interchange.{StopsThere, HoldsEverywhere, EitherWay, as_is, turned, AreTheTwo, WaitForTheSameWithNumbers, IsWithOther}
 use Rattle.fx_script_laws.proofs.WholeTerms.{stops_kept, either_puts, either_needs, either_come, waited_law}
-use Rattle.fx_script_laws.proofs.ReportsKept.{report_kept}
+use Rattle.fx_script_laws.proofs.ReportsKept.{report_kept, order_kept, list_kept}
 
 module _ {Pair : Term → Term → Type 0} where
   turned_pair : {t u : Term} → EitherWay Pair t u → EitherWay Pair u t
@@ -44,15 +46,43 @@ module _ (t u : Term) (same : WaitForTheSameWithNumbers t u) where
   abbrev law : (o : Outside) (f : ℕ) (ended : Bool) → HoldsEverywhere (StopsThere o f ended) (AreTheTwo t u)
   law o f ended = waited_law t u o f ended same
 
-  one_way : (s z : ScriptView) (may : ℕ → Bool) (r : ReportView) → IsWithOther t u s.term z.term → s.capacities ≡ z.capacities → IsLawfulReport s may r
-      → IsLawfulReport z may r
-  one_way s z may r terms capacities lawful =
-      report_kept (either_puts (law o0 0 true)) (either_needs (law o0 0 true)) stops_kept (λ o f ended. either_come (law o f ended)) s z may r lawful terms
-      capacities
-    where
-      o0 : Outside
-      o0 = record { outcome = λ f. None; has_room = λ q. false; has_element = λ q. false; is_requested = λ f. false }
+  nothing_outside : Outside
+  nothing_outside = record { outcome = λ f. None; has_room = λ q. false; has_element = λ q. false; is_requested = λ f. false }
 
-  pub same_reports : (s z : ScriptView) (may : ℕ → Bool) (r : ReportView) → IsWithOther t u s.term z.term → s.capacities ≡ z.capacities
-      → IsLawfulReport s may r ↔ IsLawfulReport z may r
-  same_reports s z may r terms capacities = (one_way s z may r terms capacities, one_way z s may r (turned_filled terms) (sym capacities))
+  any : HoldsEverywhere (StopsThere nothing_outside 0 true) (AreTheTwo t u)
+  any = law nothing_outside 0 true
+
+  kept : (s : ScriptView) (b : Term) (may : ℕ → Bool) (r : ReportView) → IsWithOther t u s.term b → IsLawfulReport s may r
+      → IsLawfulReport (record { term = b; capacities = s.capacities }) may r
+  kept = report_kept (either_puts any) (either_needs any) stops_kept (λ o f ended. either_come (law o f ended))
+
+  in_order_too : (s : ScriptView) (b : Term) (may : ℕ → Bool) (r : ReportView) → IsWithOther t u s.term b → IsLawfulInOneOrder s may r
+      → IsLawfulInOneOrder (record { term = b; capacities = s.capacities }) may r
+  in_order_too = order_kept (either_puts any) (either_needs any) stops_kept (λ o f ended. either_come (law o f ended))
+
+  in_list_too : (s : ScriptView) (b : Term) (may : ℕ → Bool) (r : ReportView) → IsWithOther t u s.term b → IsLawfulInOneList s may r
+      → IsLawfulInOneList (record { term = b; capacities = s.capacities }) may r
+  in_list_too = list_kept (either_puts any) (either_needs any) stops_kept (λ o f ended. either_come (law o f ended))
+
+  module _ (s z : ScriptView) (may : ℕ → Bool) (r : ReportView) (terms : IsWithOther t u s.term z.term) (capacities : s.capacities ≡ z.capacities) where
+    same_script : record { term = z.term; capacities = s.capacities } ≡ z
+    same_script = ap (λ (cs : List ℕ). record { term = z.term; capacities = cs }) capacities
+
+    report_too : IsLawfulReport s may r → IsLawfulReport z may r
+    report_too h = subst (λ (x : ScriptView). IsLawfulReport x may r) same_script (kept s z.term may r terms h)
+
+    order_too : IsLawfulInOneOrder s may r → IsLawfulInOneOrder z may r
+    order_too h = subst (λ (x : ScriptView). IsLawfulInOneOrder x may r) same_script (in_order_too s z.term may r terms h)
+
+    list_too : IsLawfulInOneList s may r → IsLawfulInOneList z may r
+    list_too h = subst (λ (x : ScriptView). IsLawfulInOneList x may r) same_script (in_list_too s z.term may r terms h)
+
+  module _ (s z : ScriptView) (may : ℕ → Bool) (r : ReportView) (terms : IsWithOther t u s.term z.term) (capacities : s.capacities ≡ z.capacities) where
+    pub same_reports : IsLawfulReport s may r ↔ IsLawfulReport z may r
+    same_reports = (report_too s z may r terms capacities, report_too z s may r (turned_filled terms) (sym capacities))
+
+    pub same_orders : IsLawfulInOneOrder s may r ↔ IsLawfulInOneOrder z may r
+    same_orders = (order_too s z may r terms capacities, order_too z s may r (turned_filled terms) (sym capacities))
+
+    pub same_lists : IsLawfulInOneList s may r ↔ IsLawfulInOneList z may r
+    same_lists = (list_too s z may r terms capacities, list_too z s may r (turned_filled terms) (sym capacities))

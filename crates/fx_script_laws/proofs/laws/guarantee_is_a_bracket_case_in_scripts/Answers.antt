@@ -1,5 +1,5 @@
 use Rattle.fx_script_laws.proofs.LawsInScripts.{guarantee_of_one_release}
-use Rattle.fx_script_laws.proofs.laws.guarantee_is_a_bracket_case_of_one_release.Goals as goal
+use Rattle.fx_script_laws.proofs.laws.guarantee_is_a_bracket_case_in_scripts.Goals as goal
 
 pub returns : goal.returns
 returns c = guarantee_of_one_release

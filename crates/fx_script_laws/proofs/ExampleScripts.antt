@@ -1,0 +1,48 @@
+-- Two laws, written out for scripts.
+use Rattle.std.proofs.Common.{ℕ, Bool, Option, None, List, [], refl}
+use Rattle.std.specs.Prelude.{◌↔◌}
+use Rattle.fx_term.specs.declared.node.Arg.TheVariants.{Number}
+use Rattle.fx_term.specs.declared.name_kind.NameKind.{NameKind}
+use Rattle.fx_term.specs.declared.name_kind.NameKind.TheVariants as kind
+use Rattle.fx_term.specs.Scope.{with_name, IsScoped}
+use Rattle.fx_term.specs.Term.{Term, Start, OnCancel, For, Mask, Let, Pure, Bracket, BracketCase}
+use Rattle.fx_model.specs.MaskLaws.{forced_after}
+use Rattle.fx_model.specs.Report.{ReportView}
+use Rattle.fx_model.specs.LawfulReport.{IsLawfulReport}
+use Rattle.fx_laws.specs.Names.{without_names}
+use Rattle.fx_script_laws.specs.Filled as filled
+use Rattle.fx_script_laws.specs.Interchange.{as_is, with_numbers, IsWithOther}
+use Rattle.fx_script_laws.proofs.SameReports.{same_reports}
+use Rattle.fx_script_laws.proofs.LawsInScripts.{forced_in_order, guarantee_of_one_release}
+
+-- the two terms themselves
+here : (t u : Term) → IsWithOther t u t u
+here t u = filled.pair (as_is (with_numbers []))
+
+pub either_order : (i n : ℕ) (a b f d : Term) (capacities : List ℕ) (may : ℕ → Bool) (r : ReportView)
+    → IsLawfulReport (record {
+      term = Start 0 (OnCancel (For i n (forced_after a (forced_after b f))) (forced_after a (forced_after b f))) d;
+      capacities = capacities;
+    }) may r
+    ↔ IsLawfulReport (record {
+      term = Start 0 (OnCancel (For i n (forced_after (forced_after a b) f)) (forced_after (forced_after a b) f)) d;
+      capacities = capacities;
+    }) may r
+either_order i n a b f d capacities may r =
+    let t = forced_after a (forced_after b f) in
+    let u = forced_after (forced_after a b) f in
+    same_reports t u (forced_in_order a b f).waits (record { term = Start 0 (OnCancel (For i n t) t) d; capacities = capacities })
+    (record { term = Start 0 (OnCancel (For i n u) u) d; capacities = capacities }) may r
+    (filled.start (filled.oncancel (filled.for_ (here t u)) (here t u)) filled.same) refl
+
+pub guaranteed : (scope : ℕ → Option NameKind) (p x y e : ℕ) (a f b c : Term) (capacities : List ℕ) (may : ℕ → Bool) (r : ReportView)
+    → IsScoped (with_name x kind.OtherPoll scope) a → IsScoped (without_names scope x y e) f
+    → IsLawfulReport (record { term = Mask p (Let None b (Let None (Bracket None (Pure (Number 0)) a f) c)); capacities = capacities }) may r
+    ↔ IsLawfulReport (record { term = Mask p (Let None b (Let None (BracketCase x (Pure (Number 0)) a y f e f f) c)); capacities = capacities }) may r
+guaranteed scope p x y e a f b c capacities may r scoped_a scoped_f =
+    let t = Bracket None (Pure (Number 0)) a f in
+    let u = BracketCase x (Pure (Number 0)) a y f e f f in
+    same_reports t u (guarantee_of_one_release scope x y e a f scoped_a scoped_f).waits
+    (record { term = Mask p (Let None b (Let None t c)); capacities = capacities })
+    (record { term = Mask p (Let None b (Let None u c)); capacities = capacities }) may r
+    (filled.mask (filled.let_ filled.same (filled.let_ (here t u) filled.same))) refl
