@@ -1,5 +1,5 @@
 -- Terms of which each follows the other.
-use Rattle.std.proofs.Common.{◌≡◌, ℕ, Bool, List, [], ◌∷◌, sym}
+use Rattle.std.proofs.Common.{◌≡◌, ℕ, Bool, false, List, [], ◌∷◌, sym}
 use Rattle.fx_term.specs.declared.done.Done.{Done}
 use Rattle.fx_term.specs.Term.{Term, Finished, put}
 use Rattle.fx_term.specs.Need.{need}
@@ -11,7 +11,8 @@ use Rattle.fx_laws.specs.Everywhere.{placed, ShowTheSameEverywhere}
 use Rattle.fx_laws.proofs.Placed.{around}
 use Rattle.fx_laws.proofs.SilentRows.{LeadsSilently}
 use Rattle.fx_laws.proofs.SteppedAlike.{LeadsBy}
-use Rattle.fx_script_laws.specs.Interchange.{Anywhere, StopsThere, ComeToTheSame, put_each, AreInterchangeable}
+use Rattle.fx_script_laws.specs.Interchange.{Anywhere, StopsThere, ComeToTheSame, AreOthers, put_each, AreInterchangeable}
+use Rattle.fx_script_laws.specs.Filled.{none_bound}
 use Rattle.fx_script_laws.proofs.Followed.{IsSameSpot, spot_turned, IsFollowed, same, sooner, later, by_row, inside}
 use Rattle.fx_script_laws.proofs.FollowedPlaces.{anywhere_told, stops_told, both_come}
 use Rattle.fx_script_laws.proofs.WholeTerms.{come_is_shown}
@@ -74,15 +75,15 @@ both_inside gs hs closed clean ends x =
       from = inside hs gs (λ outer. sym (closed outer)) (λ xs. sym (clean xs)) (λ w. (ends w).from) x;
     }
 
--- pairs of terms that stay such pairs whatever numbers stand for their names
-module _ (Pair : Term → Term → Type 0) (puts : (x n : ℕ) (t u : Term) → Pair t u → Pair (put x n t) (put x n u))
+-- pairs of terms that stay such pairs whatever numbers stand for their names, but their own ones
+module _ (own : ℕ → Bool) (Pair : Term → Term → Type 0) (puts : (x n : ℕ) (t u : Term) → own x ≡ false → Pair t u → Pair (put x n t) (put x n u))
     (needs : (t u : Term) → Pair t u → need t ≡ need u) (follows : (t u : Term) → Pair t u → EachFollows t u) where
-  numbered : (numbers : List (ℕ × ℕ)) (t u : Term) → Pair t u → Pair (put_each numbers t) (put_each numbers u)
-  numbered [] t u p = p
-  numbered (b ∷ bs) t u p = numbered bs (put b.0 b.1 t) (put b.0 b.1 u) (puts b.0 b.1 t u p)
+  numbered : (numbers : List (ℕ × ℕ)) → AreOthers own numbers → (t u : Term) → Pair t u → Pair (put_each numbers t) (put_each numbers u)
+  numbered [] h t u p = p
+  numbered (b ∷ bs) h t u p = numbered bs h.1 (put b.0 b.1 t) (put b.0 b.1 u) (puts b.0 b.1 t u h.0 p)
 
-  needed : (t u : Term) → Pair t u → (numbers : List (ℕ × ℕ)) → need (put_each numbers t) ≡ need (put_each numbers u)
-  needed t u p numbers = needs (put_each numbers t) (put_each numbers u) (numbered numbers t u p)
+  needed : (t u : Term) → Pair t u → (numbers : List (ℕ × ℕ)) → AreOthers own numbers → need (put_each numbers t) ≡ need (put_each numbers u)
+  needed t u p numbers h = needs (put_each numbers t) (put_each numbers u) (numbered numbers h t u p)
 
   shown_same : (t u : Term) → Pair t u → ShowTheSameEverywhere t u
   shown_same t u p = let f = follows t u p in come_is_shown t u (both_come Anywhere anywhere_told t u f.to f.from)
@@ -90,15 +91,21 @@ module _ (Pair : Term → Term → Type 0) (puts : (x n : ℕ) (t u : Term) → 
   waits_same : (t u : Term) → Pair t u → (o : Outside) (g : ℕ) (ended : Bool) → ComeToTheSame (StopsThere o g ended) t u
   waits_same t u p o g ended = let f = follows t u p in both_come (StopsThere o g ended) (stops_told o g ended) t u f.to f.from
 
-  pub interchangeable : (t u : Term) → Pair t u → AreInterchangeable t u
-  interchangeable t u p =
+  pub interchangeable_but : (t u : Term) → Pair t u → AreInterchangeable own t u
+  interchangeable_but t u p =
       record {
         shows = record {
           needs = needed t u p;
-          shows = λ numbers. shown_same (put_each numbers t) (put_each numbers u) (numbered numbers t u p);
+          shows = λ numbers h. shown_same (put_each numbers t) (put_each numbers u) (numbered numbers h t u p);
         };
         waits = record {
           needs = needed t u p;
-          waits = λ numbers. waits_same (put_each numbers t) (put_each numbers u) (numbered numbers t u p);
+          waits = λ numbers h. waits_same (put_each numbers t) (put_each numbers u) (numbered numbers h t u p);
         };
       }
+
+-- where no name is their own
+pub interchangeable : (Pair : Term → Term → Type 0) → ((x n : ℕ) (t u : Term) → Pair t u → Pair (put x n t) (put x n u))
+    → ((t u : Term) → Pair t u → need t ≡ need u) → ((t u : Term) → Pair t u → EachFollows t u) → (t u : Term) → Pair t u
+    → AreInterchangeable none_bound t u
+interchangeable Pair puts needs follows = interchangeable_but none_bound Pair (λ x n t u h p. puts x n t u p) needs follows

@@ -13,6 +13,7 @@ use Rattle.fx_model.proofs.Paths.{no_context}
 use Rattle.fx_laws.specs.Everywhere.{placed}
 use Rattle.fx_laws.proofs.Placed.{result_placed, RowOfPlaced, moves_in, result_in, row_of_placed}
 use Rattle.fx_laws.proofs.SilentRows.{pure_leads, raise_leads, let_error_leads, handle_value_leads, leads_placed}
+use Rattle.fx_script_laws.specs.Filled.{none_bound}
 use Rattle.fx_script_laws.specs.Interchange.{AreInterchangeable}
 use Rattle.fx_script_laws.proofs.PutNeeds.{put_need}
 use Rattle.fx_script_laws.proofs.EachFollows.{EachFollows, itself, spot_by, one_leads, both_lead, HasNoRow, neither_steps, interchangeable}
@@ -84,14 +85,14 @@ last_each t u (never_forced a h) =
 last_each t u (error_let x v b h) = error_each x v b
 last_each t u (value_handled v x b h) = value_each v x b
 
-pub never_is_last : (a : Term) → need a ≡ 0 → AreInterchangeable (Let None Never a) Never
+pub never_is_last : (a : Term) → need a ≡ 0 → AreInterchangeable none_bound (Let None Never a) Never
 never_is_last a h = interchangeable IsLast last_put last_need last_each (Let None Never a) Never (never_let a h)
 
-pub forced_never_is_last : (a : Term) → need a ≡ 0 → AreInterchangeable (forced_after Never a) Never
+pub forced_never_is_last : (a : Term) → need a ≡ 0 → AreInterchangeable none_bound (forced_after Never a) Never
 forced_never_is_last a h = interchangeable IsLast last_put last_need last_each (forced_after Never a) Never (never_forced a h)
 
-pub error_is_last : (x : Option ℕ) (v : Arg) (b : Term) → need b ≡ 0 → AreInterchangeable (Let x (Raise v) b) (Raise v)
+pub error_is_last : (x : Option ℕ) (v : Arg) (b : Term) → need b ≡ 0 → AreInterchangeable none_bound (Let x (Raise v) b) (Raise v)
 error_is_last x v b h = interchangeable IsLast last_put last_need last_each (Let x (Raise v) b) (Raise v) (error_let x v b h)
 
-pub value_is_kept : (v : Arg) (x : Option ℕ) (b : Term) → need b ≡ 0 → AreInterchangeable (Handle (Pure v) x b) (Pure v)
+pub value_is_kept : (v : Arg) (x : Option ℕ) (b : Term) → need b ≡ 0 → AreInterchangeable none_bound (Handle (Pure v) x b) (Pure v)
 value_is_kept v x b h = interchangeable IsLast last_put last_need last_each (Handle (Pure v) x b) (Pure v) (value_handled v x b h)

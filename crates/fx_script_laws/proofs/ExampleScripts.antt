@@ -10,14 +10,15 @@ use Rattle.fx_model.specs.MaskLaws.{forced_after}
 use Rattle.fx_model.specs.Report.{ReportView}
 use Rattle.fx_model.specs.LawfulReport.{IsLawfulReport}
 use Rattle.fx_laws.specs.Names.{without_names}
+use Rattle.fx_script_laws.specs.Filled.{none_bound, IsFilled}
 use Rattle.fx_script_laws.specs.Filled as filled
-use Rattle.fx_script_laws.specs.Interchange.{as_is, with_numbers, IsWithOther}
+use Rattle.fx_script_laws.specs.Interchange.{EitherWay, AreTheTwo, as_is, with_numbers}
 use Rattle.fx_script_laws.proofs.SameReports.{same_reports}
 use Rattle.fx_script_laws.proofs.LawsInScripts.{forced_in_order, guarantee_of_one_release}
 
 -- the two terms themselves
-here : (t u : Term) → IsWithOther t u t u
-here t u = filled.pair (as_is (with_numbers []))
+here : {bound : ℕ → Bool} (t u : Term) → IsFilled (EitherWay (AreTheTwo none_bound t u)) bound t u
+here t u = filled.pair (as_is (with_numbers [] tt (λ x h. refl)))
 
 pub either_order : (i n : ℕ) (a b f d : Term) (capacities : List ℕ) (may : ℕ → Bool) (r : ReportView)
     → IsLawfulReport (record {
@@ -31,7 +32,7 @@ pub either_order : (i n : ℕ) (a b f d : Term) (capacities : List ℕ) (may : �
 either_order i n a b f d capacities may r =
     let t = forced_after a (forced_after b f) in
     let u = forced_after (forced_after a b) f in
-    same_reports t u (forced_in_order a b f).waits (record { term = Start 0 (OnCancel (For i n t) t) d; capacities = capacities })
+    same_reports none_bound t u (forced_in_order a b f).waits (record { term = Start 0 (OnCancel (For i n t) t) d; capacities = capacities })
     (record { term = Start 0 (OnCancel (For i n u) u) d; capacities = capacities }) may r
     (filled.start (filled.oncancel (filled.for_ (here t u)) (here t u)) filled.same) refl
 
@@ -42,7 +43,7 @@ pub guaranteed : (scope : ℕ → Option NameKind) (p x y e : ℕ) (a f b c : Te
 guaranteed scope p x y e a f b c capacities may r scoped_a scoped_f =
     let t = Bracket None (Pure (Number 0)) a f in
     let u = BracketCase x (Pure (Number 0)) a y f e f f in
-    same_reports t u (guarantee_of_one_release scope x y e a f scoped_a scoped_f).waits
+    same_reports none_bound t u (guarantee_of_one_release scope x y e a f scoped_a scoped_f).waits
     (record { term = Mask p (Let None b (Let None t c)); capacities = capacities })
     (record { term = Mask p (Let None b (Let None u c)); capacities = capacities }) may r
     (filled.mask (filled.let_ filled.same (filled.let_ (here t u) filled.same))) refl

@@ -6,14 +6,14 @@ use Rattle.fx_model.specs.Path.{Context, LetIn, HandleIn, OnCancelIn, AcquireIn,
 use Rattle.fx_model.specs.Path.{CleanupTerm, Finalizer, Release, leaf, closed_regions, cleanup_terms, is_canceled_form, is_open, must_cancel}
 use Rattle.fx_model.specs.Outside.{Outside, leaf_can_step}
 use Rattle.fx_laws.specs.Everywhere.{placed}
-use Rattle.fx_script_laws.specs.Filled.{IsFilled}
+use Rattle.fx_script_laws.specs.Filled.{none_bound, IsFilled}
 use Rattle.fx_script_laws.specs.Filled as filled
 use Rattle.fx_script_laws.proofs.Holes.{holes, AreAlong, holes_along}
 use Rattle.fx_script_laws.proofs.Holes as along
 
-module _ {Pair : Term → Term → Type 0} where
+module _ {Pair : (ℕ → Bool) → Term → Term → Type 0} where
   -- such terms are such terms
-  abbrev pub forget : {t u : Term} → AreAlong Pair t u → IsFilled Pair t u
+  abbrev pub forget : {t u : Term} → AreAlong Pair t u → IsFilled Pair none_bound t u
   forget along.same = filled.same
   forget (along.let_ p q) = filled.let_ (forget p) q
   forget (along.handle p q) = filled.handle (forget p) q
@@ -101,20 +101,20 @@ module _ {Pair : Term → Term → Type 0} where
   must_along known p = let e = open_along p in let f = canceled_along p in cc
 
 -- clean-ups that differ at such places
-pub data AreFilledCleanups (Pair : Term → Term → Type 0) : List CleanupTerm → List CleanupTerm → Type 0 where
+pub data AreFilledCleanups (Pair : (ℕ → Bool) → Term → Term → Type 0) : List CleanupTerm → List CleanupTerm → Type 0 where
   none : AreFilledCleanups Pair [] []
-  finalizer : {f f' : Term} {xs ys : List CleanupTerm} → IsFilled Pair f f' → AreFilledCleanups Pair xs ys
+  finalizer : {f f' : Term} {xs ys : List CleanupTerm} → IsFilled Pair none_bound f f' → AreFilledCleanups Pair xs ys
       → AreFilledCleanups Pair (Finalizer f ∷ xs) (Finalizer f' ∷ ys)
-  release : {k : ℕ} {r r' : Term} {xs ys : List CleanupTerm} → IsFilled Pair r r' → AreFilledCleanups Pair xs ys
+  release : {k : ℕ} {r r' : Term} {xs ys : List CleanupTerm} → IsFilled Pair none_bound r r' → AreFilledCleanups Pair xs ys
       → AreFilledCleanups Pair (Release k r ∷ xs) (Release k r' ∷ ys)
 
-module _ {Pair : Term → Term → Type 0} where
+module _ {Pair : (ℕ → Bool) → Term → Term → Type 0} where
   abbrev pub holes_left : {xs ys : List CleanupTerm} → AreFilledCleanups Pair xs ys → ℕ
   holes_left none = 0
   holes_left (finalizer p q) = holes p + holes_left q
   holes_left (release p q) = holes p + holes_left q
 
-module _ (Pair : Term → Term → Type 0) where
+module _ (Pair : (ℕ → Bool) → Term → Term → Type 0) where
   -- the same clean-ups, and no place at which they differ
   record AreSame (xs : List CleanupTerm) : Type 0 where
     pub filled : AreFilledCleanups Pair xs xs
@@ -130,18 +130,18 @@ module _ (Pair : Term → Term → Type 0) where
     pub outer' : List Context
     pub first : Term
     pub second : Term
-    pub pair : Pair first second
+    pub pair : Pair none_bound first second
     pub is : t ≡ placed outer first
     pub is' : u ≡ placed outer' second
-    pub whole : (z : Term) → IsFilled Pair (placed outer z) (placed outer' z)
+    pub whole : (z : Term) → IsFilled Pair none_bound (placed outer z) (placed outer' z)
     pub fewer : (z : Term) → suc (holes (whole z)) ≤ n
 
   -- in one context more
   record Wraps (f g : Context) (a a' : Term) (n m : ℕ) : Type 0 where
-    pub whole : (b b' : Term) → IsFilled Pair b b' → IsFilled Pair (plug f b) (plug g b')
-    pub fewer : (b b' : Term) (h : IsFilled Pair b b') → suc (holes h) ≤ n → suc (holes (whole b b' h)) ≤ m
+    pub whole : (b b' : Term) → IsFilled Pair none_bound b b' → IsFilled Pair none_bound (plug f b) (plug g b')
+    pub fewer : (b b' : Term) (h : IsFilled Pair none_bound b b') → suc (holes h) ≤ n → suc (holes (whole b b' h)) ≤ m
 
-module _ {Pair : Term → Term → Type 0} where
+module _ {Pair : (ℕ → Bool) → Term → Term → Type 0} where
   abbrev one_more : {xs ys us vs : List CleanupTerm} → AreFilledCleanups Pair xs ys → AreFilledCleanups Pair us vs
       → AreFilledCleanups Pair (xs ++ us) (ys ++ vs)
   one_more none q = q
@@ -159,12 +159,12 @@ module _ {Pair : Term → Term → Type 0} where
   same_cleanups (Finalizer f ∷ xs) = let s = same_cleanups xs in record { filled = finalizer filled.same s.filled; none_is = let e = s.none_is in omega arith }
   same_cleanups (Release k r ∷ xs) = let s = same_cleanups xs in record { filled = release filled.same s.filled; none_is = let e = s.none_is in omega arith }
 
-  with_finalizer : {xs ys : List CleanupTerm} {f f' : Term} {n : ℕ} → AreCleanups Pair xs ys n → (q : IsFilled Pair f f')
+  with_finalizer : {xs ys : List CleanupTerm} {f f' : Term} {n : ℕ} → AreCleanups Pair xs ys n → (q : IsFilled Pair none_bound f f')
       → AreCleanups Pair (xs ++ Finalizer f ∷ []) (ys ++ Finalizer f' ∷ []) (n + holes q)
   with_finalizer s q =
       record { filled = one_more s.filled (finalizer q none); few = let e = one_more_holes s.filled (finalizer q none) in let h = s.few in omega arith }
 
-  with_release : (k : ℕ) {xs ys : List CleanupTerm} {f f' : Term} {n : ℕ} → AreCleanups Pair xs ys n → (q : IsFilled Pair f f')
+  with_release : (k : ℕ) {xs ys : List CleanupTerm} {f f' : Term} {n : ℕ} → AreCleanups Pair xs ys n → (q : IsFilled Pair none_bound f f')
       → AreCleanups Pair (xs ++ Release k f ∷ []) (ys ++ Release k f' ∷ []) (n + holes q)
   with_release k s q =
       let last : AreFilledCleanups Pair (Release k _ ∷ []) (Release k _ ∷ []) = release {k = k} q none in
@@ -198,7 +198,7 @@ module _ {Pair : Term → Term → Type 0} where
   cleanups_along_too (along.try_take p q) = no_cleanups _
   cleanups_along_too (along.loop p) = no_cleanups _
 
-  pub data Split {t u : Term} (p : IsFilled Pair t u) : Type 0 where
+  pub data Split {t u : Term} (p : IsFilled Pair none_bound t u) : Type 0 where
     clear : (q : AreAlong Pair t u) → holes_along q ≡ holes p → Split p
     at_pair : IsAtPair Pair t u (holes p) → Split p
 
@@ -216,12 +216,12 @@ module _ {Pair : Term → Term → Type 0} where
         fewer = λ z. w.fewer (placed i.outer z) (placed i.outer' z) (i.whole z) (i.fewer z);
       }
 
-  split_more : (f g : Context) {a a' : Term} {p : IsFilled Pair a a'} {w : IsFilled Pair (plug f a) (plug g a')} → Split p
+  split_more : (f g : Context) {a a' : Term} {p : IsFilled Pair none_bound a a'} {w : IsFilled Pair none_bound (plug f a) (plug g a')} → Split p
       → ((q : AreAlong Pair a a') → holes_along q ≡ holes p → Split w) → Wraps Pair f g a a' (holes p) (holes w) → Split w
   split_more f g (clear q e) next r = next q e
   split_more f g (at_pair i) next r = at_pair (wrap f g r i)
 
-  pub split : {t u : Term} (p : IsFilled Pair t u) → Split p
+  pub split : {t u : Term} (p : IsFilled Pair none_bound t u) → Split p
   split (filled.pair {t = t} {u = u} s) =
       at_pair (record { outer = []; outer' = []; first = t; second = u; pair = s; is = refl; is' = refl; whole = λ z. filled.same; fewer = λ z. omega arith })
   split filled.same = clear along.same refl
@@ -259,7 +259,7 @@ module _ {Pair : Term → Term → Type 0} where
   split (filled.in_use_case {k = k} {y = y} {z = z} {s = s} {s' = s'} {e = e} {e' = e'} {d = d} {d' = d'} p q r w) =
       split_more (InUseCaseIn k y s z e d) (InUseCaseIn k y s' z e' d') (split p) (λ v n. clear (along.in_use_case v q r w) (omega arith))
       (record { whole = λ a a' h. filled.in_use_case h q r w; fewer = λ a a' h n. omega arith })
-  split (filled.in_release {k = k} {v = v} p) =
+  split (filled.in_release {k = k} {w = v} p) =
       split_more (InReleaseIn k v) (InReleaseIn k v) (split p) (λ s e. clear (along.in_release s) e)
       (record { whole = λ z z' h. filled.in_release h; fewer = λ z z' h n. n })
   split (filled.loop p) = clear (along.loop p) refl

@@ -10,21 +10,21 @@ use Rattle.fx_model.specs.Row.{Counts, Label, Starts, Row, part_after, numbers_t
 use Rattle.fx_model.specs.Row as row
 use Rattle.fx_model.proofs.Paths.{row_plug}
 use Rattle.fx_model.proofs.Measures.{one_turn}
-use Rattle.fx_script_laws.specs.Filled.{IsFilled}
+use Rattle.fx_script_laws.specs.Filled.{none_bound, and_bound, IsFilled}
 use Rattle.fx_script_laws.specs.Filled as filled
 use Rattle.fx_script_laws.specs.Interchange.{AreFilledLabels, itself, starts}
-use Rattle.fx_script_laws.proofs.Holes.{holes, AreAlong, holes_along, filled_need, put_filled, put_holes, put_named_filled, put_named_holes}
+use Rattle.fx_script_laws.proofs.Holes.{ArePut, holes, AreAlong, holes_along, filled_need, deeper, first, put_filled, put_first, put_holes, put_named_filled, put_named_holes}
 use Rattle.fx_script_laws.proofs.Holes as along
 
-module _ (Pair : Term → Term → Type 0) (puts : (x n : ℕ) (t u : Term) → Pair t u → Pair (put x n t) (put x n u))
-    (needs : (t u : Term) → Pair t u → need t ≡ need u) where
+module _ (Pair : (ℕ → Bool) → Term → Term → Type 0) (puts : ArePut Pair)
+    (needs : (v : ℕ → Bool) (t u : Term) → Pair v t u → need t ≡ need u) where
   -- the other term makes the same row, to a term that differs at no more places
   pub record RowIsFilled (closed : Bool) (c : Counts) (u : Term) (l : Label) (d : Counts) (t' : Term) (most : ℕ) : Type 0 where
     pub label : Label
     pub term : Term
     pub row : Row closed c u label d term
     pub like : AreFilledLabels Pair l label
-    pub is_filled : IsFilled Pair t' term
+    pub is_filled : IsFilled Pair none_bound t' term
     pub few : holes is_filled ≤ most
 
   -- the contexts differ at such places, and so do their parts
@@ -35,10 +35,10 @@ module _ (Pair : Term → Term → Type 0) (puts : (x n : ℕ) (t u : Term) → 
     pub parts : AreAlong Pair a part
     pub rest : ℕ
     pub count_is : holes_along parts + rest ≡ n
-    pub whole : (b b' : Term) → IsFilled Pair b b' → IsFilled Pair (plug f b) (plug context b')
-    pub whole_is : (b b' : Term) (h : IsFilled Pair b b') → holes (whole b b' h) ≡ holes h + rest
+    pub whole : (b b' : Term) → IsFilled Pair none_bound b b' → IsFilled Pair none_bound (plug f b) (plug context b')
+    pub whole_is : (b b' : Term) (h : IsFilled Pair none_bound b b') → holes (whole b b' h) ≡ holes h + rest
 
-  abbrev plug_filled : (f : Context) (b b' : Term) → IsFilled Pair b b' → IsFilled Pair (plug f b) (plug f b')
+  abbrev plug_filled : (f : Context) (b b' : Term) → IsFilled Pair none_bound b b' → IsFilled Pair none_bound (plug f b) (plug f b')
   plug_filled (LetIn x a) b b' h = filled.let_ h filled.same
   plug_filled (HandleIn x a) b b' h = filled.handle h filled.same
   plug_filled (OnCancelIn f) b b' h = filled.oncancel h filled.same
@@ -50,7 +50,7 @@ module _ (Pair : Term → Term → Type 0) (puts : (x n : ℕ) (t u : Term) → 
   plug_filled (InUseCaseIn k y s z e d) b b' h = filled.in_use_case h filled.same filled.same filled.same
   plug_filled (InReleaseIn k v) b b' h = filled.in_release h
 
-  plug_holes : (f : Context) (b b' : Term) (h : IsFilled Pair b b') → holes (plug_filled f b b' h) ≡ holes h + 0
+  plug_holes : (f : Context) (b b' : Term) (h : IsFilled Pair none_bound b b') → holes (plug_filled f b b' h) ≡ holes h + 0
   plug_holes (LetIn x a) b b' h = omega arith
   plug_holes (HandleIn x a) b b' h = omega arith
   plug_holes (OnCancelIn f) b b' h = omega arith
@@ -193,20 +193,20 @@ module _ (Pair : Term → Term → Type 0) (puts : (x n : ℕ) (t u : Term) → 
 
   module _ {k : Bool} {c d : Counts} {l : Label} where
     -- a row that is the same in both
-    by_row : {u t' u' : Term} {n : ℕ} → Row k c u l d u' → (p : IsFilled Pair t' u') → holes p ≤ n → RowIsFilled k c u l d t' n
+    by_row : {u t' u' : Term} {n : ℕ} → Row k c u l d u' → (p : IsFilled Pair none_bound t' u') → holes p ≤ n → RowIsFilled k c u l d t' n
     by_row {u' = u'} r p few = record { label = l; term = u'; row = r; like = itself; is_filled = p; few = few }
 
-  starts_too : {k : Bool} {c : Counts} {h : ℕ} {a a' b b' : Term} (p : IsFilled Pair a a') (q : IsFilled Pair b b')
+  starts_too : {k : Bool} {c : Counts} {h : ℕ} {a a' b b' : Term} (p : IsFilled Pair none_bound a a') (q : IsFilled Pair (and_bound h none_bound) b b')
       → RowIsFilled k c (term.Start h a' b') (Starts c.next (child_origin c.next a)) (numbers_taken (1 + need a) c) (put h c.next b) (holes p + holes q)
   starts_too {c = c} {h = h} {a = a} {a' = a'} {b' = b'} p q =
       let same : need a ≡ need a' = filled_need needs p in
-      let e = put_holes puts h c.next q in
+      let e = put_holes puts (first h) c.next q in
       record {
         label = Starts c.next (child_origin c.next a');
         term = put h c.next b';
         row = rw same row.start;
         like = starts (record { term = p; next_is = refl; end_is = rw same refl });
-        is_filled = put_filled puts h c.next q;
+        is_filled = put_first puts h c.next q;
         few = omega arith;
       }
 
@@ -216,9 +216,9 @@ module _ (Pair : Term → Term → Type 0) (puts : (x n : ℕ) (t u : Term) → 
   row_filled row.if_zero (along.if_ p q) = by_row row.if_zero q (omega arith)
   row_filled (row.for_begins {n = n}) (along.for_ p) = by_row row.for_begins (filled.loop p) (let e : n - 0 ≡ n = omega arith in rw e (omega arith))
   row_filled (row.loop_turns {i = i} {k = j} {n = n} h) (along.loop p) =
-      let e = put_holes puts i j p in
+      let e = put_holes puts (first i) j p in
       let turn = one_turn (n - (j + 1)) (n - j) (holes p) (omega arith) in
-      by_row (row.loop_turns h) (filled.let_ (put_filled puts i j p) (filled.loop p)) (omega arith)
+      by_row (row.loop_turns h) (filled.let_ (put_first puts i j p) (filled.loop p)) (omega arith)
   row_filled (row.loop_ends h) (along.loop p) = by_row (row.loop_ends h) filled.same (omega arith)
   row_filled (row.let_value {x = x} {n = n}) (along.let_ along.same q) =
       let e = put_named_holes puts x n q in by_row row.let_value (put_named_filled puts x n q) (omega arith)
@@ -227,7 +227,7 @@ module _ (Pair : Term → Term → Type 0) (puts : (x n : ℕ) (t u : Term) → 
   row_filled (row.handle_error {x = x} {e = i}) (along.handle along.same q) =
       let e = put_named_holes puts x i q in by_row row.handle_error (put_named_filled puts x i q) (omega arith)
   row_filled {c = c} (row.mask {p = x}) (along.mask p) =
-      let e = put_holes puts x c.masks p in by_row row.mask (filled.masked (put_filled puts x c.masks p)) (omega arith)
+      let e = put_holes puts (first x) c.masks p in by_row row.mask (filled.masked (put_first puts x c.masks p)) (omega arith)
   row_filled row.poll (along.poll p) = by_row row.poll (filled.opened p) (omega arith)
   row_filled row.masked_ends (along.masked along.same) = by_row row.masked_ends filled.same (omega arith)
   row_filled row.opened_ends (along.opened along.same) = by_row row.opened_ends filled.same (omega arith)
@@ -237,28 +237,29 @@ module _ (Pair : Term → Term → Type 0) (puts : (x n : ℕ) (t u : Term) → 
       let f = put_named_holes puts x n r in
       by_row row.acquired (filled.in_use (put_named_filled puts x n q) (put_named_filled puts x n r)) (omega arith)
   row_filled row.acquire_fails (along.bracket along.same q r) = by_row row.acquire_fails filled.same (omega arith)
-  row_filled (row.acquired_case {x = x} {n = n}) (along.bracket_case along.same q r s w) =
-      let e = put_holes puts x n q in
-      let f = put_holes puts x n r in
-      let g = put_holes puts x n s in
-      let h = put_holes puts x n w in
-      by_row row.acquired_case (filled.in_use_case (put_filled puts x n q) (put_filled puts x n r) (put_filled puts x n s) (put_filled puts x n w))
+  row_filled (row.acquired_case {x = x} {y = y} {z = z} {n = n}) (along.bracket_case along.same q r s w) =
+      let e = put_holes puts (first x) n q in
+      let f = put_holes puts (deeper y (first x)) n r in
+      let g = put_holes puts (deeper z (first x)) n s in
+      let h = put_holes puts (first x) n w in
+      by_row row.acquired_case
+      (filled.in_use_case (put_first puts x n q) (put_filled puts (deeper y (first x)) n r) (put_filled puts (deeper z (first x)) n s) (put_first puts x n w))
       (omega arith)
   row_filled row.acquire_case_fails (along.bracket_case along.same q r s w) = by_row row.acquire_case_fails filled.same (omega arith)
   row_filled row.used (along.in_use along.same q) = by_row row.used (filled.in_release q) (omega arith)
   row_filled (row.use_succeeded {y = y} {n = n}) (along.in_use_case along.same q r s) =
-      let e = put_holes puts y n q in by_row row.use_succeeded (filled.in_release (put_filled puts y n q)) (omega arith)
+      let e = put_holes puts (first y) n q in by_row row.use_succeeded (filled.in_release (put_first puts y n q)) (omega arith)
   row_filled (row.use_erred {z = z} {i = i}) (along.in_use_case along.same q r s) =
-      let e = put_holes puts z i r in by_row row.use_erred (filled.in_release (put_filled puts z i r)) (omega arith)
+      let e = put_holes puts (first z) i r in by_row row.use_erred (filled.in_release (put_first puts z i r)) (omega arith)
   row_filled row.released (along.in_release along.same) = by_row row.released filled.same (omega arith)
   row_filled row.start (along.start p q) = starts_too p q
   row_filled (row.joined {x = x} {e = i} {o = outcome.Succeeded n}) (along.join p q r) =
-      let e = put_holes puts x n p in by_row row.joined (put_filled puts x n p) (omega arith)
+      let e = put_holes puts (first x) n p in by_row row.joined (put_first puts x n p) (omega arith)
   row_filled (row.joined {x = x} {e = i} {o = outcome.Errored n}) (along.join p q r) =
-      let e = put_holes puts i n q in by_row row.joined (put_filled puts i n q) (omega arith)
+      let e = put_holes puts (first i) n q in by_row row.joined (put_first puts i n q) (omega arith)
   row_filled (row.joined {o = outcome.Canceled}) (along.join p q r) = by_row row.joined r (omega arith)
   row_filled (row.tried_take {n = n} {x = x}) (along.try_take p q) =
-      let e = put_holes puts x n p in by_row row.tried_take (put_filled puts x n p) (omega arith)
+      let e = put_holes puts (first x) n p in by_row row.tried_take (put_first puts x n p) (omega arith)
   row_filled row.found_empty (along.try_take p q) = by_row row.found_empty q (omega arith)
   row_filled (row.inside f {t' = w} {a = a} {a' = a'} e g r) p =
       let i = inside_at f e p in

@@ -1,36 +1,36 @@
 -- Two fibers that differ at such places make the same steps, unless one of the places is round the leaf.
 use Rattle.std.proofs.Common.{◌≡◌, ℕ, ◌+◌, ◌≤◌, Bool, true, false, not, Option, List, sym, ◌∙◌, subst, arith}
 use Rattle.fx_term.specs.declared.outcome.Outcome.{Outcome}
-use Rattle.fx_term.specs.Term.{Term, put}
+use Rattle.fx_term.specs.Term.{Term}
 use Rattle.fx_term.specs.Need.{need}
 use Rattle.fx_model.specs.Path.{CleanupTerm, is_open, must_cancel}
 use Rattle.fx_model.specs.Row.{Counts, Label, Row}
 use Rattle.fx_model.specs.Step.{Progress, Runs, Unwinds, CleansUp, HasEnded, Step}
 use Rattle.fx_model.specs.Step as step
-use Rattle.fx_script_laws.specs.Filled.{IsFilled}
+use Rattle.fx_script_laws.specs.Filled.{none_bound, IsFilled}
 use Rattle.fx_script_laws.specs.Interchange.{AreFilledLabels, itself}
-use Rattle.fx_script_laws.proofs.Holes.{holes, AreAlong, holes_along}
+use Rattle.fx_script_laws.proofs.Holes.{ArePut, holes, AreAlong, holes_along}
 use Rattle.fx_script_laws.proofs.Holes as along
 use Rattle.fx_script_laws.proofs.FilledRows.{RowIsFilled, row_filled}
 use Rattle.fx_script_laws.proofs.FilledPlaces.{forget, forget_holes, open_along, must_along, cleanups_along_too, AreFilledCleanups, finalizer, release, none}
 use Rattle.fx_script_laws.proofs.FilledPlaces.{holes_left}
 
 -- how far two fibers are that differ at such places
-pub data AreFilledProgress (Pair : Term → Term → Type 0) : Progress → Progress → Type 0 where
-  runs : {t u : Term} → IsFilled Pair t u → AreFilledProgress Pair (Runs t) (Runs u)
+pub data AreFilledProgress (Pair : (ℕ → Bool) → Term → Term → Type 0) : Progress → Progress → Type 0 where
+  runs : {t u : Term} → IsFilled Pair none_bound t u → AreFilledProgress Pair (Runs t) (Runs u)
   unwinds : {xs ys : List CleanupTerm} → AreFilledCleanups Pair xs ys → AreFilledProgress Pair (Unwinds xs) (Unwinds ys)
-  cleans : {k : Option ℕ} {t u : Term} {xs ys : List CleanupTerm} → IsFilled Pair t u → AreFilledCleanups Pair xs ys
+  cleans : {k : Option ℕ} {t u : Term} {xs ys : List CleanupTerm} → IsFilled Pair none_bound t u → AreFilledCleanups Pair xs ys
       → AreFilledProgress Pair (CleansUp k t xs) (CleansUp k u ys)
   ended : {o : Outcome} → AreFilledProgress Pair (HasEnded o) (HasEnded o)
 
-module _ {Pair : Term → Term → Type 0} where
+module _ {Pair : (ℕ → Bool) → Term → Term → Type 0} where
   abbrev pub holes_in : {p q : Progress} → AreFilledProgress Pair p q → ℕ
   holes_in (runs p) = holes p
   holes_in (unwinds q) = holes_left q
   holes_in (cleans p q) = holes p + holes_left q
   holes_in ended = 0
 
-module _ (Pair : Term → Term → Type 0) where
+module _ (Pair : (ℕ → Bool) → Term → Term → Type 0) where
   -- the other fiber makes the same step, and they differ at no more places then
   pub record StepIsFilled (c : Counts) (q : Progress) (l : Label) (d : Counts) (m : Progress) (most : ℕ) : Type 0 where
     pub label : Label
@@ -40,8 +40,8 @@ module _ (Pair : Term → Term → Type 0) where
     pub is_filled : AreFilledProgress Pair m progress
     pub few : holes_in is_filled ≤ most
 
-module _ {Pair : Term → Term → Type 0} (puts : (x n : ℕ) (t u : Term) → Pair t u → Pair (put x n t) (put x n u))
-    (needs : (t u : Term) → Pair t u → need t ≡ need u) where
+module _ {Pair : (ℕ → Bool) → Term → Term → Type 0} (puts : ArePut Pair)
+    (needs : (v : ℕ → Bool) (t u : Term) → Pair v t u → need t ≡ need u) where
   -- a step that is the same in both
   same_step : {c d : Counts} {q m m' : Progress} {l : Label} {n : ℕ} → Step c q l d m' → (f : AreFilledProgress Pair m m') → holes_in f ≤ n
       → StepIsFilled Pair c q l d m n

@@ -1,18 +1,19 @@
 -- Terms that come to the same wherever a fiber comes to them are put for one another in a whole term.
-use Rattle.std.proofs.Common.{◌≡◌, ℕ, zero, suc, ◌+◌, ◌≤◌, Option, List, [], ◌∷◌, refl, sym, subst, arith}
-use Rattle.fx_term.specs.Term.{Term, put}
+use Rattle.std.proofs.Common.{◌≡◌, ℕ, Bool, zero, suc, ◌+◌, ◌≤◌, Option, List, [], ◌∷◌, refl, sym, subst, arith}
+use Rattle.fx_term.specs.Term.{Term}
 use Rattle.fx_term.specs.Need.{need}
 use Rattle.fx_model.specs.Path.{CleanupTerm}
 use Rattle.fx_model.specs.Row.{Counts, Label, Silent, Shows, Learns, Starts}
 use Rattle.fx_model.specs.Step.{Progress, Runs, Unwinds, CleansUp, HasEnded, Step}
 use Rattle.fx_model.specs.Run.{Leads, shown}
 use Rattle.fx_laws.specs.Everywhere.{placed, Place, InTerm, InCleanup, come_to}
+use Rattle.fx_script_laws.specs.Filled.{none_bound}
 use Rattle.fx_script_laws.specs.Interchange.{CanComeTo, CanComeLike, AreFilledLabels, itself, starts, AllFilled, none, more}
-use Rattle.fx_script_laws.proofs.Holes.{holes, AreAlong}
+use Rattle.fx_script_laws.proofs.Holes.{ArePut, holes, AreAlong}
 use Rattle.fx_script_laws.proofs.FilledPlaces.{AreFilledCleanups, holes_left, IsAtPair, Split, clear, at_pair, split}
 use Rattle.fx_script_laws.proofs.FilledSteps.{AreFilledProgress, runs, unwinds, cleans, ended, holes_in, StepIsFilled, run_step, unwind_step, clean_step}
 
-module _ {Pair : Term → Term → Type 0} where
+module _ {Pair : (ℕ → Bool) → Term → Term → Type 0} where
   label_first : {l l' : Label} (ls ls' : List Label) → AreFilledLabels Pair l l' → AllFilled Pair (shown ls) (shown ls')
       → AllFilled Pair (shown (l ∷ ls)) (shown (l' ∷ ls'))
   label_first ls ms (itself {l = Silent}) h = h
@@ -21,7 +22,7 @@ module _ {Pair : Term → Term → Type 0} where
   label_first ls ms (itself {l = Starts f b}) h = more itself h
   label_first ls ms (starts s) h = more (starts s) h
 
-module _ (Pair : Term → Term → Type 0) (Ends : Counts → Progress → Type 0) where
+module _ (Pair : (ℕ → Bool) → Term → Term → Type 0) (Ends : Counts → Progress → Type 0) where
   -- an end of the one is an end of the other, where no pair is round the leaf
   pub record AreEndsKept : Type 0 where
     pub running : (c : Counts) (t u : Term) → AreAlong Pair t u → Ends c (Runs t) → Ends c (Runs u)
@@ -30,7 +31,7 @@ module _ (Pair : Term → Term → Type 0) (Ends : Counts → Progress → Type 
 
   abbrev pub PairsCome : Type 0
   PairsCome =
-      (t u : Term) → Pair t u → (place : Place) (c : Counts) (ls : List Label) → CanComeTo Ends c (come_to place t) ls
+      (t u : Term) → Pair none_bound t u → (place : Place) (c : Counts) (ls : List Label) → CanComeTo Ends c (come_to place t) ls
       → CanComeTo Ends c (come_to place u) ls
 
   -- two fibers that differ at no more places
@@ -39,8 +40,8 @@ module _ (Pair : Term → Term → Type 0) (Ends : Counts → Progress → Type 
       (c : Counts) (p q : Progress) (h : AreFilledProgress Pair p q) → holes_in h ≤ n → (ls : List Label) (d : Counts) (r : Progress) → Leads c p ls d r
       → Ends d r → CanComeLike Pair Ends c q (shown ls)
 
-module _ {Pair : Term → Term → Type 0} {Ends : Counts → Progress → Type 0} (puts : (x n : ℕ) (t u : Term) → Pair t u → Pair (put x n t) (put x n u))
-    (needs : (t u : Term) → Pair t u → need t ≡ need u) (kept : AreEndsKept Pair Ends) (pairs : PairsCome Pair Ends) where
+module _ {Pair : (ℕ → Bool) → Term → Term → Type 0} {Ends : Counts → Progress → Type 0} (puts : ArePut Pair)
+    (needs : (v : ℕ → Bool) (t u : Term) → Pair v t u → need t ≡ need u) (kept : AreEndsKept Pair Ends) (pairs : PairsCome Pair Ends) where
   -- no step more
   here : {c d : Counts} {p q r : Progress} → Leads c p [] d r → Ends d r → (Ends c p → Ends c q) → CanComeLike Pair Ends c q []
   here {c} {q = q} h e keep =

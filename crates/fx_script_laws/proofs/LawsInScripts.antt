@@ -24,6 +24,7 @@ use Rattle.fx_laws.proofs.CanceledLaws.{only_in}
 use Rattle.fx_laws.proofs.BracketLaws.{acquire_fails_leads, kept_under}
 use Rattle.fx_laws.proofs.CaseSteps.{acquired_leads, used_leads, case_fails_leads, case_acquired_leads, succeeded_leads, erred_leads}
 use Rattle.fx_laws.proofs.CaseLaws.{unused_put}
+use Rattle.fx_script_laws.specs.Filled.{none_bound}
 use Rattle.fx_script_laws.specs.Interchange.{AreInterchangeable}
 use Rattle.fx_script_laws.proofs.Followed.{IsSameSpot, IsFollowed, by_row}
 use Rattle.fx_script_laws.proofs.EachFollows.{EachFollows, itself, turned_each, spot_by, one_leads, both_step, both_lead, both_inside, interchangeable}
@@ -69,7 +70,7 @@ forced_need t u (forced a b f) = omega arith
 forced_follows : (t u : Term) → ForcedInOrder t u → EachFollows t u
 forced_follows t u (forced a b f) = both_inside (from_right b f) (from_left b f) (λ outer. refl) (λ xs. refl) (forced_ends b f) a
 
-pub forced_in_order : (a b f : Term) → AreInterchangeable (forced_after a (forced_after b f)) (forced_after (forced_after a b) f)
+pub forced_in_order : (a b f : Term) → AreInterchangeable none_bound (forced_after a (forced_after b f)) (forced_after (forced_after a b) f)
 forced_in_order a b f =
     interchangeable ForcedInOrder forced_put forced_need forced_follows (forced_after a (forced_after b f)) (forced_after (forced_after a b) f) (forced a b f)
 
@@ -105,7 +106,7 @@ bound_follows t u (bound x y a b f h) =
     both_inside (LetIn x (Let y b f) ∷ []) (LetIn y f ∷ LetIn x b ∷ []) (λ outer. refl) (λ xs. refl) (bound_ends x y b f (not_named x f h)) a
 
 pub bound_in_order : (scope : ℕ → Option NameKind) (x y : Option ℕ) (a b f : Term) → IsScoped (with_named x kind.OtherPoll scope) f
-    → AreInterchangeable (Let x a (Let y b f)) (Let y (Let x a b) f)
+    → AreInterchangeable none_bound (Let x a (Let y b f)) (Let y (Let x a b) f)
 bound_in_order scope x y a b f scoped =
     interchangeable BoundInOrder bound_put bound_need bound_follows (Let x a (Let y b f)) (Let y (Let x a b) f)
     (bound x y a b f (scoped_binder_used scope kind.OtherPoll x f scoped))
@@ -145,7 +146,7 @@ canceled_each t u (canceled_first a) =
           handled.from;
     }
 
-pub forced_canceled : (a : Term) → AreInterchangeable (forced_after Canceled a) (Let None Canceled a)
+pub forced_canceled : (a : Term) → AreInterchangeable none_bound (forced_after Canceled a) (Let None Canceled a)
 forced_canceled a =
     interchangeable ForcedCanceled canceled_put canceled_need canceled_each (forced_after Canceled a) (Let None Canceled a) (canceled_first a)
 
@@ -161,7 +162,7 @@ ceded_need t u ceded = refl
 ceded_each : (t u : Term) → CedeIsPure t u → EachFollows t u
 ceded_each t u ceded = both_lead cede_leads (pure_leads 0) (spot_by (λ outer. refl) refl refl (λ o. refl)) (itself (Finished (Val 0)))
 
-pub cede_is_pure : AreInterchangeable Cede (Pure (Number 0))
+pub cede_is_pure : AreInterchangeable none_bound Cede (Pure (Number 0))
 cede_is_pure = interchangeable CedeIsPure ceded_put ceded_need ceded_each Cede (Pure (Number 0)) ceded
 
 -- a bracket whose releases are all the same one
@@ -220,7 +221,7 @@ release_each t s (unnamed x y z a u r i j p q) =
     bracket_follows None x y z u r (λ m. put_unused x m u i) (λ m. put_unused x m r j) (λ m n. put_unused y n r p) (λ m n. put_unused z n r q) a
 
 pub bracket_of_one_release : (scope : ℕ → Option NameKind) (x y z : ℕ) (a u r : Term)
-    → IsScoped (with_name y kind.OtherPoll (with_name z kind.OtherPoll scope)) r → AreInterchangeable (Bracket (Some x) a u r) (BracketCase x a u y r z r r)
+    → IsScoped (with_name y kind.OtherPoll (with_name z kind.OtherPoll scope)) r → AreInterchangeable none_bound (Bracket (Some x) a u r) (BracketCase x a u y r z r r)
 bracket_of_one_release scope x y z a u r scoped =
     let last = with_name z kind.OtherPoll scope in
     let there = with_name y kind.OtherPoll last in
@@ -230,7 +231,7 @@ bracket_of_one_release scope x y z a u r scoped =
 
 pub guarantee_of_one_release : (scope : ℕ → Option NameKind) (x y z : ℕ) (a f : Term) → IsScoped (with_name x kind.OtherPoll scope) a
     → IsScoped (without_names scope x y z) f
-    → AreInterchangeable (Bracket None (Pure (Number 0)) a f) (BracketCase x (Pure (Number 0)) a y f z f f)
+    → AreInterchangeable none_bound (Bracket None (Pure (Number 0)) a f) (BracketCase x (Pure (Number 0)) a y f z f f)
 guarantee_of_one_release scope x y z a f scoped_a scoped_f =
     let last = with_name z kind.OtherPoll scope in
     let under = with_name y kind.OtherPoll last in

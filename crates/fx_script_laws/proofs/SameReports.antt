@@ -1,5 +1,5 @@
 -- Two scripts with such terms put for one another have the same lawful reports.
-use Rattle.std.proofs.Common.{◌≡◌, ℕ, Bool, true, false, None, List, sym, ap, subst}
+use Rattle.std.proofs.Common.{◌≡◌, ℕ, Bool, List, sym, ap, subst}
 use Rattle.std.specs.Prelude.{◌↔◌}
 use Rattle.fx_term.specs.Term.{Term}
 use Rattle.fx_term.specs.Script.{ScriptView}
@@ -8,18 +8,21 @@ use Rattle.fx_model.specs.LawfulReport.{IsLawfulReport}
 use Rattle.fx_model.specs.Report.{ReportView}
 use Rattle.fx_model.specs.Causes.{IsLawfulInOneOrder}
 use Rattle.fx_model.specs.Happenings.{IsLawfulInOneList}
-use Rattle.fx_script_laws.specs.Filled.{IsFilled}
+use Rattle.fx_script_laws.specs.Filled.{none_bound, IsFilled}
 use Rattle.fx_script_laws.specs.Filled as filled
-use Rattle.fx_script_laws.specs.Interchange.{StopsThere, HoldsEverywhere, EitherWay, as_is, turned, AreTheTwo, WaitForTheSameWithNumbers, IsWithOther}
-use Rattle.fx_script_laws.proofs.WholeTerms.{stops_kept, either_puts, either_needs, either_come, waited_law}
+use Rattle.fx_script_laws.specs.Interchange.{StopsThere, EitherWay, as_is, turned, AreTheTwo, WaitForTheSameWithNumbers, IsWithOther}
+use Rattle.fx_script_laws.proofs.WholeTerms.{stops_kept, either_puts, either_needs, either_come, two_put, two_need, two_come}
+use Rattle.fx_script_laws.proofs.Holes.{ArePut}
+use Rattle.fx_script_laws.proofs.Interchanged.{PairsCome}
+use Rattle.fx_term.specs.Need.{need}
 use Rattle.fx_script_laws.proofs.ReportsKept.{report_kept, order_kept, list_kept}
 
-module _ {Pair : Term → Term → Type 0} where
-  turned_pair : {t u : Term} → EitherWay Pair t u → EitherWay Pair u t
+module _ {Pair : (ℕ → Bool) → Term → Term → Type 0} where
+  turned_pair : {v : ℕ → Bool} {t u : Term} → EitherWay Pair v t u → EitherWay Pair v u t
   turned_pair (as_is p) = turned p
   turned_pair (turned p) = as_is p
 
-  pub turned_filled : {t u : Term} → IsFilled (EitherWay Pair) t u → IsFilled (EitherWay Pair) u t
+  pub turned_filled : {v : ℕ → Bool} {t u : Term} → IsFilled (EitherWay Pair) v t u → IsFilled (EitherWay Pair) v u t
   turned_filled (filled.pair s) = filled.pair (turned_pair s)
   turned_filled filled.same = filled.same
   turned_filled (filled.let_ p q) = filled.let_ (turned_filled p) (turned_filled q)
@@ -42,29 +45,29 @@ module _ {Pair : Term → Term → Type 0} where
   turned_filled (filled.in_release p) = filled.in_release (turned_filled p)
   turned_filled (filled.loop p) = filled.loop (turned_filled p)
 
-module _ (t u : Term) (same : WaitForTheSameWithNumbers t u) where
-  abbrev law : (o : Outside) (f : ℕ) (ended : Bool) → HoldsEverywhere (StopsThere o f ended) (AreTheTwo t u)
-  law o f ended = waited_law t u o f ended same
+module _ (own : ℕ → Bool) (t u : Term) (same : WaitForTheSameWithNumbers own t u) where
+  puts : ArePut (EitherWay (AreTheTwo own t u))
+  puts = either_puts (two_put own t u)
 
-  nothing_outside : Outside
-  nothing_outside = record { outcome = λ f. None; has_room = λ q. false; has_element = λ q. false; is_requested = λ f. false }
+  needs : (v : ℕ → Bool) (a b : Term) → EitherWay (AreTheTwo own t u) v a b → need a ≡ need b
+  needs = either_needs (two_need own t u same.needs)
 
-  any : HoldsEverywhere (StopsThere nothing_outside 0 true) (AreTheTwo t u)
-  any = law nothing_outside 0 true
+  come : (o : Outside) (f : ℕ) (ended : Bool) → PairsCome (EitherWay (AreTheTwo own t u)) (StopsThere o f ended)
+  come o f ended = either_come (two_come own t u (λ numbers others. same.waits numbers others o f ended))
 
-  kept : (s : ScriptView) (b : Term) (may : ℕ → Bool) (r : ReportView) → IsWithOther t u s.term b → IsLawfulReport s may r
+  kept : (s : ScriptView) (b : Term) (may : ℕ → Bool) (r : ReportView) → IsWithOther own t u s.term b → IsLawfulReport s may r
       → IsLawfulReport (record { term = b; capacities = s.capacities }) may r
-  kept = report_kept (either_puts any) (either_needs any) stops_kept (λ o f ended. either_come (law o f ended))
+  kept = report_kept puts needs stops_kept come
 
-  in_order_too : (s : ScriptView) (b : Term) (may : ℕ → Bool) (r : ReportView) → IsWithOther t u s.term b → IsLawfulInOneOrder s may r
+  in_order_too : (s : ScriptView) (b : Term) (may : ℕ → Bool) (r : ReportView) → IsWithOther own t u s.term b → IsLawfulInOneOrder s may r
       → IsLawfulInOneOrder (record { term = b; capacities = s.capacities }) may r
-  in_order_too = order_kept (either_puts any) (either_needs any) stops_kept (λ o f ended. either_come (law o f ended))
+  in_order_too = order_kept puts needs stops_kept come
 
-  in_list_too : (s : ScriptView) (b : Term) (may : ℕ → Bool) (r : ReportView) → IsWithOther t u s.term b → IsLawfulInOneList s may r
+  in_list_too : (s : ScriptView) (b : Term) (may : ℕ → Bool) (r : ReportView) → IsWithOther own t u s.term b → IsLawfulInOneList s may r
       → IsLawfulInOneList (record { term = b; capacities = s.capacities }) may r
-  in_list_too = list_kept (either_puts any) (either_needs any) stops_kept (λ o f ended. either_come (law o f ended))
+  in_list_too = list_kept puts needs stops_kept come
 
-  module _ (s z : ScriptView) (may : ℕ → Bool) (r : ReportView) (terms : IsWithOther t u s.term z.term) (capacities : s.capacities ≡ z.capacities) where
+  module _ (s z : ScriptView) (may : ℕ → Bool) (r : ReportView) (terms : IsWithOther own t u s.term z.term) (capacities : s.capacities ≡ z.capacities) where
     same_script : record { term = z.term; capacities = s.capacities } ≡ z
     same_script = ap (λ (cs : List ℕ). record { term = z.term; capacities = cs }) capacities
 
@@ -77,7 +80,7 @@ module _ (t u : Term) (same : WaitForTheSameWithNumbers t u) where
     list_too : IsLawfulInOneList s may r → IsLawfulInOneList z may r
     list_too h = subst (λ (x : ScriptView). IsLawfulInOneList x may r) same_script (in_list_too s z.term may r terms h)
 
-  module _ (s z : ScriptView) (may : ℕ → Bool) (r : ReportView) (terms : IsWithOther t u s.term z.term) (capacities : s.capacities ≡ z.capacities) where
+  module _ (s z : ScriptView) (may : ℕ → Bool) (r : ReportView) (terms : IsWithOther own t u s.term z.term) (capacities : s.capacities ≡ z.capacities) where
     pub same_reports : IsLawfulReport s may r ↔ IsLawfulReport z may r
     same_reports = (report_too s z may r terms capacities, report_too z s may r (turned_filled terms) (sym capacities))
 

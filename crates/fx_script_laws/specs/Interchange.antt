@@ -1,5 +1,5 @@
 -- Pairs of terms that can be put for one another: they show the same and wait for the same, wherever a fiber comes to them.
-use Rattle.std.specs.Prelude.{◌≡◌, ◌↔◌, ℕ, Bool, false, List, [], ◌∷◌}
+use Rattle.std.specs.Prelude.{◌≡◌, ◌↔◌, ℕ, Bool, true, false, List, [], ◌∷◌}
 use Rattle.fx_term.specs.Term.{Term, put}
 use Rattle.fx_term.specs.Need.{need}
 use Rattle.fx_model.specs.Origin.{Origin}
@@ -8,7 +8,7 @@ use Rattle.fx_model.specs.Step.{Progress, has_ended}
 use Rattle.fx_model.specs.Run.{Leads, shown}
 use Rattle.fx_model.specs.Outside.{Outside, can_step}
 use Rattle.fx_laws.specs.Everywhere.{Place, come_to, ShowTheSameEverywhere}
-use Rattle.fx_script_laws.specs.Filled.{IsFilled}
+use Rattle.fx_script_laws.specs.Filled.{none_bound, IsFilled}
 
 -- where a run ends: anywhere
 abbrev pub Anywhere : Counts → Progress → Type 0
@@ -36,39 +36,39 @@ abbrev pub put_each : List (ℕ × ℕ) → Term → Term
 put_each [] t = t
 put_each (b ∷ bs) t = put_each bs (put b.0 b.1 t)
 
--- A law of pairs of terms: with a number for a name they are such a pair too, both use as many fiber numbers, and wherever a fiber comes to them they show the
--- same up to such ends
-pub record HoldsEverywhere (Ends : Counts → Progress → Type 0) (Pair : Term → Term → Type 0) : Type 0 where
-  pub puts : (x n : ℕ) (t u : Term) → Pair t u → Pair (put x n t) (put x n u)
-  pub needs : (t u : Term) → Pair t u → need t ≡ need u
-  pub come : (t u : Term) → Pair t u → ComeToTheSame Ends t u
+-- numbers for names that are not these
+abbrev pub AreOthers : (ℕ → Bool) → List (ℕ × ℕ) → Type 0
+AreOthers own [] = Unit {0}
+AreOthers own (b ∷ bs) = (own b.0 ≡ false) × AreOthers own bs
 
--- a pair of two given terms, with the same numbers for their names
-pub data AreTheTwo (t u : Term) : Term → Term → Type 0 where
-  with_numbers : (numbers : List (ℕ × ℕ)) → AreTheTwo t u (put_each numbers t) (put_each numbers u)
+-- A pair of two given terms, with the same numbers for their names, at a place round which these names are bound. Some names are the two terms' own: no
+-- number is put for one, and none of them is bound round the place
+pub data AreTheTwo (own : ℕ → Bool) (t u : Term) : (ℕ → Bool) → Term → Term → Type 0 where
+  with_numbers : {bound : ℕ → Bool} (numbers : List (ℕ × ℕ)) → AreOthers own numbers → ((x : ℕ) → bound x ≡ true → own x ≡ false)
+      → AreTheTwo own t u bound (put_each numbers t) (put_each numbers u)
 
 -- the one for the other, or the other for the one
-pub data EitherWay (Pair : Term → Term → Type 0) : Term → Term → Type 0 where
-  as_is : {t u : Term} → Pair t u → EitherWay Pair t u
-  turned : {t u : Term} → Pair t u → EitherWay Pair u t
+pub data EitherWay (Pair : (ℕ → Bool) → Term → Term → Type 0) : (ℕ → Bool) → Term → Term → Type 0 where
+  as_is : {bound : ℕ → Bool} {t u : Term} → Pair bound t u → EitherWay Pair bound t u
+  turned : {bound : ℕ → Bool} {t u : Term} → Pair bound t u → EitherWay Pair bound u t
 
 -- the same begin but for such pairs in the term
-pub record AreFilledOrigins (Pair : Term → Term → Type 0) (b b' : Origin) : Type 0 where
-  pub term : IsFilled Pair b.term b'.term
+pub record AreFilledOrigins (Pair : (ℕ → Bool) → Term → Term → Type 0) (b b' : Origin) : Type 0 where
+  pub term : IsFilled Pair none_bound b.term b'.term
   pub next_is : b.next ≡ b'.next
   pub end_is : b.end ≡ b'.end
 
 -- the same label, but that a fiber which is started begins with a term that has such pairs in it
-pub data AreFilledLabels (Pair : Term → Term → Type 0) : Label → Label → Type 0 where
+pub data AreFilledLabels (Pair : (ℕ → Bool) → Term → Term → Type 0) : Label → Label → Type 0 where
   itself : {l : Label} → AreFilledLabels Pair l l
   starts : {f : ℕ} {b b' : Origin} → AreFilledOrigins Pair b b' → AreFilledLabels Pair (Starts f b) (Starts f b')
 
-pub data AllFilled (Pair : Term → Term → Type 0) : List Label → List Label → Type 0 where
+pub data AllFilled (Pair : (ℕ → Bool) → Term → Term → Type 0) : List Label → List Label → Type 0 where
   none : AllFilled Pair [] []
   more : {l l' : Label} {ls ls' : List Label} → AreFilledLabels Pair l l' → AllFilled Pair ls ls' → AllFilled Pair (l ∷ ls) (l' ∷ ls')
 
 -- a fiber that is so far, with these counts, can go on so that it shows this, but for what it starts, to such an end
-pub record CanComeLike (Pair : Term → Term → Type 0) (Ends : Counts → Progress → Type 0) (c : Counts) (p : Progress) (shows : List Label) : Type 0 where
+pub record CanComeLike (Pair : (ℕ → Bool) → Term → Term → Type 0) (Ends : Counts → Progress → Type 0) (c : Counts) (p : Progress) (shows : List Label) : Type 0 where
   pub labels : List Label
   pub counts : Counts
   pub progress : Progress
@@ -76,21 +76,22 @@ pub record CanComeLike (Pair : Term → Term → Type 0) (Ends : Counts → Prog
   pub like : AllFilled Pair shows (shown labels)
   pub ends : Ends counts progress
 
--- The two terms use as many fiber numbers and, whatever numbers stand for their names, show the same wherever a fiber comes to them
-pub record ShowTheSameWithNumbers (t u : Term) : Type 0 where
-  pub needs : (numbers : List (ℕ × ℕ)) → need (put_each numbers t) ≡ need (put_each numbers u)
-  pub shows : (numbers : List (ℕ × ℕ)) → ShowTheSameEverywhere (put_each numbers t) (put_each numbers u)
+-- The two terms use as many fiber numbers and, whatever numbers stand for their names but their own ones, show the same wherever a fiber comes to them
+pub record ShowTheSameWithNumbers (own : ℕ → Bool) (t u : Term) : Type 0 where
+  pub needs : (numbers : List (ℕ × ℕ)) → AreOthers own numbers → need (put_each numbers t) ≡ need (put_each numbers u)
+  pub shows : (numbers : List (ℕ × ℕ)) → AreOthers own numbers → ShowTheSameEverywhere (put_each numbers t) (put_each numbers u)
 
 -- And wait for the same: by each outside a fiber can come with the one, showing this, to where it cannot step, or to its end, exactly where it can with the
 -- other
-pub record WaitForTheSameWithNumbers (t u : Term) : Type 0 where
-  pub needs : (numbers : List (ℕ × ℕ)) → need (put_each numbers t) ≡ need (put_each numbers u)
-  pub waits : (numbers : List (ℕ × ℕ)) (o : Outside) (f : ℕ) (ended : Bool) → ComeToTheSame (StopsThere o f ended) (put_each numbers t) (put_each numbers u)
+pub record WaitForTheSameWithNumbers (own : ℕ → Bool) (t u : Term) : Type 0 where
+  pub needs : (numbers : List (ℕ × ℕ)) → AreOthers own numbers → need (put_each numbers t) ≡ need (put_each numbers u)
+  pub waits : (numbers : List (ℕ × ℕ)) → AreOthers own numbers → (o : Outside) (f : ℕ) (ended : Bool)
+      → ComeToTheSame (StopsThere o f ended) (put_each numbers t) (put_each numbers u)
 
-pub record AreInterchangeable (t u : Term) : Type 0 where
-  pub shows : ShowTheSameWithNumbers t u
-  pub waits : WaitForTheSameWithNumbers t u
+pub record AreInterchangeable (own : ℕ → Bool) (t u : Term) : Type 0 where
+  pub shows : ShowTheSameWithNumbers own t u
+  pub waits : WaitForTheSameWithNumbers own t u
 
--- a whole term is another one, with the two put for one another at some places
-abbrev pub IsWithOther : Term → Term → Term → Term → Type 0
-IsWithOther t u = IsFilled (EitherWay (AreTheTwo t u))
+-- a whole term is another one, with the two put for one another at some places, round which none of their own names is bound
+abbrev pub IsWithOther : (ℕ → Bool) → Term → Term → Term → Term → Type 0
+IsWithOther own t u = IsFilled (EitherWay (AreTheTwo own t u)) none_bound

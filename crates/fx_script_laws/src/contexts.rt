@@ -12,15 +12,15 @@ ghost use Rattle.fx_script_laws.specs.Interchange.{ShowTheSameWithNumbers, WaitF
 /// in clean-ups and in loops. A fiber with the one whole term can show what one with the other can, with
 /// any counts.
 pub fn whole_terms_show_the_same()
-    ensures { (t u a b : Term) → ShowTheSameWithNumbers t u → IsWithOther t u a b → (c : Counts) (ls : List Label)
-        → CanComeTo Anywhere c (Runs a) ls → CanComeLike (EitherWay (AreTheTwo t u)) Anywhere c (Runs b) ls }
+    ensures { (own : ℕ → Bool) (t u a b : Term) → ShowTheSameWithNumbers own t u → IsWithOther own t u a b → (c : Counts) (ls : List Label)
+        → CanComeTo Anywhere c (Runs a) ls → CanComeLike (EitherWay (AreTheTwo own t u)) Anywhere c (Runs b) ls }
 {}
 
 /// And where they wait for the same everywhere, a fiber with the one whole term can come to where it cannot
 /// step, or to its end, as one with the other can, by each outside.
 pub fn whole_terms_wait_for_the_same()
-    ensures { (t u a b : Term) (o : Outside) (f : ℕ) (ended : Bool) → WaitForTheSameWithNumbers t u
-        → IsWithOther t u a b → (c : Counts) (ls : List Label)
+    ensures { (own : ℕ → Bool) (t u a b : Term) (o : Outside) (f : ℕ) (ended : Bool) → WaitForTheSameWithNumbers own t u
+        → IsWithOther own t u a b → (c : Counts) (ls : List Label)
         → CanComeTo (StopsThere o f ended) c (Runs a) ls
-        → CanComeLike (EitherWay (AreTheTwo t u)) (StopsThere o f ended) c (Runs b) ls }
+        → CanComeLike (EitherWay (AreTheTwo own t u)) (StopsThere o f ended) c (Runs b) ls }
 {}

@@ -14,17 +14,18 @@ ghost use Rattle.fx_term.specs.Need.{need};
 ghost use Rattle.fx_term.specs.Scope.{with_name, with_named, IsScoped};
 ghost use Rattle.fx_model.specs.MaskLaws.{forced_after};
 ghost use Rattle.fx_laws.specs.Names.{without_names};
+ghost use Rattle.fx_script_laws.specs.Filled.{none_bound};
 ghost use Rattle.fx_script_laws.specs.Interchange.{AreInterchangeable};
 
 /// `(forcer A (forcer B F))` for `(forcer (forcer A B) F)`.
 pub fn force_r_associates_in_scripts()
     ensures { (a b f : Term)
-        → AreInterchangeable (forced_after a (forced_after b f)) (forced_after (forced_after a b) f) }
+        → AreInterchangeable none_bound (forced_after a (forced_after b f)) (forced_after (forced_after a b) f) }
 {}
 
 /// `(forcer (canceled) A)` for `(seq (canceled) A)`.
 pub fn force_r_canceled_in_scripts()
-    ensures { (a : Term) → AreInterchangeable (forced_after Canceled a) (Let None Canceled a) }
+    ensures { (a : Term) → AreInterchangeable none_bound (forced_after Canceled a) (Let None Canceled a) }
 {}
 
 /// `(let x A (let y B F))` for `(let y (let x A B) F)`, where `F` stands under a binder of `x`, so that none
@@ -32,14 +33,14 @@ pub fn force_r_canceled_in_scripts()
 pub fn flat_map_associates_in_scripts()
     ensures { (scope : ℕ → Option NameKind) (x y : Option ℕ) (a b f : Term)
         → IsScoped (with_named x kind.OtherPoll scope) f
-        → AreInterchangeable (Let x a (Let y b f)) (Let y (Let x a b) f) }
+        → AreInterchangeable none_bound (Let x a (Let y b f)) (Let y (Let x a b) f) }
 {}
 
 /// `(bracket x A U R)` for `(bracketcase x A U (y R) (z R) R)`, where `R` uses neither `y` nor `z`.
 pub fn bracket_is_a_bracket_case_in_scripts()
     ensures { (scope : ℕ → Option NameKind) (x y z : ℕ) (a u r : Term)
         → IsScoped (with_name y kind.OtherPoll (with_name z kind.OtherPoll scope)) r
-        → AreInterchangeable (Bracket (Some x) a u r) (BracketCase x a u y r z r r) }
+        → AreInterchangeable none_bound (Bracket (Some x) a u r) (BracketCase x a u y r z r r) }
 {}
 
 /// `(guarantee A F)` for `(bracketcase x (pure 0) A (y F) (z F) F)`, where `A` and `F` do not use `x`, and
@@ -48,27 +49,27 @@ pub fn guarantee_is_a_bracket_case_in_scripts()
     ensures { (scope : ℕ → Option NameKind) (x y z : ℕ) (a f : Term)
         → IsScoped (with_name x kind.OtherPoll scope) a
         → IsScoped (without_names scope x y z) f
-        → AreInterchangeable (Bracket None (Pure (Number 0)) a f)
+        → AreInterchangeable none_bound (Bracket None (Pure (Number 0)) a f)
         (BracketCase x (Pure (Number 0)) a y f z f f) }
 {}
 
 /// `(cede)` for `(pure 0)`: no report tells turns.
 pub fn cede_is_pure_in_scripts()
-    ensures { AreInterchangeable Cede (Pure (Number 0)) }
+    ensures { AreInterchangeable none_bound Cede (Pure (Number 0)) }
 {}
 
 /// `(seq (never) A)` for `(never)`, and `(forcer (never) A)`.
 pub fn never_dominates_in_scripts()
-    ensures bound { (a : Term) → need a ≡ 0 → AreInterchangeable (Let None Never a) Never }
-    ensures forced { (a : Term) → need a ≡ 0 → AreInterchangeable (forced_after Never a) Never }
+    ensures bound { (a : Term) → need a ≡ 0 → AreInterchangeable none_bound (Let None Never a) Never }
+    ensures forced { (a : Term) → need a ≡ 0 → AreInterchangeable none_bound (forced_after Never a) Never }
 {}
 
 /// `(let x (raise v) B)` for `(raise v)`.
 pub fn raise_is_left_zero_in_scripts()
-    ensures { (x : Option ℕ) (v : Arg) (b : Term) → need b ≡ 0 → AreInterchangeable (Let x (Raise v) b) (Raise v) }
+    ensures { (x : Option ℕ) (v : Arg) (b : Term) → need b ≡ 0 → AreInterchangeable none_bound (Let x (Raise v) b) (Raise v) }
 {}
 
 /// `(handle (pure v) x B)` for `(pure v)`.
 pub fn handle_of_pure_in_scripts()
-    ensures { (v : Arg) (x : Option ℕ) (b : Term) → need b ≡ 0 → AreInterchangeable (Handle (Pure v) x b) (Pure v) }
+    ensures { (v : Arg) (x : Option ℕ) (b : Term) → need b ≡ 0 → AreInterchangeable none_bound (Handle (Pure v) x b) (Pure v) }
 {}

@@ -19,14 +19,14 @@ ghost use Rattle.fx_script_laws.specs.Interchange.{AreInterchangeable, IsWithOth
 /// the same lawful reports, so the same traces, outcomes, elements left and blocked fibers. They are so in
 /// one order of all events, too, and in one list, as those of a replay are.
 pub fn scripts_have_the_same_reports()
-    ensures reports { (t u : Term) (s z : ScriptView) (may : ℕ → Bool) (r : ReportView)
-        → AreInterchangeable t u → IsWithOther t u s.term z.term → s.capacities ≡ z.capacities
+    ensures reports { (own : ℕ → Bool) (t u : Term) (s z : ScriptView) (may : ℕ → Bool) (r : ReportView)
+        → AreInterchangeable own t u → IsWithOther own t u s.term z.term → s.capacities ≡ z.capacities
         → IsLawfulReport s may r ↔ IsLawfulReport z may r }
-    ensures orders { (t u : Term) (s z : ScriptView) (may : ℕ → Bool) (r : ReportView)
-        → AreInterchangeable t u → IsWithOther t u s.term z.term → s.capacities ≡ z.capacities
+    ensures orders { (own : ℕ → Bool) (t u : Term) (s z : ScriptView) (may : ℕ → Bool) (r : ReportView)
+        → AreInterchangeable own t u → IsWithOther own t u s.term z.term → s.capacities ≡ z.capacities
         → IsLawfulInOneOrder s may r ↔ IsLawfulInOneOrder z may r }
-    ensures lists { (t u : Term) (s z : ScriptView) (may : ℕ → Bool) (r : ReportView)
-        → AreInterchangeable t u → IsWithOther t u s.term z.term → s.capacities ≡ z.capacities
+    ensures lists { (own : ℕ → Bool) (t u : Term) (s z : ScriptView) (may : ℕ → Bool) (r : ReportView)
+        → AreInterchangeable own t u → IsWithOther own t u s.term z.term → s.capacities ≡ z.capacities
         → IsLawfulInOneList s may r ↔ IsLawfulInOneList z may r }
 {}
 
