@@ -15,12 +15,12 @@ use Rattle.fx_laws.proofs.Showing.{showing, everywhere}
 use Rattle.fx_laws.proofs.SteppedAlike.{both_step}
 use Rattle.fx_laws.proofs.CaseSteps.{released_leads, case_fails_leads, case_acquired_leads, succeeded_leads, erred_leads}
 
-record IsNumber (a : Arg) : Type 0 where
-  value : ℕ
-  is : a ≡ Number value
+pub record IsNumber (a : Arg) : Type 0 where
+  pub value : ℕ
+  pub is : a ≡ Number value
 
 -- once both numbers are put, the name that comes second stands for one of them
-number_put : (x y m n : ℕ) → IsNumber (put_arg y n (put_arg x m (Slot y)))
+pub number_put : (x y m n : ℕ) → IsNumber (put_arg y n (put_arg x m (Slot y)))
 number_put x y m n = by_test (y == x)
   where
     by_test : (b : Bool) → IsNumber (put_arg y n (if b then Number m else Slot y))

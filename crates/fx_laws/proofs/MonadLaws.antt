@@ -59,10 +59,10 @@ module _ (x : Option ℕ) (n : ℕ) (b : Term) where
       (one_leads showing place (handle_value_leads x n b) (record { closed = λ outer. refl; leaf_is = refl; clean = refl })))
 
 -- the name is that of its number
-pure_put : (x n : ℕ) → put_named (Some x) n (Pure (Slot x)) ≡ Pure (Number n)
+pub pure_put : (x n : ℕ) → put_named (Some x) n (Pure (Slot x)) ≡ Pure (Number n)
 pure_put x n = rw (eq-eqb x x refl) refl
 
-raise_put : (x n : ℕ) → put_named (Some x) n (Raise (Slot x)) ≡ Raise (Number n)
+pub raise_put : (x n : ℕ) → put_named (Some x) n (Raise (Slot x)) ≡ Raise (Number n)
 raise_put x n = rw (eq-eqb x x refl) refl
 
 module _ (x : ℕ) (a : Term) (place : Place) where

@@ -13,7 +13,8 @@ use Rattle.fx_model.proofs.Measures.{one_turn}
 use Rattle.fx_script_laws.specs.Filled.{none_bound, and_bound, IsFilled}
 use Rattle.fx_script_laws.specs.Filled as filled
 use Rattle.fx_script_laws.specs.Interchange.{AreFilledLabels, itself, starts}
-use Rattle.fx_script_laws.proofs.Holes.{ArePut, holes, AreAlong, holes_along, filled_need, deeper, first, put_filled, put_first, put_holes, put_named_filled, put_named_holes}
+use Rattle.fx_script_laws.proofs.Holes.{ArePut, holes, AreAlong, holes_along, filled_need, deeper, first, put_filled}
+use Rattle.fx_script_laws.proofs.Holes.{put_first, put_holes, put_named_filled, put_named_holes}
 use Rattle.fx_script_laws.proofs.Holes as along
 
 module _ (Pair : (ℕ → Bool) → Term → Term → Type 0) (puts : ArePut Pair)

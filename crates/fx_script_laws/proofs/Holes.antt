@@ -12,22 +12,32 @@ use Rattle.fx_script_laws.specs.Filled as filled
 -- the same but for such pairs, none of which is round the leaf, nor is a name bound there
 pub data AreAlong (Pair : (ℕ → Bool) → Term → Term → Type 0) : Term → Term → Type 0 where
   same : {t : Term} → AreAlong Pair t t
-  let_ : {x : Option ℕ} {a a' b b' : Term} → AreAlong Pair a a' → IsFilled Pair (and_named x none_bound) b b' → AreAlong Pair (term.Let x a b) (term.Let x a' b')
-  handle : {x : Option ℕ} {a a' b b' : Term} → AreAlong Pair a a' → IsFilled Pair (and_named x none_bound) b b' → AreAlong Pair (term.Handle a x b) (term.Handle a' x b')
+  let_ : {x : Option ℕ} {a a' b b' : Term} → AreAlong Pair a a' → IsFilled Pair (and_named x none_bound) b b'
+      → AreAlong Pair (term.Let x a b) (term.Let x a' b')
+  handle : {x : Option ℕ} {a a' b b' : Term} → AreAlong Pair a a' → IsFilled Pair (and_named x none_bound) b b'
+      → AreAlong Pair (term.Handle a x b) (term.Handle a' x b')
   if_ : {w : Arg} {a a' b b' : Term} → IsFilled Pair none_bound a a' → IsFilled Pair none_bound b b' → AreAlong Pair (term.If w a b) (term.If w a' b')
   for_ : {i n : ℕ} {a a' : Term} → IsFilled Pair (and_bound i none_bound) a a' → AreAlong Pair (term.For i n a) (term.For i n a')
   mask : {p : ℕ} {a a' : Term} → IsFilled Pair (and_bound p none_bound) a a' → AreAlong Pair (term.Mask p a) (term.Mask p a')
   poll : {p : Arg} {a a' : Term} → IsFilled Pair none_bound a a' → AreAlong Pair (term.Poll p a) (term.Poll p a')
   oncancel : {a a' f f' : Term} → AreAlong Pair a a' → IsFilled Pair none_bound f f' → AreAlong Pair (term.OnCancel a f) (term.OnCancel a' f')
-  bracket : {x : Option ℕ} {a a' u u' r r' : Term} → AreAlong Pair a a' → IsFilled Pair (and_named x none_bound) u u' → IsFilled Pair (and_named x none_bound) r r' → AreAlong Pair (term.Bracket x a u r) (term.Bracket x a' u' r')
-  bracket_case : {x y z : ℕ} {a a' u u' s s' e e' d d' : Term} → AreAlong Pair a a' → IsFilled Pair (and_bound x none_bound) u u' → IsFilled Pair (and_bound y (and_bound x none_bound)) s s' → IsFilled Pair (and_bound z (and_bound x none_bound)) e e' → IsFilled Pair (and_bound x none_bound) d d' → AreAlong Pair (term.BracketCase x a u y s z e d) (term.BracketCase x a' u' y s' z e' d')
-  start : {h : ℕ} {a a' b b' : Term} → IsFilled Pair none_bound a a' → IsFilled Pair (and_bound h none_bound) b b' → AreAlong Pair (term.Start h a b) (term.Start h a' b')
-  join : {f : Arg} {x e : ℕ} {a a' b b' d d' : Term} → IsFilled Pair (and_bound x none_bound) a a' → IsFilled Pair (and_bound e none_bound) b b' → IsFilled Pair none_bound d d' → AreAlong Pair (term.Join f x a e b d) (term.Join f x a' e b' d')
-  try_take : {q x : ℕ} {a a' b b' : Term} → IsFilled Pair (and_bound x none_bound) a a' → IsFilled Pair none_bound b b' → AreAlong Pair (term.TryTake q x a b) (term.TryTake q x a' b')
+  bracket : {x : Option ℕ} {a a' u u' r r' : Term} → AreAlong Pair a a' → IsFilled Pair (and_named x none_bound) u u'
+      → IsFilled Pair (and_named x none_bound) r r' → AreAlong Pair (term.Bracket x a u r) (term.Bracket x a' u' r')
+  bracket_case : {x y z : ℕ} {a a' u u' s s' e e' d d' : Term} → AreAlong Pair a a' → IsFilled Pair (and_bound x none_bound) u u'
+      → IsFilled Pair (and_bound y (and_bound x none_bound)) s s' → IsFilled Pair (and_bound z (and_bound x none_bound)) e e'
+      → IsFilled Pair (and_bound x none_bound) d d' → AreAlong Pair (term.BracketCase x a u y s z e d) (term.BracketCase x a' u' y s' z e' d')
+  start : {h : ℕ} {a a' b b' : Term} → IsFilled Pair none_bound a a' → IsFilled Pair (and_bound h none_bound) b b'
+      → AreAlong Pair (term.Start h a b) (term.Start h a' b')
+  join : {f : Arg} {x e : ℕ} {a a' b b' d d' : Term} → IsFilled Pair (and_bound x none_bound) a a' → IsFilled Pair (and_bound e none_bound) b b'
+      → IsFilled Pair none_bound d d' → AreAlong Pair (term.Join f x a e b d) (term.Join f x a' e b' d')
+  try_take : {q x : ℕ} {a a' b b' : Term} → IsFilled Pair (and_bound x none_bound) a a' → IsFilled Pair none_bound b b'
+      → AreAlong Pair (term.TryTake q x a b) (term.TryTake q x a' b')
   masked : {r : ℕ} {a a' : Term} → AreAlong Pair a a' → AreAlong Pair (term.Masked r a) (term.Masked r a')
   opened : {r : ℕ} {a a' : Term} → AreAlong Pair a a' → AreAlong Pair (term.Opened r a) (term.Opened r a')
   in_use : {k : ℕ} {a a' r r' : Term} → AreAlong Pair a a' → IsFilled Pair none_bound r r' → AreAlong Pair (term.InUse k a r) (term.InUse k a' r')
-  in_use_case : {k y z : ℕ} {a a' s s' e e' d d' : Term} → AreAlong Pair a a' → IsFilled Pair (and_bound y none_bound) s s' → IsFilled Pair (and_bound z none_bound) e e' → IsFilled Pair none_bound d d' → AreAlong Pair (term.InUseCase k a y s z e d) (term.InUseCase k a' y s' z e' d')
+  in_use_case : {k y z : ℕ} {a a' s s' e e' d d' : Term} → AreAlong Pair a a' → IsFilled Pair (and_bound y none_bound) s s'
+      → IsFilled Pair (and_bound z none_bound) e e' → IsFilled Pair none_bound d d'
+      → AreAlong Pair (term.InUseCase k a y s z e d) (term.InUseCase k a' y s' z e' d')
   in_release : {k : ℕ} {a a' : Term} {w : Done} → AreAlong Pair a a' → AreAlong Pair (term.InRelease k a w) (term.InRelease k a' w)
   loop : {i k n : ℕ} {a a' : Term} → IsFilled Pair (and_bound i none_bound) a a' → AreAlong Pair (term.Loop i k n a) (term.Loop i k n a')
 
@@ -111,7 +121,7 @@ module _ {Pair : (ℕ → Bool) → Term → Term → Type 0} where
 
   -- the two use as many fiber numbers, where those of a pair do
   pub filled_need : ((v : ℕ → Bool) (t u : Term) → Pair v t u → need t ≡ need u) → {v : ℕ → Bool} {t u : Term} → IsFilled Pair v t u → need t ≡ need u
-  filled_need n (filled.pair {v = v} {t = t} {u = u} s) = n v t u s
+  filled_need n (filled.pair {bound = v} {t = t} {u = u} s) = n v t u s
   filled_need n filled.same = refl
   filled_need n (filled.let_ p q) = let a = filled_need n p in let b = filled_need n q in cc
   filled_need n (filled.handle p q) = let a = filled_need n p in let b = filled_need n q in cc
@@ -138,7 +148,7 @@ module _ {Pair : (ℕ → Bool) → Term → Term → Type 0} where
   module _ (puts : ArePut Pair) where
     abbrev pub put_filled : {v v' : ℕ → Bool} {x : ℕ} → IsPutUnder v v' x → (n : ℕ) {t u : Term} → IsFilled Pair v t u
         → IsFilled Pair v' (put x n t) (put x n u)
-    put_filled h n (filled.pair {v = v} {t = t} {u = u} s) = filled.pair (puts v _ _ h n t u s)
+    put_filled h n (filled.pair {bound = v} {t = t} {u = u} s) = filled.pair (puts v _ _ h n t u s)
     put_filled h n filled.same = filled.same
     put_filled h n (filled.let_ {x = y} p q) = filled.let_ (put_filled h n p) (put_filled (deeper_named y h) n q)
     put_filled h n (filled.handle {x = y} p q) = filled.handle (put_filled h n p) (put_filled (deeper_named y h) n q)
@@ -148,14 +158,17 @@ module _ {Pair : (ℕ → Bool) → Term → Term → Type 0} where
     put_filled h n (filled.poll p) = filled.poll (put_filled h n p)
     put_filled h n (filled.oncancel p q) = filled.oncancel (put_filled h n p) (put_filled h n q)
     put_filled h n (filled.bracket {x = y} p q r) = filled.bracket (put_filled h n p) (put_filled (deeper_named y h) n q) (put_filled (deeper_named y h) n r)
-    put_filled h n (filled.bracket_case {x = x0} {y = y0} {z = z0} p q r s w) = filled.bracket_case (put_filled h n p) (put_filled (deeper x0 h) n q) (put_filled (deeper y0 (deeper x0 h)) n r) (put_filled (deeper z0 (deeper x0 h)) n s) (put_filled (deeper x0 h) n w)
+    put_filled h n (filled.bracket_case {x =
+        x0} {y = y0} {z = z0} p q r s w) = filled.bracket_case (put_filled h n p) (put_filled (deeper x0 h) n q)
+        (put_filled (deeper y0 (deeper x0 h)) n r) (put_filled (deeper z0 (deeper x0 h)) n s) (put_filled (deeper x0 h) n w)
     put_filled h n (filled.start {h = h0} p q) = filled.start (put_filled h n p) (put_filled (deeper h0 h) n q)
     put_filled h n (filled.join {x = x0} {e = e0} p q r) = filled.join (put_filled (deeper x0 h) n p) (put_filled (deeper e0 h) n q) (put_filled h n r)
     put_filled h n (filled.try_take {x = x0} p q) = filled.try_take (put_filled (deeper x0 h) n p) (put_filled h n q)
     put_filled h n (filled.masked p) = filled.masked (put_filled h n p)
     put_filled h n (filled.opened p) = filled.opened (put_filled h n p)
     put_filled h n (filled.in_use p q) = filled.in_use (put_filled h n p) (put_filled h n q)
-    put_filled h n (filled.in_use_case {y = y0} {z = z0} p q r s) = filled.in_use_case (put_filled h n p) (put_filled (deeper y0 h) n q) (put_filled (deeper z0 h) n r) (put_filled h n s)
+    put_filled h n (filled.in_use_case {y =
+        y0} {z = z0} p q r s) = filled.in_use_case (put_filled h n p) (put_filled (deeper y0 h) n q) (put_filled (deeper z0 h) n r) (put_filled h n s)
     put_filled h n (filled.in_release p) = filled.in_release (put_filled h n p)
     put_filled h n (filled.loop {i = i0} p) = filled.loop (put_filled (deeper i0 h) n p)
 
@@ -169,15 +182,34 @@ module _ {Pair : (ℕ → Bool) → Term → Term → Type 0} where
     put_holes h n (filled.mask {p = p0} p) = put_holes (deeper p0 h) n p
     put_holes h n (filled.poll p) = put_holes h n p
     put_holes h n (filled.oncancel p q) = let a = put_holes h n p in let b = put_holes h n q in omega arith
-    put_holes h n (filled.bracket {x = y} p q r) = let a = put_holes h n p in let b = put_holes (deeper_named y h) n q in let c = put_holes (deeper_named y h) n r in omega arith
-    put_holes h n (filled.bracket_case {x = x0} {y = y0} {z = z0} p q r s w) = let a = put_holes h n p in let b = put_holes (deeper x0 h) n q in let c = put_holes (deeper y0 (deeper x0 h)) n r in let d = put_holes (deeper z0 (deeper x0 h)) n s in let e = put_holes (deeper x0 h) n w in omega arith
+    put_holes h n (filled.bracket {x = y} p q r) =
+        let a = put_holes h n p in
+        let b = put_holes (deeper_named y h) n q in
+        let c = put_holes (deeper_named y h) n r in
+        omega arith
+    put_holes h n (filled.bracket_case {x = x0} {y = y0} {z = z0} p q r s w) =
+        let a = put_holes h n p in
+        let b = put_holes (deeper x0 h) n q in
+        let c = put_holes (deeper y0 (deeper x0 h)) n r in
+        let d = put_holes (deeper z0 (deeper x0 h)) n s in
+        let e = put_holes (deeper x0 h) n w in
+        omega arith
     put_holes h n (filled.start {h = h0} p q) = let a = put_holes h n p in let b = put_holes (deeper h0 h) n q in omega arith
-    put_holes h n (filled.join {x = x0} {e = e0} p q r) = let a = put_holes (deeper x0 h) n p in let b = put_holes (deeper e0 h) n q in let c = put_holes h n r in omega arith
+    put_holes h n (filled.join {x = x0} {e = e0} p q r) =
+        let a = put_holes (deeper x0 h) n p in
+        let b = put_holes (deeper e0 h) n q in
+        let c = put_holes h n r in
+        omega arith
     put_holes h n (filled.try_take {x = x0} p q) = let a = put_holes (deeper x0 h) n p in let b = put_holes h n q in omega arith
     put_holes h n (filled.masked p) = put_holes h n p
     put_holes h n (filled.opened p) = put_holes h n p
     put_holes h n (filled.in_use p q) = let a = put_holes h n p in let b = put_holes h n q in omega arith
-    put_holes h n (filled.in_use_case {y = y0} {z = z0} p q r s) = let a = put_holes h n p in let b = put_holes (deeper y0 h) n q in let c = put_holes (deeper z0 h) n r in let d = put_holes h n s in omega arith
+    put_holes h n (filled.in_use_case {y = y0} {z = z0} p q r s) =
+        let a = put_holes h n p in
+        let b = put_holes (deeper y0 h) n q in
+        let c = put_holes (deeper z0 h) n r in
+        let d = put_holes h n s in
+        omega arith
     put_holes h n (filled.in_release p) = put_holes h n p
     put_holes h n (filled.loop {i = i0} {k = k} {n = c} p) = ap (λ (m : ℕ). (c - k) * m) (put_holes (deeper i0 h) n p)
 

@@ -221,7 +221,8 @@ release_each t s (unnamed x y z a u r i j p q) =
     bracket_follows None x y z u r (λ m. put_unused x m u i) (λ m. put_unused x m r j) (λ m n. put_unused y n r p) (λ m n. put_unused z n r q) a
 
 pub bracket_of_one_release : (scope : ℕ → Option NameKind) (x y z : ℕ) (a u r : Term)
-    → IsScoped (with_name y kind.OtherPoll (with_name z kind.OtherPoll scope)) r → AreInterchangeable none_bound (Bracket (Some x) a u r) (BracketCase x a u y r z r r)
+    → IsScoped (with_name y kind.OtherPoll (with_name z kind.OtherPoll scope)) r
+    → AreInterchangeable none_bound (Bracket (Some x) a u r) (BracketCase x a u y r z r r)
 bracket_of_one_release scope x y z a u r scoped =
     let last = with_name z kind.OtherPoll scope in
     let there = with_name y kind.OtherPoll last in

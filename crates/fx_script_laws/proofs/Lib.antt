@@ -14,3 +14,4 @@ pub mod LawsInScripts
 pub mod PutNeeds
 pub mod EndsInScripts
 pub mod ExampleScripts
+pub mod OwnNames

@@ -41,7 +41,8 @@ module _ {Pair : (ℕ → Bool) → Term → Term → Type 0} (puts : ArePut Pai
       (filled_come puts needs (kept o f (has_ended p)) (pairs o f (has_ended p)) (first_counts b) (Runs b.term) (Runs b'.term) (runs s.term) ls c p run
       (unable, refl))
 
-  module _ (s : ScriptView) (other : Term) (may : ℕ → Bool) (r : ReportView) (lawful : IsLawfulReport s may r) (terms : IsFilled Pair none_bound s.term other) where
+  module _ (s : ScriptView) (other : Term) (may : ℕ → Bool) (r : ReportView) (lawful : IsLawfulReport s may r)
+      (terms : IsFilled Pair none_bound s.term other) where
     -- the script with the other term
     abbrev s' : ScriptView
     s' = record { term = other; capacities = s.capacities }

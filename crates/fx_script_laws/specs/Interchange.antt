@@ -68,7 +68,8 @@ pub data AllFilled (Pair : (ℕ → Bool) → Term → Term → Type 0) : List L
   more : {l l' : Label} {ls ls' : List Label} → AreFilledLabels Pair l l' → AllFilled Pair ls ls' → AllFilled Pair (l ∷ ls) (l' ∷ ls')
 
 -- a fiber that is so far, with these counts, can go on so that it shows this, but for what it starts, to such an end
-pub record CanComeLike (Pair : (ℕ → Bool) → Term → Term → Type 0) (Ends : Counts → Progress → Type 0) (c : Counts) (p : Progress) (shows : List Label) : Type 0 where
+pub record CanComeLike (Pair : (ℕ → Bool) → Term → Term → Type 0) (Ends : Counts → Progress → Type 0) (c : Counts) (p : Progress)
+    (shows : List Label) : Type 0 where
   pub labels : List Label
   pub counts : Counts
   pub progress : Progress

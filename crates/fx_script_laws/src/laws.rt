@@ -6,7 +6,7 @@
 //! by the numbers that terms before them can use, so that the numbers of later fibers would differ.
 ghost use Rattle.std.specs.Prelude.{◌≡◌, ℕ, Option, Some, None};
 ghost use Rattle.fx_term.specs.declared.node.Arg.{Arg};
-ghost use Rattle.fx_term.specs.declared.node.Arg.TheVariants.{Number};
+ghost use Rattle.fx_term.specs.declared.node.Arg.TheVariants.{Number, Slot};
 ghost use Rattle.fx_term.specs.declared.name_kind.NameKind.{NameKind};
 ghost use Rattle.fx_term.specs.declared.name_kind.NameKind.TheVariants as kind;
 ghost use Rattle.fx_term.specs.Term.{Term, Pure, Raise, Canceled, Never, Cede, Let, Handle, Bracket, BracketCase};
@@ -14,7 +14,7 @@ ghost use Rattle.fx_term.specs.Need.{need};
 ghost use Rattle.fx_term.specs.Scope.{with_name, with_named, IsScoped};
 ghost use Rattle.fx_model.specs.MaskLaws.{forced_after};
 ghost use Rattle.fx_laws.specs.Names.{without_names};
-ghost use Rattle.fx_script_laws.specs.Filled.{none_bound};
+ghost use Rattle.fx_script_laws.specs.Filled.{none_bound, and_bound};
 ghost use Rattle.fx_script_laws.specs.Interchange.{AreInterchangeable};
 
 /// `(forcer A (forcer B F))` for `(forcer (forcer A B) F)`.
@@ -72,4 +72,22 @@ pub fn raise_is_left_zero_in_scripts()
 /// `(handle (pure v) x B)` for `(pure v)`.
 pub fn handle_of_pure_in_scripts()
     ensures { (v : Arg) (x : Option ℕ) (b : Term) → need b ≡ 0 → AreInterchangeable none_bound (Handle (Pure v) x b) (Pure v) }
+{}
+
+/// `(let x A (pure x))` for `A`. The name is the first term's own: nothing round it may bind `x`, as in a
+/// script nothing does.
+pub fn flat_map_right_identity_in_scripts()
+    ensures { (x : ℕ) (a : Term) → AreInterchangeable (and_bound x none_bound) (Let (Some x) a (Pure (Slot x))) a }
+{}
+
+/// `(handle A x (raise x))` for `A`, in the same way.
+pub fn handle_by_raise_in_scripts()
+    ensures { (x : ℕ) (a : Term) → AreInterchangeable (and_bound x none_bound) (Handle a (Some x) (Raise (Slot x))) a }
+{}
+
+/// `(bracketcase x A U (y (seq S (pure y))) (z E) C)` for `(bracketcase x A U (y S) (z E) C)`, where nothing
+/// round them binds `y`.
+pub fn value_of_a_release_in_scripts()
+    ensures { (x y z : ℕ) (a u s e d : Term) → AreInterchangeable (and_bound y none_bound)
+        (BracketCase x a u y (Let None s (Pure (Slot y))) z e d) (BracketCase x a u y s z e d) }
 {}
