@@ -15,3 +15,4 @@ pub mod PutNeeds
 pub mod EndsInScripts
 pub mod ExampleScripts
 pub mod OwnNames
+pub mod KeptApart

@@ -16,8 +16,10 @@
 //! | [`contexts`] | a fiber with the one whole term shows what one with the other does, and waits where that does |
 //! | [`scripts`] | two scripts that differ at such places have the same lawful reports |
 //! | [`laws`] | which terms can be put for one another |
+//! | [`refused`] | which cannot |
 #![tactic(auto)]
 
 pub mod contexts;
 pub mod laws;
+pub mod refused;
 pub mod scripts;

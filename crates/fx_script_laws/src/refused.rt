@@ -1,0 +1,25 @@
+//! Terms that cannot be put for one another, so that the laws say something.
+ghost use Rattle.std.specs.Prelude.{ℕ, Bool, None};
+ghost use Rattle.fx_term.specs.declared.node.Arg.TheVariants.{Number};
+ghost use Rattle.fx_term.specs.Term.{Pure, Canceled, Never, Let, Mask, OnCancel, Offer};
+ghost use Rattle.fx_model.specs.MaskLaws.{forced_after};
+ghost use Rattle.fx_script_laws.specs.Interchange.{AreInterchangeable};
+
+/// Not `(never)` for `(canceled)`.
+pub fn never_is_not_put_for_canceled()
+    ensures { (own : ℕ → Bool) → AreInterchangeable own Never Canceled → ⊥ }
+{}
+
+/// Not `(mask p T)` for `T`, where that is `(seq (canceled) (offer q 1))`.
+pub fn mask_is_not_put_for_its_inside()
+    ensures { (own : ℕ → Bool) → AreInterchangeable own (Mask 0 (Let None Canceled (Offer 0 (Number 1))))
+        (Let None Canceled (Offer 0 (Number 1))) → ⊥ }
+{}
+
+/// Not `(forcer (pure 0) A)` for `A`, where that is `(oncancel (canceled) (offer q 1))`: a request can be
+/// seen between the two.
+pub fn step_is_not_put_before_a_term()
+    ensures { (own : ℕ → Bool)
+        → AreInterchangeable own (forced_after (Pure (Number 0)) (OnCancel Canceled (Offer 0 (Number 1))))
+        (OnCancel Canceled (Offer 0 (Number 1))) → ⊥ }
+{}
