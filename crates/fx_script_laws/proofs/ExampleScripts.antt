@@ -1,7 +1,8 @@
 -- Two laws, written out for scripts.
-use Rattle.std.proofs.Common.{ℕ, Bool, Option, None, List, [], refl}
+use Rattle.std.proofs.Common.{◌≡◌, ◌≢◌, ℕ, ◌==◌, if◌then◌else◌, Bool, true, false, Option, Some, None, List, [], refl, sym, ◌∙◌}
+use Rattle.std.proofs.lemmas.Bool.{eqb-true, ne_eqb}
 use Rattle.std.specs.Prelude.{◌↔◌}
-use Rattle.fx_term.specs.declared.node.Arg.TheVariants.{Number}
+use Rattle.fx_term.specs.declared.node.Arg.TheVariants.{Number, Slot}
 use Rattle.fx_term.specs.declared.name_kind.NameKind.{NameKind}
 use Rattle.fx_term.specs.declared.name_kind.NameKind.TheVariants as kind
 use Rattle.fx_term.specs.Scope.{with_name, IsScoped}
@@ -10,10 +11,11 @@ use Rattle.fx_model.specs.MaskLaws.{forced_after}
 use Rattle.fx_model.specs.Report.{ReportView}
 use Rattle.fx_model.specs.LawfulReport.{IsLawfulReport}
 use Rattle.fx_laws.specs.Names.{without_names}
-use Rattle.fx_script_laws.specs.Filled.{none_bound, IsFilled}
+use Rattle.fx_script_laws.specs.Filled.{none_bound, and_bound, IsFilled}
 use Rattle.fx_script_laws.specs.Filled as filled
 use Rattle.fx_script_laws.specs.Interchange.{EitherWay, AreTheTwo, as_is, with_numbers}
 use Rattle.fx_script_laws.proofs.SameReports.{same_reports}
+use Rattle.fx_script_laws.proofs.OwnNames.{value_given_again}
 use Rattle.fx_script_laws.proofs.LawsInScripts.{forced_in_order, guarantee_of_one_release}
 
 -- the two terms themselves
@@ -47,3 +49,20 @@ guaranteed scope p x y e a f b c capacities may r scoped_a scoped_f =
     (record { term = Mask p (Let None b (Let None t c)); capacities = capacities })
     (record { term = Mask p (Let None b (Let None u c)); capacities = capacities }) may r
     (filled.mask (filled.let_ filled.same (filled.let_ (here t u) filled.same))) refl
+
+-- a name that is bound round a place is another one
+apart_in : (i x : ℕ) → i ≢ x → (z : ℕ) → and_bound i none_bound z ≡ true → and_bound x none_bound z ≡ false
+apart_in i x other z = by_test (z == i) refl
+  where
+    by_test : (b : Bool) → (z == i) ≡ b → (if b then true else false) ≡ true → and_bound x none_bound z ≡ false
+    by_test true e h = rw (ne_eqb z x (λ same. other (sym (eqb-true z i e) ∙ same))) refl
+    by_test false e h = absurd cc
+
+pub given_again : (i n x : ℕ) (a b : Term) (capacities : List ℕ) (may : ℕ → Bool) (r : ReportView) → i ≢ x
+    → IsLawfulReport (record { term = Let None (For i n (Let (Some x) a (Pure (Slot x)))) b; capacities = capacities }) may r
+    ↔ IsLawfulReport (record { term = Let None (For i n a) b; capacities = capacities }) may r
+given_again i n x a b capacities may r other =
+    let t = Let (Some x) a (Pure (Slot x)) in
+    same_reports (and_bound x none_bound) t a (value_given_again x a).waits (record { term = Let None (For i n t) b; capacities = capacities })
+    (record { term = Let None (For i n a) b; capacities = capacities }) may r
+    (filled.let_ (filled.for_ (filled.pair (as_is (with_numbers [] tt (apart_in i x other))))) filled.same) refl

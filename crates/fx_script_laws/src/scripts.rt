@@ -1,6 +1,6 @@
 //! What holds of two terms wherever a fiber comes to them holds in every script.
-ghost use Rattle.std.specs.Prelude.{◌≡◌, ◌↔◌, ℕ, Bool, List, Option, None};
-ghost use Rattle.fx_term.specs.declared.node.Arg.TheVariants.{Number};
+ghost use Rattle.std.specs.Prelude.{◌≡◌, ◌≢◌, ◌↔◌, ℕ, Bool, List, Option, Some, None};
+ghost use Rattle.fx_term.specs.declared.node.Arg.TheVariants.{Number, Slot};
 ghost use Rattle.fx_term.specs.declared.name_kind.NameKind.{NameKind};
 ghost use Rattle.fx_term.specs.declared.name_kind.NameKind.TheVariants as kind;
 ghost use Rattle.fx_term.specs.Scope.{with_name, IsScoped};
@@ -57,4 +57,15 @@ pub fn scripts_may_guarantee_by_cases()
           term = Mask p (Let None b (Let None (BracketCase x (Pure (Number 0)) a y f e f f) c));
           capacities = capacities;
         }) may r }
+{}
+
+/// Written out for the right identity of `flatMap`, in a loop whose name is another one: the name that the
+/// term binds is its own. `(seq (for i n (let x A (pure x))) B)`.
+pub fn scripts_may_give_a_value_again()
+    ensures { (i n x : ℕ) (a b : Term) (capacities : List ℕ) (may : ℕ → Bool) (r : ReportView) → i ≢ x
+        → IsLawfulReport (record {
+          term = Let None (For i n (Let (Some x) a (Pure (Slot x)))) b;
+          capacities = capacities;
+        }) may r
+        ↔ IsLawfulReport (record { term = Let None (For i n a) b; capacities = capacities }) may r }
 {}
