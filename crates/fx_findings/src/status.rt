@@ -1,34 +1,19 @@
 //! The status after a search of a script's runs.
-ghost use Rattle.std.specs.Prelude.{◌≡◌, is_some, not};
-ghost use Rattle.std.specs.List.{list_any};
-ghost use Rattle.fx_findings.specs.Explored.{view_told, is_blocked};
+ghost use Rattle.std.specs.Prelude.{◌≡◌};
 ghost use Rattle.fx_findings.specs.Status.{has_blocked, ending_status, explored_status};
 
-use crate::explored::{Explored, Finding, Halt, Told};
+use crate::explored::{Explored, Finding};
 use fx_report::{BLOCKED, ENDED};
 use fx_search::Ending;
 
 /// A search did not go on from each state that it met, and found no report in which a fiber waits for good.
 pub const INCOMPLETE: u8 = 6;
 
-/// Whether one of these fibers is blocked.
-fn is_one_blocked(halts: &[Halt]) -> bool
-    ensures { result ≡ list_any (λ h. not (is_some h.outcome)) halts.now }
-{
-    halts.iter().any(|halt| halt.outcome.is_none())
-}
-
-/// Whether some fiber is blocked.
-fn is_blocked(told: &Told) -> bool
-    ensures { result ≡ is_blocked (view_told told.now) }
-{
-    is_one_blocked(&told.halts)
-}
-
+/// Whether a fiber is blocked in one of them.
 fn has_blocked(findings: &[Finding]) -> bool
     ensures { result ≡ has_blocked findings.now }
 {
-    findings.iter().any(|finding| is_blocked(&finding.told))
+    findings.iter().any(|finding| finding.told.is_blocked())
 }
 
 /// The status where no report has a blocked fiber.
