@@ -9,3 +9,7 @@ pub mod StepsThere
 pub mod WholeAnswers
 pub mod PrintedSchedules
 pub mod FoundReplays
+pub mod MappedSplits
+pub mod LentLines
+pub mod ReadBlocks
+pub mod Judged

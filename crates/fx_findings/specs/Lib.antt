@@ -5,3 +5,5 @@ pub mod StatesTold
 pub mod Status
 pub mod Text
 pub mod Printed
+pub mod Expected
+pub mod Compared

@@ -34,9 +34,11 @@ ending_text Limit = codes "incomplete"
 ending_text Memory = codes "incomplete"
 
 -- how many reports there are, and from how many states the search went on
+abbrev pub counts_text : ℕ → ℕ → List ℕ
+counts_text reports states = codes "explored: " ++ decimal reports ++ codes " reports, " ++ decimal states ++ codes " states, "
+
 abbrev pub last_line : ℕ → ℕ → Ending → List ℕ
-last_line reports states ending =
-    codes "explored: " ++ decimal reports ++ codes " reports, " ++ decimal states ++ codes " states, " ++ ending_text ending ++ line_end
+last_line reports states ending = counts_text reports states ++ ending_text ending ++ line_end
 
 abbrev pub explored_text : List (List ℕ) → Explored → List ℕ
 explored_text names e = flat_map (finding_text names) e.findings.items ++ last_line (length e.findings.items) e.states e.ending

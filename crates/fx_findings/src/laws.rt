@@ -1,18 +1,25 @@
 //! Laws of what is found, and of what is printed. A function here does nothing: its contract is the law.
-ghost use Rattle.std.specs.Prelude.{◌≡◌, ◌≤◌, ℕ, List, All, IfSome, length};
+ghost use Rattle.std.specs.Prelude.{◌≡◌, ◌≤◌, ◌==◌, ℕ, false, List, ◌∷◌, ◌++◌, All, IfSome, length};
+ghost use Rattle.std.specs.List.{flat_map};
+ghost use Rattle.fx_term.specs.Lists.{Among};
 ghost use Rattle.fx_term.specs.Script.{ScriptView};
 ghost use Rattle.fx_model.specs.Report.{ReportView};
 ghost use Rattle.fx_text.specs.declared.pick.Pick.{Pick};
 ghost use Rattle.fx_text.specs.Limits.{most_picks};
 ghost use Rattle.fx_text.specs.Schedule.{IsSchedule};
 ghost use Rattle.fx_report.specs.Status.{status_of};
-ghost use Rattle.fx_report.specs.Text.{report_text};
+ghost use Rattle.fx_report.specs.Text.{line_end, report_text};
+ghost use Rattle.fx_report.specs.declared.status.TheConstants.{ENDED};
 ghost use Rattle.fx_plain.specs.Chosen.{IsReplay};
 ghost use Rattle.fx_plain.specs.SettledRun.{HasSettledRun};
 ghost use Rattle.fx_explore.specs.Told.{told_of};
 ghost use Rattle.fx_findings.specs.declared.explored.Finding.{Finding};
+ghost use Rattle.fx_findings.specs.declared.explored.Explored.{Explored};
+ghost use Rattle.fx_findings.specs.declared.compared.TheConstants.{UNEXPECTED};
 ghost use Rattle.fx_findings.specs.declared.status.TheConstants.{INCOMPLETE};
-ghost use Rattle.fx_findings.specs.Explored.{view_told, schedule_of, IsFinding};
+ghost use Rattle.fx_findings.specs.Expected.{report_of, reports_of};
+ghost use Rattle.fx_findings.specs.Compared.{compared_status, TellsUnexpected};
+ghost use Rattle.fx_findings.specs.Explored.{view_told, schedule_of, IsFinding, IsUnrequestedReport, IsExplored};
 ghost use Rattle.fx_findings.specs.Printed.{TellsSo, HasSmallNumber};
 ghost use Rattle.fx_findings.specs.Text.{picks_text};
 
@@ -37,7 +44,35 @@ pub fn printed_schedule_is_read()
         → IsSchedule (picks_text ps) ps }
 {}
 
-/// The number of the status, which never changes.
-pub fn status_has_its_number()
-    ensures { INCOMPLETE ≡ 6 }
+/// Where all findings of a complete search are expected, the text says the report of each run in which nobody is
+/// requested from outside.
+pub fn each_report_is_expected()
+    ensures { (s : ScriptView) (most : ℕ) (e : Explored) (names : List (List ℕ)) (expected : List ℕ)
+        → IsExplored s most e → compared_status names expected e ≡ ENDED
+        → (r : ReportView) → IsUnrequestedReport s r
+        → Among (report_text names r) (reports_of expected) }
+{}
+
+/// Where one is not, what is printed is the report of such a run, which the text does not say, and that not all are.
+pub fn unexpected_report_is_told()
+    ensures { (s : ScriptView) (most : ℕ) (e : Explored) (names : List (List ℕ)) (expected : List ℕ)
+        → IsExplored s most e → compared_status names expected e ≡ UNEXPECTED
+        → TellsUnexpected s names expected e }
+{}
+
+/// A text that begins with lines, none of them empty, and an empty line, says first the report that these are without
+/// the lines of schedules and searches, if any is left, and then what the rest says.
+pub fn report_is_read()
+    ensures { (lines : List (List ℕ)) (rest : List ℕ)
+        → All (λ (line : List ℕ). All (λ b. (b == 10) ≡ false) line) lines
+        → All (λ (line : List ℕ). (length line == 0) ≡ false) lines
+        → (length (report_of lines) == 0) ≡ false
+        → reports_of (flat_map (λ (line : List ℕ). line ++ line_end) lines ++ line_end ++ rest)
+        ≡ report_of lines ∷ reports_of rest }
+{}
+
+/// The numbers of the statuses, which never change.
+pub fn statuses_have_their_numbers()
+    ensures incomplete { INCOMPLETE ≡ 6 }
+    ensures unexpected { UNEXPECTED ≡ 1 }
 {}

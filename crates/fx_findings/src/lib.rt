@@ -20,6 +20,8 @@
 //! says that these are all where there are more.
 #![tactic(auto)]
 
+mod compared;
+mod expected;
 mod explored;
 mod exploring;
 mod finding;
@@ -32,6 +34,7 @@ mod status;
 mod telling;
 mod write;
 
+pub use compared::{Compared, UNEXPECTED, compare};
 pub use explored::{Explored, Finding, Halt, Told};
 pub use exploring::explore;
 pub use status::{INCOMPLETE, explored_status};

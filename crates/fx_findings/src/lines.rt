@@ -3,7 +3,8 @@ ghost use Rattle.std.specs.Prelude.{◌≡◌, ◌++◌, codes, decimal, OnOk, o
 ghost use Rattle.std.specs.List.{flat_map};
 ghost use Rattle.fx_report.specs.Text.{line_end, number, outcome_text, halt_line};
 ghost use Rattle.fx_explore.specs.Told.{value_line};
-ghost use Rattle.fx_findings.specs.Text.{pick_text, schedule_line, ending_text, last_line};
+ghost use Rattle.fx_findings.specs.Text.{pick_text, schedule_line, ending_text, counts_text, last_line};
+ghost use Rattle.fx_findings.specs.Compared.{cut_text, judged_text, judged_line};
 
 use crate::explored::Halt;
 use fx_search::Ending;
@@ -128,6 +129,16 @@ fn push_ending(text: &mut String, ending: Ending) -> Result<(), AllocError>
     }
 }
 
+/// Appends how many reports were found, and from how many states.
+fn push_counts(text: &mut String, reports: usize, states: usize) -> Result<(), AllocError>
+    ensures { OnOk result (string_bytes text.new
+        ≡ string_bytes text.old ++ counts_text reports states) }
+{
+    push_numbered(text, "explored: ", reports as u64)?;
+    push_numbered(text, " reports, ", states as u64)?;
+    text.push_str(" states, ")
+}
+
 /// Appends the line that says how many reports were found, from how many states, and how the search ended.
 pub(crate) fn push_last_line(
     text: &mut String,
@@ -138,9 +149,45 @@ pub(crate) fn push_last_line(
     ensures { OnOk result (string_bytes text.new
         ≡ string_bytes text.old ++ last_line reports states ending) }
 {
-    push_numbered(text, "explored: ", reports as u64)?;
-    push_numbered(text, " reports, ", states as u64)?;
-    text.push_str(" states, ")?;
+    push_counts(text, reports, states)?;
     push_ending(text, ending)?;
+    end_line(text)
+}
+
+/// Appends that a search is not complete, where it is not, before what else is said of it.
+fn push_cut(text: &mut String, ending: Ending) -> Result<(), AllocError>
+    ensures { OnOk result (string_bytes text.new ≡ string_bytes text.old ++ cut_text ending) }
+{
+    match ending {
+        Ending::Exhausted => Ok(()),
+        Ending::Limit | Ending::Memory => text.push_str("incomplete, "),
+    }
+}
+
+/// Appends the words for findings that are all expected, or not.
+fn push_judged(text: &mut String, are_all: bool) -> Result<(), AllocError>
+    ensures { OnOk result (string_bytes text.new ≡ string_bytes text.old ++ judged_text are_all) }
+{
+    text.push_str(if are_all {
+        "all expected"
+    } else {
+        "not all expected"
+    })
+}
+
+/// Appends the line that says how many reports were found, from how many states, and whether all are expected.
+pub(crate) fn push_judged_line(
+    text: &mut String,
+    reports: usize,
+    states: usize,
+    ending: Ending,
+    are_all: bool,
+) -> Result<(), AllocError>
+    ensures { OnOk result (string_bytes text.new
+        ≡ string_bytes text.old ++ judged_line reports states ending are_all) }
+{
+    push_counts(text, reports, states)?;
+    push_cut(text, ending)?;
+    push_judged(text, are_all)?;
     end_line(text)
 }

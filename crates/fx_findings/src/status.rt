@@ -17,7 +17,7 @@ fn has_blocked(findings: &[Finding]) -> bool
 }
 
 /// The status where no report has a blocked fiber.
-fn ending_status(ending: Ending) -> u8
+pub(crate) fn ending_status(ending: Ending) -> u8
     ensures { result ≡ ending_status ending }
 {
     match ending {

@@ -38,7 +38,11 @@ fn push_value_lines(
     Ok(())
 }
 
-fn push_told(text: &mut String, queues: &[QueueDecl], told: &Told) -> Result<(), AllocError>
+pub(crate) fn push_told(
+    text: &mut String,
+    queues: &[QueueDecl],
+    told: &Told,
+) -> Result<(), AllocError>
     ensures { OnOk result (string_bytes text.new
         ≡ string_bytes text.old ++ told_text (names_of queues.now) (view_told told.now)) }
 {
@@ -47,7 +51,7 @@ fn push_told(text: &mut String, queues: &[QueueDecl], told: &Told) -> Result<(),
 }
 
 /// Appends the schedule, the report and an empty line.
-fn push_finding(
+pub(crate) fn push_finding(
     text: &mut String,
     queues: &[QueueDecl],
     finding: &Finding,
