@@ -8,14 +8,14 @@ use Rattle.fx_run.specs.declared.run_fault.RunFault.{RunFault}
 use Rattle.fx_command.specs.declared.command_fault.Refusal.{Refusal}
 use Rattle.fx_command.specs.declared.command_fault.CommandFault.{CommandFault}
 use Rattle.fx_command.specs.declared.command_fault.CommandFault.TheVariants.{Refused, Unreadable, Memory, Write, Run}
-use Rattle.fx_command.specs.Fetched.{FetchesScript, FetchesSchedule, FetchesNoScript, FetchesNoSchedule}
+use Rattle.fx_command.specs.Fetched.{FetchesScript, FetchesSchedule, FetchesAll, FetchesNoScript, FetchesNoSchedule, FetchesNone}
 use Rattle.fx_command.specs.declared.perform.Performed.{Performed}
-use Rattle.fx_command.specs.Performed.{Performs}
+use Rattle.fx_command.specs.Performed.{IsPerformed, Performs}
 use Rattle.fx_command.specs.Stream.{StreamView, PrintsAnswer}
 use Rattle.fx_command.specs.declared.call.Call.{Call}
 use Rattle.fx_command.specs.Call.{CallView, view_call, call_of}
-use Rattle.fx_command.specs.CommandAnswer.{performed, no_script, no_schedule, known_schedule, AnswersToCall, FailsToRun, Leaves}
-use Rattle.fx_command.specs.CommandAnswer.{ComesToRead, reads_script, reads_schedule}
+use Rattle.fx_command.specs.CommandAnswer.{performed, no_script, no_schedule, known_text, AnswersToCall, FailsToRun, Leaves}
+use Rattle.fx_command.specs.CommandAnswer.{ComesToRead, reads_script, reads_schedule, reads_expected}
 use Rattle.fx_command.specs.CommandAnswer.{TellsRefusal, TellsUnreadable, TellsRunFault, Runs}
 use Rattle.fx_command.specs.CommandAnswer.TellsRefusal.{told, not_taken as line_not_taken}
 use Rattle.fx_command.specs.CommandAnswer.TellsUnreadable.{told as unread_told, no_memory as unread_no_memory}
@@ -37,9 +37,11 @@ pub leaves_no_script : (holds : List ℕ → Option (List ℕ)) (call : CallView
 leaves_no_script holds call (Refused r) old without = (
   record {
     script = without.text;
-    schedule = known_or_empty (known_schedule holds call.schedule);
+    schedule = known_or_empty (known_text holds call.schedule);
+    expected = known_or_empty (known_text holds call.expected);
     is_script = without.is;
-    is_schedule = known_is (known_schedule holds call.schedule);
+    is_schedule = known_is (known_text holds call.schedule);
+    is_expected = known_is (known_text holds call.expected);
     answer = no_script without.holds;
   },
   refl,
@@ -50,13 +52,15 @@ leaves_no_script holds call Write old without = absurd without
 leaves_no_script holds call (Run fault) old without = absurd without
 
 pub leaves_no_schedule : (holds : List ℕ → Option (List ℕ)) (call : CallView) (m : Meaning) (fault : CommandFault) (old : StreamView)
-    → FetchesScript (holds call.script) m → FetchesNoSchedule call.schedule (known_schedule holds call.schedule) fault → Leaves holds call fault old old
+    → FetchesScript (holds call.script) m → FetchesNoSchedule call.schedule (known_text holds call.schedule) fault → Leaves holds call fault old old
 leaves_no_schedule holds call m (Refused r) old has without = (
   record {
     script = has.text;
     schedule = without.text;
+    expected = known_or_empty (known_text holds call.expected);
     is_script = has.is;
     is_schedule = without.is;
+    is_expected = known_is (known_text holds call.expected);
     answer = no_schedule has.holds without.holds;
   },
   refl,
@@ -66,46 +70,57 @@ leaves_no_schedule holds call m Memory old has without = refl
 leaves_no_schedule holds call m Write old has without = absurd without
 leaves_no_schedule holds call m (Run fault) old has without = absurd without
 
-pub leaves_unwritten : (holds : List ℕ → Option (List ℕ)) (call : CallView) (m : Meaning) (ps : List Pick) (r : Result Performed CommandFault)
-    (old new : StreamView) → FetchesScript (holds call.script) m → FetchesSchedule (known_schedule holds call.schedule) ps
-    → Performs call.command m ps r old new → IfErr r (λ fault. Leaves holds call fault old new)
-leaves_unwritten holds call m ps (Ok done) old new has picks whole = tt
-leaves_unwritten holds call m ps (Err Write) old new has picks (words, part) = (
+pub leaves_no_expected : (holds : List ℕ → Option (List ℕ)) (call : CallView) (m : Meaning) (fault : CommandFault) (old : StreamView)
+    → FetchesScript (holds call.script) m → FetchesNone call.expected fault → Leaves holds call fault old old
+leaves_no_expected holds call m (Refused r) old has without = absurd without
+leaves_no_expected holds call m (Unreadable name) old has without = (reads_expected (m, has) without, refl)
+leaves_no_expected holds call m Memory old has without = refl
+leaves_no_expected holds call m Write old has without = absurd without
+leaves_no_expected holds call m (Run fault) old has without = absurd without
+
+-- what is answered where all that is named was read
+all_read : (holds : List ℕ → Option (List ℕ)) (call : CallView) (m : Meaning) (ps : List Pick) (expected words : List ℕ) (status : ℕ) (text : List ℕ)
+    → FetchesScript (holds call.script) m → FetchesSchedule (known_text holds call.schedule) ps → FetchesAll (known_text holds call.expected) expected
+    → IsPerformed m ps expected call.command words status text → AnswersToCall holds call words status text
+all_read holds call m ps expected words status text has picks all done = record {
+  script = has.text;
+  schedule = picks.text;
+  expected = all.text;
+  is_script = has.is;
+  is_schedule = picks.is;
+  is_expected = all.is;
+  answer = performed has.holds picks.holds (subst (λ (e : List ℕ). IsPerformed m ps e call.command words status text) (sym all.holds) done);
+}
+
+pub leaves_unwritten : (holds : List ℕ → Option (List ℕ)) (call : CallView) (m : Meaning) (ps : List Pick) (expected : List ℕ)
+    (r : Result Performed CommandFault) (old new : StreamView) → FetchesScript (holds call.script) m → FetchesSchedule (known_text holds call.schedule) ps
+    → FetchesAll (known_text holds call.expected) expected → Performs call.command m ps expected r old new
+    → IfErr r (λ fault. Leaves holds call fault old new)
+leaves_unwritten holds call m ps expected (Ok done) old new has picks all whole = tt
+leaves_unwritten holds call m ps expected (Err Write) old new has picks all (words, part) = (
   words,
   record {
     status = part.status;
     text = part.text;
-    answer = record {
-      script = has.text;
-      schedule = picks.text;
-      is_script = has.is;
-      is_schedule = picks.is;
-      answer = performed has.holds picks.holds part.answer;
-    };
+    answer = all_read holds call m ps expected words part.status part.text has picks all part.answer;
     taken = part.taken;
   },
 )
-leaves_unwritten holds call m ps (Err Memory) old new has picks (can, kept) = kept
-leaves_unwritten holds call m ps (Err (Run fault)) old new has picks (fails, kept) = (((m, has), fails), kept)
-leaves_unwritten holds call m ps (Err (Refused r)) old new has picks none = absurd none
-leaves_unwritten holds call m ps (Err (Unreadable name)) old new has picks none = absurd none
+leaves_unwritten holds call m ps expected (Err Memory) old new has picks all (can, kept) = kept
+leaves_unwritten holds call m ps expected (Err (Run fault)) old new has picks all (fails, kept) = (((m, has), fails), kept)
+leaves_unwritten holds call m ps expected (Err (Refused r)) old new has picks all none = absurd none
+leaves_unwritten holds call m ps expected (Err (Unreadable name)) old new has picks all none = absurd none
 
-pub writes_answer : (holds : List ℕ → Option (List ℕ)) (call : CallView) (m : Meaning) (ps : List Pick) (r : Result Performed CommandFault)
-    (old new : StreamView) → FetchesScript (holds call.script) m → FetchesSchedule (known_schedule holds call.schedule) ps
-    → Performs call.command m ps r old new
+pub writes_answer : (holds : List ℕ → Option (List ℕ)) (call : CallView) (m : Meaning) (ps : List Pick) (expected : List ℕ)
+    (r : Result Performed CommandFault) (old new : StreamView) → FetchesScript (holds call.script) m → FetchesSchedule (known_text holds call.schedule) ps
+    → FetchesAll (known_text holds call.expected) expected → Performs call.command m ps expected r old new
     → IfOk r (λ done. PrintsAnswer (AnswersToCall holds call (string_bytes done.words)) done.status old new)
-writes_answer holds call m ps (Ok done) old new has picks whole = record {
+writes_answer holds call m ps expected (Ok done) old new has picks all whole = record {
   text = whole.text;
-  answer = record {
-    script = has.text;
-    schedule = picks.text;
-    is_script = has.is;
-    is_schedule = picks.is;
-    answer = performed has.holds picks.holds whole.answer;
-  };
+  answer = all_read holds call m ps expected (string_bytes done.words) done.status whole.text has picks all whole.answer;
   taken = whole.taken;
 }
-writes_answer holds call m ps (Err fault) old new has picks none = tt
+writes_answer holds call m ps expected (Err fault) old new has picks all none = tt
 
 -- the line of a refusal was told
 pub refusal_runs : (words : List (List ℕ)) (holds : List ℕ → Option (List ℕ)) (call : CallView) (r : Refusal) (old mid new said says : StreamView)

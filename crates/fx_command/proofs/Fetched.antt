@@ -1,6 +1,6 @@
 -- What is said of the part of a text that was read, said of the text.
-use Rattle.std.proofs.Common.{◌≡◌, ◌≢◌, ◌⊎◌, ℕ, ◌+◌, ◌<◌, Option, Some, None, Result, Ok, Err, List, [], length, take, codes, option_map, IfOk, IfErr, IfSome}
-use Rattle.std.proofs.Common.{Bor, inl, inr, refl, sym, ◌∙◌, subst, true, arith}
+use Rattle.std.proofs.Common.{◌≡◌, ◌≢◌, ◌⊎◌, ℕ, ◌+◌, ◌<◌, ◌≤◌, Option, Some, None, Result, Ok, Err, List, [], length, take, codes, option_map, IfOk, IfErr, IfSome}
+use Rattle.std.proofs.Common.{Bor, inl, inr, refl, sym, ◌∙◌, ap, subst, true, arith}
 use Rattle.std.specs.Prelude.{nat_lt}
 use Rattle.std.proofs.lemmas.Bool.{cases_lt, lt-ltb}
 use Rattle.std.proofs.lemmas.List.{take_all, length-take}
@@ -16,8 +16,8 @@ use Rattle.fx_command.specs.declared.command_fault.CommandFault.{CommandFault}
 use Rattle.fx_command.specs.declared.command_fault.CommandFault.TheVariants.{Refused, Unreadable, Memory, Write, Run}
 use Rattle.fx_command.specs.CommandFault.{IsRefusal, IsUnreadOrRefusal}
 use Rattle.fx_command.specs.Refused.{IsNoScript, IsNoSchedule}
-use Rattle.fx_command.specs.Fetched.{IsPrefixOf, OfText, KeepsFiles}
-use Rattle.fx_command.specs.CommandAnswer.{known_schedule}
+use Rattle.fx_command.specs.Fetched.{IsPrefixOf, OfText, FetchesAll, KeepsFiles}
+use Rattle.fx_command.specs.CommandAnswer.{known_text}
 
 -- the text was read whole, or it is too long and so is what was read of it
 same_or_long : (most : ℕ) (text read : List ℕ) → read ≡ take (1 + most) text → (read ≡ text) ⊎ ((most < length read) × (most < length text))
@@ -94,8 +94,16 @@ if_not_fetched IsName Refuses most known read (Err (Run fault)) of p h = absurd 
 pub empty_schedule : IsSchedule [] []
 empty_schedule = record { short = omega arith; few = omega arith; spells = nothing }
 
--- a fetch of the script keeps what is known of the schedule
-pub schedule_kept : (held holds : List ℕ → Option (List ℕ)) (name : Option (Bor (List ℕ))) → KeepsFiles held holds
-    → IfSome name (λ n. n.now ≢ codes "-") → known_schedule holds (option_map (λ n. n.now) name) ≡ known_schedule held (option_map (λ n. n.now) name)
-schedule_kept held holds None kept other = refl
-schedule_kept held holds (Some name) kept other = kept name.now other
+-- a text of which less was read than was wanted was read whole
+pub read_whole : (most : ℕ) (known : Option (List ℕ)) (read : List ℕ) → IsPrefixOf most known read → length read < most → FetchesAll known read
+read_whole most None read p few = record { text = read; is = tt; holds = refl }
+read_whole most (Some all) read p few =
+    let first : read ≡ take most all = p.first in
+    let short : length all ≤ most = omega (arith, ap (λ (t : List ℕ). length t) first, length-take most all) in
+    record { text = all; is = refl; holds = sym (first ∙ take_all most all short) }
+
+-- a fetch keeps what is known of a text that is no standard input
+pub text_kept : (held holds : List ℕ → Option (List ℕ)) (name : Option (Bor (List ℕ))) → KeepsFiles held holds
+    → IfSome name (λ n. n.now ≢ codes "-") → known_text holds (option_map (λ n. n.now) name) ≡ known_text held (option_map (λ n. n.now) name)
+text_kept held holds None kept other = refl
+text_kept held holds (Some name) kept other = kept name.now other

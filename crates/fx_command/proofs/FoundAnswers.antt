@@ -24,7 +24,7 @@ use Rattle.fx_command.specs.Performed.{IsPerformed, replayed}
 use Rattle.fx_command.specs.CommandAnswer.{IsCommandAnswer, performed, no_script, no_schedule}
 
 -- a text has one meaning, and one list of picks
-one_meaning : (text : List ℕ) (m m' : Meaning) → IsScript text m → IsScript text m' → m ≡ m'
+pub one_meaning : (text : List ℕ) (m m' : Meaning) → IsScript text m → IsScript text m' → m ≡ m'
 one_meaning text m m' is is' =
     MatchResult-at_ok (λ n. m ≡ n) (λ _. ⊥) m' (sym ((reading_law text m).0 is) ∙ (reading_law text m').0 is') refl
 
@@ -39,17 +39,17 @@ module _ (m : Meaning) (x : Finding) (ps : List Pick) (h : IsFinding (script_of 
   told_again : (r : ReportView) → IsReplay (script_of m) ps r → Tells (report_text (queue_names m) r) (status_of r)
   told_again = rw e at (tells_replay (script_of m) x (queue_names m) h)
 
-  performed_again : (words : List ℕ) (status : ℕ) (text : List ℕ) → IsPerformed m ps Replay words status text → Tells text status
-  performed_again _ _ _ (replayed {r = r} run tells) =
+  performed_again : (expected words : List ℕ) (status : ℕ) (text : List ℕ) → IsPerformed m ps expected Replay words status text → Tells text status
+  performed_again _ _ _ _ (replayed {r = r} run tells) =
       told_again r (record { moves = run.moves; last = run.last; chosen = run.chosen; report = run.report })
 
-  pub answered_again : (script words : List ℕ) (status : ℕ) (text : List ℕ) → IsScript script m → All HasSmallNumber ps → length ps ≤ most_picks
-      → IsCommandAnswer Replay script (picks_text ps) words status text → Tells text status
-  answered_again script words status text is small few (performed {m = n} {ps = qs} has picks done) =
+  pub answered_again : (script expected words : List ℕ) (status : ℕ) (text : List ℕ) → IsScript script m → All HasSmallNumber ps → length ps ≤ most_picks
+      → IsCommandAnswer Replay script (picks_text ps) expected words status text → Tells text status
+  answered_again script expected words status text is small few (performed {m = n} {ps = qs} has picks done) =
       let same_m = one_meaning script n m has is in
       let same_ps = one_schedule (picks_text ps) qs ps picks (is_read ps small few) in
-      performed_again words status text
-      (subst (λ (k : Meaning). IsPerformed k ps Replay words status text) same_m
-      (subst (λ (rs : List Pick). IsPerformed n rs Replay words status text) same_ps done))
-  answered_again script words _ text is small few (no_script none) = absurd (none.none m is)
-  answered_again script words _ text is small few (no_schedule has none) = absurd (none.none ps (is_read ps small few))
+      performed_again expected words status text
+      (subst (λ (k : Meaning). IsPerformed k ps expected Replay words status text) same_m
+      (subst (λ (rs : List Pick). IsPerformed n rs expected Replay words status text) same_ps done))
+  answered_again script expected words _ text is small few (no_script none) = absurd (none.none m is)
+  answered_again script expected words _ text is small few (no_schedule has none) = absurd (none.none ps (is_read ps small few))

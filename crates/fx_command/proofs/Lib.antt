@@ -5,3 +5,4 @@ mod StatesLaws
 mod Fetched
 mod CommandAnswer
 mod FoundAnswers
+mod ExpectedAnswers

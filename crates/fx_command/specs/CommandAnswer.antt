@@ -18,39 +18,42 @@ use Rattle.fx_command.specs.Help.{topic_of, page_on}
 use Rattle.fx_command.specs.Stream.{StreamView, TakesWhole, TakesPart, PrintsAnswer, PrintsPart}
 use Rattle.fx_command.specs.Said.{Says, usage_line, no_page_line, unreadable_line, memory_line, write_line, run_fault_line}
 
--- the status and the printed text for a script and a schedule, with these words for people: what was asked for, or one line where one of them is no such
--- text, with some words. A schedule is read only after a script
-pub data IsCommandAnswer (c : Command) (script schedule words : List ℕ) : ℕ → List ℕ → Type 0 where
+-- the status and the printed text for a script, a schedule and what is expected, with these words for people: what was asked for, or one line where one of the
+-- first two is no such text, with some words. A schedule is read only after a script
+pub data IsCommandAnswer (c : Command) (script schedule expected words : List ℕ) : ℕ → List ℕ → Type 0 where
   performed : {m : Meaning} {ps : List Pick} {status : ℕ} {text : List ℕ} → IsScript script m → IsSchedule schedule ps
-      → IsPerformed m ps c words status text → IsCommandAnswer c script schedule words status text
-  no_script : {line : List ℕ} → IsNoScript line script → IsCommandAnswer c script schedule words REFUSED line
-  no_schedule : {m : Meaning} {line : List ℕ} → IsScript script m → IsNoSchedule line schedule → IsCommandAnswer c script schedule words REFUSED line
+      → IsPerformed m ps expected c words status text → IsCommandAnswer c script schedule expected words status text
+  no_script : {line : List ℕ} → IsNoScript line script → IsCommandAnswer c script schedule expected words REFUSED line
+  no_schedule : {m : Meaning} {line : List ℕ} → IsScript script m → IsNoSchedule line schedule → IsCommandAnswer c script schedule expected words REFUSED line
 
--- the schedule that is known, of that name; the empty one without a name
-abbrev pub known_schedule : (List ℕ → Option (List ℕ)) → Option (List ℕ) → Option (List ℕ)
-known_schedule holds None = Some []
-known_schedule holds (Some name) = holds name
+-- the schedule that is known, or what is expected, of that name; the empty one without a name
+abbrev pub known_text : (List ℕ → Option (List ℕ)) → Option (List ℕ) → Option (List ℕ)
+known_text holds None = Some []
+known_text holds (Some name) = holds name
 
 -- what is answered to the texts of which so much is known
-pub record AnswersTo (c : Command) (script_known schedule_known : Option (List ℕ)) (words : List ℕ) (status : ℕ) (text : List ℕ) : Type 0 where
+pub record AnswersTo (c : Command) (script_known schedule_known expected_known : Option (List ℕ)) (words : List ℕ) (status : ℕ) (text : List ℕ) : Type 0 where
   pub script : List ℕ
   pub schedule : List ℕ
+  pub expected : List ℕ
   pub is_script : IfSome script_known (λ all. script ≡ all)
   pub is_schedule : IfSome schedule_known (λ all. schedule ≡ all)
-  pub answer : IsCommandAnswer c script schedule words status text
+  pub is_expected : IfSome expected_known (λ all. expected ≡ all)
+  pub answer : IsCommandAnswer c script schedule expected words status text
 
 -- what is answered to the texts that a call names
 abbrev pub AnswersToCall : (List ℕ → Option (List ℕ)) → CallView → List ℕ → ℕ → List ℕ → Type 0
-AnswersToCall holds call words = AnswersTo call.command (holds call.script) (known_schedule holds call.schedule) words
+AnswersToCall holds call words = AnswersTo call.command (holds call.script) (known_text holds call.schedule) (known_text holds call.expected) words
 
 -- the text that the call names as its script says one
 abbrev pub HasScript : (List ℕ → Option (List ℕ)) → CallView → Type 0
 HasScript holds call = (m : Meaning) × FetchesScript (holds call.script) m
 
--- the call comes to read the text of this name: it is the script; or it is the schedule, and the script was read before it and says one
+-- the call comes to read the text of this name: it is the script; or it is the schedule, or what is expected, and the script was read before it and says one
 pub data ComesToRead (holds : List ℕ → Option (List ℕ)) (call : CallView) (name : List ℕ) : Type 0 where
   reads_script : name ≡ call.script → ComesToRead holds call name
   reads_schedule : HasScript holds call → call.schedule ≡ Some name → ComesToRead holds call name
+  reads_expected : HasScript holds call → call.expected ≡ Some name → ComesToRead holds call name
 
 -- the call is of a run with a script that there is, and the fault is one that it can have
 abbrev pub FailsToRun : (List ℕ → Option (List ℕ)) → CallView → RunFault → Type 0
@@ -87,8 +90,8 @@ pub data TellsRunFault (fault : RunFault) (said says : StreamView) : ℕ → Typ
 
 -- A run of the program with these words, of which `old` and `new` are standard output before and after, `said` and `says` standard error. Words that ask for
 -- help have their page. Words that make no call, a text that cannot be read and any other fault have a status and a line each, and all else is the answer to
--- the call, with its words for people. A schedule can be told as one that cannot be read only where there is a script: one that is refused is answered so,
--- whatever the schedule is
+-- the call, with its words for people. A schedule, or what is expected, can be told as a text that cannot be read only where there is a script: one that is
+-- refused is answered so, whatever the other text is
 pub data Runs (words : List (List ℕ)) (holds : List ℕ → Option (List ℕ)) (old new said says : StreamView) : ℕ → Type 0 where
   helped : {status : ℕ} (topic : List ℕ) → topic_of words ≡ Some topic → TellsPage topic old new said says status → Runs words holds old new said says status
   other_words : topic_of words ≡ None → call_of words ≡ None → new ≡ old → Says usage_line said says → Runs words holds old new said says OTHER_WORDS

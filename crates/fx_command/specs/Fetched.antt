@@ -5,7 +5,7 @@ use Rattle.fx_text.specs.Meaning.{Meaning}
 use Rattle.fx_text.specs.Grammar.{IsScript}
 use Rattle.fx_text.specs.Schedule.{IsSchedule}
 use Rattle.fx_command.specs.declared.command_fault.CommandFault.{CommandFault}
-use Rattle.fx_command.specs.CommandFault.{IsUnreadOrRefusal}
+use Rattle.fx_command.specs.CommandFault.{IsUnread, IsUnreadOrRefusal}
 use Rattle.fx_command.specs.Refused.{IsNoScript, IsNoSchedule}
 
 -- the first bytes of the text of which so much is known, as many as are wanted, or all
@@ -35,3 +35,11 @@ FetchesNoSchedule name known fault = IsUnreadOrRefusal (λ n. name ≡ Some n) (
 -- a fetch keeps each text but standard input
 abbrev pub KeepsFiles : (List ℕ → Option (List ℕ)) → (List ℕ → Option (List ℕ)) → Type 0
 KeepsFiles held holds = (name : List ℕ) → name ≢ codes "-" → holds name ≡ held name
+
+-- that text is all of this
+abbrev pub FetchesAll : Option (List ℕ) → List ℕ → Type 0
+FetchesAll known all = OfText known (λ text. text ≡ all)
+
+-- no text of that name was read
+abbrev pub FetchesNone : Option (List ℕ) → CommandFault → Type 0
+FetchesNone name fault = IsUnread (λ n. name ≡ Some n) fault

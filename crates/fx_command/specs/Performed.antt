@@ -20,6 +20,7 @@ use Rattle.fx_findings.specs.declared.explored.Explored.{Explored}
 use Rattle.fx_findings.specs.Explored.{IsExplored}
 use Rattle.fx_findings.specs.Status.{explored_status}
 use Rattle.fx_findings.specs.Text.{explored_text}
+use Rattle.fx_findings.specs.Compared.{compared_text, compared_status}
 use Rattle.fx_command.specs.declared.call.Command.{Command}
 use Rattle.fx_command.specs.declared.call.Command.TheVariants.{Check, Replay, Trace}
 use Rattle.fx_command.specs.declared.call.Command.TheVariants as command
@@ -45,28 +46,30 @@ nobody f = false
 -- the words for people, the status and the printed text: of a check the counts, and no words; else the report of the run that the picks choose, or its
 -- traces, or some lawful report by workers of a number that there can be, or the traces of one with the stamps of the definition; and a line for each
 -- blocked fiber, after one on the picks that the run passed over, if there are any; or what a search has found that goes on from at most so many states, and
--- no words
-pub data IsPerformed (m : Meaning) (picks : List Pick) : Command → List ℕ → ℕ → List ℕ → Type 0 where
-  checked : IsPerformed m picks Check [] ENDED (check_text m)
+-- no words; or what comes of that where it is compared with the reports that are expected
+pub data IsPerformed (m : Meaning) (picks : List Pick) (expected : List ℕ) : Command → List ℕ → ℕ → List ℕ → Type 0 where
+  checked : IsPerformed m picks expected Check [] ENDED (check_text m)
   replayed : {r : ReportView} {waits : List Wait} {passed : Option PassedOver} → IsReplayWithWaits (script_of m) picks r waits
       → TellsPassed (script_of m) picks passed
-      → IsPerformed m picks Replay (replay_words (queue_names m) passed waits) (status_of r) (report_text (queue_names m) r)
+      → IsPerformed m picks expected Replay (replay_words (queue_names m) passed waits) (status_of r) (report_text (queue_names m) r)
   traced : {r : ReportView} {waits : List Wait} {passed : Option PassedOver} → IsReplayWithWaits (script_of m) picks r waits
       → TellsPassed (script_of m) picks passed
-      → IsPerformed m picks Trace (replay_words (queue_names m) passed waits) (status_of r) (trace_text (queue_names m) r)
+      → IsPerformed m picks expected Trace (replay_words (queue_names m) passed waits) (status_of r) (trace_text (queue_names m) r)
   ran : {workers : ℕ} {r : ReportView} {waits : List Wait} → 1 ≤ workers → workers ≤ most_workers → IsLawfulWithWaits (script_of m) nobody r waits
-      → IsPerformed m picks (command.Run workers) (waits_text (queue_names m) waits) (status_of r) (report_text (queue_names m) r)
+      → IsPerformed m picks expected (command.Run workers) (waits_text (queue_names m) waits) (status_of r) (report_text (queue_names m) r)
   recorded : {workers : ℕ} {r : ReportView} {waits : List Wait} → 1 ≤ workers → workers ≤ most_workers → IsLawfulWithWaits (script_of m) nobody r waits
       → IsStampedReport (script_of m) nobody r
-      → IsPerformed m picks (command.Record workers) (waits_text (queue_names m) waits) (status_of r) (trace_text (queue_names m) r)
+      → IsPerformed m picks expected (command.Record workers) (waits_text (queue_names m) waits) (status_of r) (trace_text (queue_names m) r)
   explored : {most : ℕ} {e : Explored} → IsExplored (script_of m) most e
-      → IsPerformed m picks (command.Explore most) [] (explored_status e) (explored_text (queue_names m) e)
+      → IsPerformed m picks expected (command.Explore most) [] (explored_status e) (explored_text (queue_names m) e)
+  compared : {most : ℕ} {e : Explored} → IsExplored (script_of m) most e
+      → IsPerformed m picks expected (command.Expect most) [] (compared_status (queue_names m) expected e) (compared_text (queue_names m) expected e)
 
 -- what is done takes the stream from `old` to `new`
-abbrev pub Performs : Command → Meaning → List Pick → Result Performed CommandFault → StreamView → StreamView → Type 0
-Performs c m picks (Ok done) old new = PrintsAnswer (IsPerformed m picks c (string_bytes done.words)) done.status old new
-Performs c m picks (Err Write) old new = (words : List ℕ) × PrintsPart (IsPerformed m picks c words) old new
-Performs c m picks (Err Memory) old new = CanBeDone c × (new ≡ old)
-Performs c m picks (Err (Run fault)) old new = CanFail c fault × (new ≡ old)
-Performs c m picks (Err (Refused r)) old new = ⊥
-Performs c m picks (Err (Unreadable name)) old new = ⊥
+abbrev pub Performs : Command → Meaning → List Pick → List ℕ → Result Performed CommandFault → StreamView → StreamView → Type 0
+Performs c m picks expected (Ok done) old new = PrintsAnswer (IsPerformed m picks expected c (string_bytes done.words)) done.status old new
+Performs c m picks expected (Err Write) old new = (words : List ℕ) × PrintsPart (IsPerformed m picks expected c words) old new
+Performs c m picks expected (Err Memory) old new = CanBeDone c × (new ≡ old)
+Performs c m picks expected (Err (Run fault)) old new = CanFail c fault × (new ≡ old)
+Performs c m picks expected (Err (Refused r)) old new = ⊥
+Performs c m picks expected (Err (Unreadable name)) old new = ⊥

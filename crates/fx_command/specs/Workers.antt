@@ -7,7 +7,7 @@ use Rattle.fx_run.specs.Workers.{most_workers}
 use Rattle.fx_run.specs.declared.run_fault.RunFault.{RunFault}
 use Rattle.fx_run.specs.declared.run_fault.RunFault.TheVariants.{Workers, Memory, Lost, Unsettled}
 use Rattle.fx_command.specs.declared.call.Command.{Command}
-use Rattle.fx_command.specs.declared.call.Command.TheVariants.{Check, Replay, Trace, Run, Record, Explore}
+use Rattle.fx_command.specs.declared.call.Command.TheVariants.{Check, Replay, Trace, Run, Record, Explore, Expect}
 
 -- the word is one or more digits, and the number that they write is none too large
 abbrev pub writes_number : List ℕ → Bool
@@ -28,6 +28,7 @@ CanBeDone Check = Unit {0}
 CanBeDone Replay = Unit {0}
 CanBeDone Trace = Unit {0}
 CanBeDone (Explore n) = Unit {0}
+CanBeDone (Expect n) = Unit {0}
 
 -- only a run has a fault of runs: that of the number of workers where it is outside, and any other one where it is not
 abbrev pub RunCanFail : ℕ → RunFault → Type 0
@@ -43,3 +44,4 @@ CanFail Check fault = ⊥
 CanFail Replay fault = ⊥
 CanFail Trace fault = ⊥
 CanFail (Explore n) fault = ⊥
+CanFail (Expect n) fault = ⊥

@@ -21,6 +21,8 @@ pub(crate) enum Command {
     Record(u32),
     /// Each report of its runs is sought, from at most so many states.
     Explore(u32),
+    /// So it is, and what was found is compared with what is expected.
+    Expect(u32),
 }
 
 /// A call of the program.
@@ -31,6 +33,8 @@ pub(crate) struct Call<'a> {
     pub(crate) script: &'a str,
     /// That of the schedule's, which is empty where there is none.
     pub(crate) schedule: Option<&'a str>,
+    /// That of the text which says what reports are expected, if there is one.
+    pub(crate) expected: Option<&'a str>,
 }
 
 /// The number of workers that the second of two words asks for.
@@ -57,19 +61,23 @@ fn states_among(names: &[String]) -> Option<u32>
 impl<'a> Call<'a> {
     ghost use Rattle.std.specs.Prelude.{◌≡◌, ◌≢◌, IfSome, codes, map, option_map, string_bytes};
     ghost use Rattle.fx_command.specs.Call.{view_call, call_with_script, call_with_names};
-    ghost use Rattle.fx_command.specs.Call.{call_by_workers, call_by_states, call_of};
+    ghost use Rattle.fx_command.specs.Call.{call_by_workers, call_by_states, call_expecting};
+    ghost use Rattle.fx_command.specs.Call.{call_to_explore, call_of};
 
     /// The call that these words make, if they make one.
     pub(crate) fn of(words: &'a [String]) -> Option<Call<'a>>
         ensures call { option_map view_call result ≡ call_of (map string_bytes words.now) }
         ensures file { IfSome result
             (λ call. IfSome call.schedule (λ name. name.now ≢ codes "-")) }
+        ensures expected { IfSome result
+            (λ call. IfSome call.expected (λ name. name.now ≢ codes "-")) }
     {
         let [word, names @ ..] = words else {
             return Some(Call {
                 command: Command::Replay,
                 script: STANDARD_INPUT,
                 schedule: None,
+                expected: None,
             });
         };
         match word.as_str() {
@@ -78,7 +86,7 @@ impl<'a> Call<'a> {
             "trace" => Call::with_names(Command::Trace, names),
             "run" => Call::by_workers(Command::Run(workers_among(names)?), names),
             "record" => Call::by_workers(Command::Record(workers_among(names)?), names),
-            "explore" => Call::by_states(Command::Explore(states_among(names)?), names),
+            "explore" => Call::to_explore(names),
             _ => None,
         }
     }
@@ -89,12 +97,15 @@ impl<'a> Call<'a> {
             ≡ call_with_script command (map string_bytes names.now) }
         ensures file { IfSome result
             (λ call. IfSome call.schedule (λ name. name.now ≢ codes "-")) }
+        ensures expected { IfSome result
+            (λ call. IfSome call.expected (λ name. name.now ≢ codes "-")) }
     {
         match names {
             [script] => Some(Call {
                 command,
                 script: script.as_str(),
                 schedule: None,
+                expected: None,
             }),
             _ => None,
         }
@@ -106,12 +117,15 @@ impl<'a> Call<'a> {
             ≡ call_with_names command (map string_bytes names.now) }
         ensures file { IfSome result
             (λ call. IfSome call.schedule (λ name. name.now ≢ codes "-")) }
+        ensures expected { IfSome result
+            (λ call. IfSome call.expected (λ name. name.now ≢ codes "-")) }
     {
         match names {
             [script, schedule] if schedule.as_str() != STANDARD_INPUT => Some(Call {
                 command,
                 script: script.as_str(),
                 schedule: Some(schedule.as_str()),
+                expected: None,
             }),
             _ => Call::with_script(command, names),
         }
@@ -123,12 +137,15 @@ impl<'a> Call<'a> {
             ≡ call_by_workers command (map string_bytes names.now) }
         ensures file { IfSome result
             (λ call. IfSome call.schedule (λ name. name.now ≢ codes "-")) }
+        ensures expected { IfSome result
+            (λ call. IfSome call.expected (λ name. name.now ≢ codes "-")) }
     {
         match names {
             [script, _] => Some(Call {
                 command,
                 script: script.as_str(),
                 schedule: None,
+                expected: None,
             }),
             _ => None,
         }
@@ -140,14 +157,63 @@ impl<'a> Call<'a> {
             ≡ call_by_states command (map string_bytes names.now) }
         ensures file { IfSome result
             (λ call. IfSome call.schedule (λ name. name.now ≢ codes "-")) }
+        ensures expected { IfSome result
+            (λ call. IfSome call.expected (λ name. name.now ≢ codes "-")) }
     {
         match names {
             [script, ..] => Some(Call {
                 command,
                 script: script.as_str(),
                 schedule: None,
+                expected: None,
             }),
             _ => None,
+        }
+    }
+
+    /// The call for a script of this name, with this word before the name of what is expected. That is a file.
+    fn expecting(most: u32, script: &'a str, word: &'a str, file: &'a str) -> Option<Call<'a>>
+        ensures call { option_map view_call result ≡ call_expecting most script.now word.now file.now }
+        ensures file { IfSome result
+            (λ call. IfSome call.schedule (λ name. name.now ≢ codes "-")) }
+        ensures expected { IfSome result
+            (λ call. IfSome call.expected (λ name. name.now ≢ codes "-")) }
+    {
+        if word != "expect" || file == STANDARD_INPUT {
+            return None;
+        }
+        Some(Call {
+            command: Command::Expect(most),
+            script,
+            schedule: None,
+            expected: Some(file),
+        })
+    }
+
+    /// The call for a search of the script of this name, which may have a second word for the states, and after these a
+    /// word with the name of what is expected.
+    fn to_explore(names: &'a [String]) -> Option<Call<'a>>
+        ensures call { option_map view_call result
+            ≡ call_to_explore (map string_bytes names.now) }
+        ensures file { IfSome result
+            (λ call. IfSome call.schedule (λ name. name.now ≢ codes "-")) }
+        ensures expected { IfSome result
+            (λ call. IfSome call.expected (λ name. name.now ≢ codes "-")) }
+    {
+        match names {
+            [script, word, file] => Call::expecting(
+                MOST_STATES,
+                script.as_str(),
+                word.as_str(),
+                file.as_str(),
+            ),
+            [script, states, word, file] => Call::expecting(
+                states_in(states.as_str())?,
+                script.as_str(),
+                word.as_str(),
+                file.as_str(),
+            ),
+            _ => Call::by_states(Command::Explore(states_among(names)?), names),
         }
     }
 }

@@ -4,8 +4,9 @@ ghost use Rattle.fx_text.specs.View.{meaning};
 ghost use Rattle.fx_command.specs.CommandFault.{IsUnread};
 ghost use Rattle.fx_command.specs.Fetched.{IsPrefixOf, FetchesScript, FetchesNoScript};
 ghost use Rattle.fx_command.specs.Fetched.{FetchesSchedule, FetchesNoSchedule, KeepsFiles};
+ghost use Rattle.fx_command.specs.Fetched.{FetchesAll, FetchesNone};
 ghost use Rattle.fx_command.specs.Call.{view_call};
-ghost use Rattle.fx_command.specs.CommandAnswer.{known_schedule, AnswersToCall, Leaves};
+ghost use Rattle.fx_command.specs.CommandAnswer.{known_text, AnswersToCall, Leaves};
 ghost use Rattle.fx_command.specs.CommandAnswer.{TellsPage, TellsRefusal, TellsUnreadable, TellsRunFault, Runs};
 ghost use Rattle.fx_command.specs.Said.{Says, run_fault_line, unreadable_line};
 ghost use Rattle.fx_command.specs.Stream.{PrintsAnswer};
@@ -39,6 +40,9 @@ const WRITE: &str = "fault write\n";
 
 /// One byte more than a schedule may have, so that one that is too long is known to be.
 const MOST_OF_SCHEDULE: usize = MOST_SCHEDULE_BYTES + 1;
+
+/// One byte more than what is expected may have. A text that is longer is none that can be read.
+const MOST_OF_EXPECTED: usize = 67_108_865;
 
 /// The text of this name, or as many bytes of it as are wanted.
 fn fetched<'a, F: Files>(
@@ -88,11 +92,12 @@ fn schedule_of<'a, F: Files>(
     name: Option<&'a str>,
 ) -> Result<Vec<Pick>, CommandFault<'a>>
     ensures found { let known =
-        known_schedule (F.holds files.old) (option_map (λ n. n.now) name.entry) in
+        known_text (F.holds files.old) (option_map (λ n. n.now) name.entry) in
         IfOk result (λ picks. FetchesSchedule known picks.items) }
     ensures none { let named = option_map (λ n. n.now) name.entry in
         IfErr result
-        (λ fault. FetchesNoSchedule named (known_schedule (F.holds files.old) named) fault) }
+        (λ fault. FetchesNoSchedule named (known_text (F.holds files.old) named) fault) }
+    ensures kept { KeepsFiles (F.holds files.old) (F.holds files.new) }
 {
     let Some(name) = name else {
         return Ok(Vec::new(alloc));
@@ -101,8 +106,28 @@ fn schedule_of<'a, F: Files>(
     picks_in(alloc, name, &text)
 }
 
-/// Does what is asked. The script is read whole, and refused if it is none, before the schedule is
-/// fetched.
+/// The text of this name which says what is expected, and the empty one without a name.
+fn expected_of<'a, F: Files>(
+    alloc: Global,
+    files: &mut F,
+    name: Option<&'a str>,
+) -> Result<Vec<u8>, CommandFault<'a>>
+    ensures found { let known = known_text (F.holds files.old) (option_map (λ n. n.now) name.entry) in
+        IfOk result (λ text. FetchesAll known text.items) }
+    ensures none { IfErr result (FetchesNone (option_map (λ n. n.now) name.entry)) }
+{
+    let Some(name) = name else {
+        return Ok(Vec::new(alloc));
+    };
+    let text = fetched(alloc, files, name, MOST_OF_EXPECTED)?;
+    if text.len() >= MOST_OF_EXPECTED {
+        return Err(CommandFault::Unreadable(name));
+    }
+    Ok(text)
+}
+
+/// Does what is asked. The script is read whole, and refused if it is none, before the schedule or what is
+/// expected is fetched.
 fn answer<'a, R: Wait + Threads + Sync + RandomSource + AllocGlobal, F: Files, W: Write>(
     rt: &R,
     alloc: Global,
@@ -110,7 +135,8 @@ fn answer<'a, R: Wait + Threads + Sync + RandomSource + AllocGlobal, F: Files, W
     files: &mut F,
     out: &mut Stream<W>,
 ) -> Result<Performed, CommandFault<'a>>
-    requires { IfSome call.schedule (λ name. name.now ≢ codes "-") }
+    requires schedule { IfSome call.schedule (λ name. name.now ≢ codes "-") }
+    requires expected { IfSome call.expected (λ name. name.now ≢ codes "-") }
     ensures answered { IfOk result (λ performed. PrintsAnswer
         (AnswersToCall (F.holds files.old) (view_call call.entry) (string_bytes performed.words))
         performed.status out.old out.new) }
@@ -119,7 +145,8 @@ fn answer<'a, R: Wait + Threads + Sync + RandomSource + AllocGlobal, F: Files, W
 {
     let script = script_of(alloc, files, call.script)?;
     let picks = schedule_of(alloc, files, call.schedule)?;
-    perform(rt, alloc, call.command, &script, &picks, out)
+    let expected = expected_of(alloc, files, call.expected)?;
+    perform(rt, alloc, call.command, &script, &picks, &expected, out)
 }
 
 /// Says this on standard error. Nobody is left to tell where that refuses it.
@@ -224,11 +251,12 @@ fn tell_run_fault<E: Write>(alloc: Global, fault: RunFault, err: &mut Stream<E>)
 /// |---|---|---|
 /// | 0 | all fibers ended, a check passed, or help was asked for | the text, on `out` |
 /// | 1 | some fiber waits for good | the text, on `out`, and what each such fiber waits for, on `err`, but not after a search |
+/// | 1 | in place of that, after a search that is compared: a report is not expected | the text, on `out` |
 /// | 2 | other words | the words that there are, or that there is no such page of help, on `err` |
 /// | 3 | a script or schedule is refused | one line on `out`, and why in words on `err` |
 /// | 4 | a text cannot be read | its name, on `err` |
 /// | 5 | want of memory, a run that gives no report, or `out` refused a write | the fault, on `err` |
-/// | 6 | a search is not complete, and found no fiber that waits for good | the text, on `out` |
+/// | 6 | a search is not complete, and there is no cause for status 1 in what it found | the text, on `out` |
 ///
 /// The texts for `out` and for `err` are whole before the first write, so at want of memory nothing is
 /// written on `out`. What a stream refused before this call is not told apart from what it refuses in

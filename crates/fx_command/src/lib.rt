@@ -11,15 +11,16 @@
 //! 4. `perform` checks the script, or replays it and writes its report or its traces, or runs it on
 //!    threads and writes these. It has words for people about each fiber that is blocked, and `passed` has
 //!    those about picks of the schedule that were passed over. Or it searches all runs of the script, and
-//!    writes what it has found.
+//!    writes what it has found, or of that the first report that is not expected.
 //! 5. `stream` is what is written to: a writer, of which contracts know whether it has refused a write.
 //! 6. `command` goes through these in that order, gives the status, and says on standard error those
 //!    words, or why nothing was printed.
 //!
-//! [`laws`] says that what a search prints of a run, a replay prints by the schedule beside it.
+//! [`laws`] says that what a search prints of a run, a replay prints by the schedule beside it, and that an
+//! expectation which is met has the report of each run.
 //!
 //! What is written on standard output is always a prefix of one text, which was whole before the
-//! first write. What never happens: a schedule that is read before its script is; a byte on standard
+//! first write. What never happens: a schedule or an expectation that is read before its script is; a byte on standard
 //! output where a text cannot be read or memory runs out; a text that is cut short by a stream which
 //! has refused nothing; a status that is not in the table of `command`.
 #![tactic(auto)]

@@ -1,5 +1,5 @@
 //! Does with a script what is asked, and prints it.
-ghost use Rattle.std.specs.Prelude.{◌≡◌, ◌≤◌, List, All, IfOk, IfSome, length, string_bytes};
+ghost use Rattle.std.specs.Prelude.{◌≡◌, ◌≤◌, ℕ, List, All, IfOk, IfSome, length, string_bytes};
 ghost use Rattle.fx_text.specs.View.{meaning};
 ghost use Rattle.fx_text.specs.declared.pick.Pick as pick;
 ghost use Rattle.fx_command.specs.declared.call.Command.TheVariants as command;
@@ -13,7 +13,7 @@ use crate::call::Command;
 use crate::command_fault::CommandFault;
 use crate::passed::format_passed;
 use crate::stream::Stream;
-use fx_findings::{explore, explored_status, format_explored};
+use fx_findings::{Compared, compare, explore, explored_status, format_explored};
 use fx_plain::{Halt, replay_to_halt};
 use fx_report::{ENDED, format_report, format_traces, format_waits, status_after};
 use fx_run::run_to_halt;
@@ -51,8 +51,8 @@ fn check<'a, W: Write>(
     picks: &[Pick],
     out: &mut Stream<W>,
 ) -> Result<Performed, CommandFault<'a>>
-    ensures { Performs command.Check (meaning script.now) picks.now result
-        out.old out.new }
+    ensures { (expected : List ℕ) → Performs command.Check (meaning script.now) picks.now expected
+        result out.old out.new }
 {
     let line = format_check(alloc, script)?;
     out.write(&line)?;
@@ -84,8 +84,8 @@ fn report<'a, W: Write>(
     out: &mut Stream<W>,
 ) -> Result<Performed, CommandFault<'a>>
     requires { script.now.code.queues ≤ length script.now.queues.items }
-    ensures { Performs command.Replay (meaning script.now) picks.now result
-        out.old out.new }
+    ensures { (expected : List ℕ) → Performs command.Replay (meaning script.now) picks.now expected
+        result out.old out.new }
 {
     let halt = replay_to_halt(alloc, script, picks)?;
     let words = format_words(alloc, script, &halt)?;
@@ -104,8 +104,8 @@ fn trace<'a, W: Write>(
     out: &mut Stream<W>,
 ) -> Result<Performed, CommandFault<'a>>
     requires { script.now.code.queues ≤ length script.now.queues.items }
-    ensures { Performs command.Trace (meaning script.now) picks.now result
-        out.old out.new }
+    ensures { (expected : List ℕ) → Performs command.Trace (meaning script.now) picks.now expected
+        result out.old out.new }
 {
     let halt = replay_to_halt(alloc, script, picks)?;
     let words = format_words(alloc, script, &halt)?;
@@ -126,8 +126,8 @@ fn run<'a, R: Wait + Threads + Sync + RandomSource + AllocGlobal, W: Write>(
     out: &mut Stream<W>,
 ) -> Result<Performed, CommandFault<'a>>
     requires { script.now.code.queues ≤ length script.now.queues.items }
-    ensures { (picks : List pick.Pick) → Performs (command.Run workers) (meaning script.now) picks
-        result out.old out.new }
+    ensures { (picks : List pick.Pick) (expected : List ℕ) → Performs (command.Run workers)
+        (meaning script.now) picks expected result out.old out.new }
 {
     let ran = run_to_halt(rt, alloc, script, workers, &Free)?;
     let words = format_waits(alloc, script, &ran.waits)?;
@@ -148,8 +148,8 @@ fn record<'a, R: Wait + Threads + Sync + RandomSource + AllocGlobal, W: Write>(
     out: &mut Stream<W>,
 ) -> Result<Performed, CommandFault<'a>>
     requires { script.now.code.queues ≤ length script.now.queues.items }
-    ensures { (picks : List pick.Pick) → Performs (command.Record workers) (meaning script.now) picks
-        result out.old out.new }
+    ensures { (picks : List pick.Pick) (expected : List ℕ) → Performs (command.Record workers)
+        (meaning script.now) picks expected result out.old out.new }
 {
     let ran = run_to_halt(rt, alloc, script, workers, &Free)?;
     let words = format_waits(alloc, script, &ran.waits)?;
@@ -169,8 +169,8 @@ fn find<'a, W: Write>(
     most: u32,
     out: &mut Stream<W>,
 ) -> Result<Performed, CommandFault<'a>>
-    ensures { (picks : List pick.Pick) → Performs (command.Explore most) (meaning script.now) picks
-        result out.old out.new }
+    ensures { (picks : List pick.Pick) (expected : List ℕ) → Performs (command.Explore most)
+        (meaning script.now) picks expected result out.old out.new }
 {
     let explored = explore(alloc, script, most as usize)?;
     let text = format_explored(alloc, script, &explored)?;
@@ -181,22 +181,46 @@ fn find<'a, W: Write>(
     })
 }
 
-/// Does with the script and the picks what is asked, and prints it; a run and a search go by no picks. The
+/// Visits the script's runs in such a search, and writes what comes of it where it is compared with the reports that are
+/// expected.
+fn expect<'a, W: Write>(
+    alloc: Global,
+    script: &Script,
+    most: u32,
+    expected: &[u8],
+    out: &mut Stream<W>,
+) -> Result<Performed, CommandFault<'a>>
+    ensures { (picks : List pick.Pick) → Performs (command.Expect most) (meaning script.now) picks
+        expected.now result out.old out.new }
+{
+    let found = explore(alloc, script, most as usize)?;
+    let Compared { text, status } = compare(alloc, script, &found, expected)?;
+    out.write(&text)?;
+    Ok(Performed {
+        status,
+        words: String::new(alloc),
+    })
+}
+
+/// Does with the script and the picks what is asked, and prints it; a run and a search go by no picks, and only a search
+/// that is compared by what is expected. The
 /// script's code names no queue that is not declared. The status is 0 where all fibers ended or are only
 /// counted, and 1 where one waits for good: then the words have a line for each fiber that does. Before these
 /// they have one on the picks that a replay or a trace passed over, if there are any. After a search there are
 /// none, whatever it has found, and the status is 6 where it is not complete and has found no fiber that waits
-/// for good.
+/// for good. Where it is compared, the status is 1 where it has found a report that is not expected, whether a fiber waits
+/// for good in it or not, and else 6 or 0.
 pub(crate) fn perform<'a, R: Wait + Threads + Sync + RandomSource + AllocGlobal, W: Write>(
     rt: &R,
     alloc: Global,
     command: Command,
     script: &Script,
     picks: &[Pick],
+    expected: &[u8],
     out: &mut Stream<W>,
 ) -> Result<Performed, CommandFault<'a>>
     requires { script.now.code.queues ≤ length script.now.queues.items }
-    ensures { Performs command (meaning script.now) picks.now result
+    ensures { Performs command (meaning script.now) picks.now expected.now result
         out.old out.new }
 {
     match command {
@@ -206,5 +230,6 @@ pub(crate) fn perform<'a, R: Wait + Threads + Sync + RandomSource + AllocGlobal,
         Command::Run(workers) => run(rt, alloc, script, workers, out),
         Command::Record(workers) => record(rt, alloc, script, workers, out),
         Command::Explore(most) => find(alloc, script, most, out),
+        Command::Expect(most) => expect(alloc, script, most, expected, out),
     }
 }

@@ -121,9 +121,9 @@ fn status_by(ending: Ending, first: Option<&Finding>) -> u8
     }
 }
 
-/// Compares the report of each finding with those of a text, which empty lines part; the line of a schedule and the last
-/// line of a search are of no report. The first finding of which the text does not say the report is written, and after
-/// it, or alone where the text says all, a line that says so. A report that the text says and no finding has is nothing.
+/// Compares the report of each finding with those of a text, which empty lines part; the line of a schedule and the
+/// last line of a search are of no report. The first finding of which the text does not say the report is written, and
+/// after it, or alone where the text says all, a line that says so. That the text says other reports is no matter.
 pub fn compare(
     alloc: Global,
     script: &Script,

@@ -1,7 +1,8 @@
 //! Reads the reports that a text says a script's runs may have.
 ghost use Rattle.std.specs.Prelude.{◌≡◌, ◌==◌, IfOk, OnOk, ◌++◌, length, map, List, ℕ};
 ghost use Rattle.std.specs.List.{slice_split};
-ghost use Rattle.fx_findings.specs.Expected.{lines_of, is_beside, report_line, report_of, reports_in, reports_of, is_one_of};
+ghost use Rattle.fx_findings.specs.Expected.{lines_of, is_beside, report_line, report_of};
+ghost use Rattle.fx_findings.specs.Expected.{reports_in, reports_of, is_one_of};
 
 use std::alloc::{AllocError, Global};
 

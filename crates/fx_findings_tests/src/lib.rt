@@ -1,7 +1,9 @@
-//! What is found of small scripts, and what is printed of findings that are made by hand, with its status, so
+//! What is found of small scripts, and what is printed of findings that are made by hand, compared or not, with its status, so
 //! that searches and the calls of `fx_findings` are seen to succeed, which no contract says.
 #![tactic(auto)]
 
+#[cfg(test)]
+mod by_the_rules;
 #[cfg(test)]
 mod printed;
 #[cfg(test)]

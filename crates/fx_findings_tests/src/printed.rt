@@ -1,5 +1,8 @@
 //! What is printed of findings that are made by hand, and their statuses.
-use fx_findings::{Explored, Finding, Halt, INCOMPLETE, Told, explored_status, format_explored};
+use fx_findings::{
+    Compared, Explored, Finding, Halt, INCOMPLETE, Told, UNEXPECTED, compare, explored_status,
+    format_explored,
+};
 use fx_report::{BLOCKED, ENDED};
 use fx_search::Ending;
 use fx_term::Outcome;
@@ -146,5 +149,97 @@ fn status_is_that_of_the_worst_that_was_found(rt: HostRuntime) -> Result<(), Fai
         BLOCKED
     );
     assert_eq!(rt; status(alloc, &[UNCHOSEN, WAITS], Ending::Limit)?, BLOCKED);
+    Ok(())
+}
+
+/// What is printed of these findings of a script with two queues where such reports are expected, and the status.
+fn compared(alloc: Global, rows: &[Row], ending: Ending, expected: &str) -> Result<Compared, Fail> {
+    let script = parse(alloc, b"(queue l1 1) (queue l2 2) (main (pure 5))")?;
+    let explored = explored_of(alloc, rows, ending)?;
+    Ok(compare(alloc, &script, &explored, expected.as_bytes())?)
+}
+
+/// The reports of the three rows, as they are printed.
+const ALL: &str = "schedule 0 c2 4294967295
+fiber 0 succeeded 99
+fiber 1 blocked
+queue l1 left
+queue l2 left 7 18446744073709551615
+
+no schedule
+fiber 0 errored 3
+fiber 12 canceled
+queue l1 left 0
+queue l2 left
+
+schedule
+fiber 0 succeeded 0
+queue l1 left
+queue l2 left
+
+explored: 3 reports, 39 states, complete
+";
+
+/// The same but for the second one.
+const TWO: &str = "fiber 0 succeeded 0
+queue l1 left
+queue l2 left
+
+fiber 0 succeeded 99
+fiber 1 blocked
+queue l1 left
+queue l2 left 7 18446744073709551615";
+
+#[test]
+fn findings_are_all_expected(rt: HostRuntime) -> Result<(), Fail> {
+    let whole = compared(rt.alloc(), &[WAITS, ENDS, UNCHOSEN], Ending::Exhausted, ALL)?;
+    assert_eq!(rt;
+        whole.text.as_str(),
+        "explored: 3 reports, 39 states, all expected\n"
+    );
+    assert_eq!(rt; whole.status, ENDED);
+    let cut = compared(rt.alloc(), &[WAITS], Ending::Limit, TWO)?;
+    assert_eq!(rt;
+        cut.text.as_str(),
+        "explored: 1 reports, 39 states, incomplete, all expected\n"
+    );
+    assert_eq!(rt; cut.status, INCOMPLETE);
+    let refused = compared(rt.alloc(), &[], Ending::Memory, TWO)?;
+    assert_eq!(rt;
+        refused.text.as_str(),
+        "explored: 0 reports, 39 states, incomplete, all expected\n"
+    );
+    assert_eq!(rt; refused.status, INCOMPLETE);
+    Ok(())
+}
+
+#[test]
+fn first_finding_that_is_not_expected_is_printed(rt: HostRuntime) -> Result<(), Fail> {
+    let second = compared(rt.alloc(), &[WAITS, ENDS, UNCHOSEN], Ending::Exhausted, TWO)?;
+    assert_eq!(rt;
+        second.text.as_str(),
+        "no schedule
+fiber 0 errored 3
+fiber 12 canceled
+queue l1 left 0
+queue l2 left
+
+explored: 3 reports, 39 states, not all expected
+"
+    );
+    assert_eq!(rt; second.status, UNEXPECTED);
+    let first = compared(rt.alloc(), &[WAITS, ENDS], Ending::Limit, "")?;
+    assert_eq!(rt;
+        first.text.as_str(),
+        "schedule 0 c2 4294967295
+fiber 0 succeeded 99
+fiber 1 blocked
+queue l1 left
+queue l2 left 7 18446744073709551615
+
+explored: 2 reports, 39 states, incomplete, not all expected
+"
+    );
+    assert_eq!(rt; first.status, UNEXPECTED);
     Ok(())
 }

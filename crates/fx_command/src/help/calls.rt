@@ -16,6 +16,8 @@ how each fiber ended; or it visits all runs of the script.
   fibers record F WORKERS     runs them so, and prints what each fiber did
   fibers explore F [MOST]     visits all runs, from at most so many states, and
                               prints each report that some run has
+  fibers explore F [MOST] expect FILE
+                              prints the first of these that FILE does not have
   fibers help [WORD]          prints this page, or the one on a word
 
 F is a file with a script, or - for standard input. SCHEDULE is a file with the
@@ -33,11 +35,12 @@ which lists what a script is made of, and on each form, as bracket.
 Status  when
   0     all fibers have ended, a check passed, or help was printed
   1     some fiber waits for good; standard error says for what (not of explore)
+  1     of expect FILE: a run was found with a report that FILE does not have
   2     other words
   3     the script or the schedule is refused; standard error says where and why
   4     a file cannot be read
   5     another fault: of memory, of a write, or of the number of workers
-  6     not all runs were visited, and no fiber was found that waits for good
+  6     not all runs were visited, and so far there is no cause for status 1
 ";
 
 const CHECK: &str = "\
@@ -126,7 +129,7 @@ it stands on.
 ";
 
 const EXPLORE: &str = "\
-fibers explore F [MOST]
+fibers explore F [MOST] [expect FILE]
 
 Visits all runs of the script in the file F in which nobody is requested from
 outside, and prints each report that some run has, each once, those first in
@@ -151,6 +154,18 @@ fiber waits for, fibers replay says there, by the schedule.
     queue q left 2
     $ fibers explore script | tail -1
     explored: 2 reports, 5 states, complete
+
+With expect FILE it prints only the first of these reports that FILE does not
+have, if there is one, with its schedule, and then whether all are expected.
+FILE is a file with reports, which empty lines part. What explore prints can be
+kept as one: the lines that begin with schedule or explored: and the line no
+schedule are passed over. That FILE has more reports is no fault. The status is
+1 where a report is not expected, 6 where the search is incomplete and all that
+it found are, and else 0, also where a fiber is blocked.
+
+    $ fibers explore script > expected
+    $ fibers explore script expect expected
+    explored: 2 reports, 5 states, all expected
 ";
 
 const SCHEDULE: &str = "\

@@ -1,7 +1,8 @@
 use Rattle.std.proofs.lemmas.Result.{err_from_is_err_and}
+use Rattle.std.proofs.Common.{◌∙◌}
 use Rattle.fx_command.specs.Call.{view_call}
-use Rattle.fx_command.proofs.Fetched.{schedule_kept}
-use Rattle.fx_command.proofs.CommandAnswer.{leaves_no_script, leaves_no_schedule, leaves_unwritten, writes_answer}
+use Rattle.fx_command.proofs.Fetched.{text_kept}
+use Rattle.fx_command.proofs.CommandAnswer.{leaves_no_script, leaves_no_schedule, leaves_no_expected, leaves_unwritten, writes_answer}
 use Rattle.fx_command.proofs.command.answer.Goals as goal
 
 pub returns-in_err-script-clause-fault : goal.returns-in_err-script-clause-fault
@@ -12,21 +13,35 @@ returns-in_err-script-clause-fault g c =
 pub returns-in_err-picks-clause-fault : goal.returns-in_err-picks-clause-fault
 returns-in_err-picks-clause-fault g c =
     let fault = err_from_is_err_and c.from_residual-in_err-picks.result c.from_residual-in_err-picks.ensures.1 in
-    let kept = schedule_kept _ _ c.args.call.schedule c.script_of.ensures.kept c.requires in
+    let kept = text_kept _ _ c.args.call.schedule c.script_of.ensures.kept c.requires.schedule in
     let none = rw kept at c.in_err-picks.ensures.none in
     rw (fault.1, fault.2)
     (leaves_no_schedule (g.F.Files.holds c.args.files.now) (view_call c.args.call) _ _ _ c.in_ok-script.ensures.found none)
 
+pub returns-in_err-expected-clause-fault : goal.returns-in_err-expected-clause-fault
+returns-in_err-expected-clause-fault g c =
+    let fault = err_from_is_err_and c.from_residual-in_err-expected.result c.from_residual-in_err-expected.ensures.1 in
+    rw (fault.1, fault.2)
+    (leaves_no_expected (g.F.Files.holds c.args.files.now) (view_call c.args.call) _ _ _ c.in_ok-script.ensures.found c.in_err-expected.ensures.none)
+
 pub returns-clause-fault : goal.returns-clause-fault
 returns-clause-fault g c =
-    let kept = schedule_kept _ _ c.args.call.schedule c.script_of.ensures.kept c.requires in
+    let kept = text_kept _ _ c.args.call.schedule c.script_of.ensures.kept c.requires.schedule in
     let found = rw (kept, ← c.deref.ensures.value) at c.in_ok-picks.ensures.found in
-    leaves_unwritten (g.F.Files.holds c.args.files.now) (view_call c.args.call) _ _ c.perform.result c.args.out.now
-    c.perform.new.out c.in_ok-script.ensures.found found c.perform.ensures
+    let still =
+    text_kept _ _ c.args.call.expected c.schedule_of.ensures.kept c.requires.expected
+    ∙ text_kept _ _ c.args.call.expected c.script_of.ensures.kept c.requires.expected in
+    let all = rw (still, ← c.deref-2.ensures.value) at c.in_ok-expected.ensures.found in
+    leaves_unwritten (g.F.Files.holds c.args.files.now) (view_call c.args.call) _ _ _ c.perform.result c.args.out.now
+    c.perform.new.out c.in_ok-script.ensures.found found all c.perform.ensures
 
 pub returns-clause-answered : goal.returns-clause-answered
 returns-clause-answered g c =
-    let kept = schedule_kept _ _ c.args.call.schedule c.script_of.ensures.kept c.requires in
+    let kept = text_kept _ _ c.args.call.schedule c.script_of.ensures.kept c.requires.schedule in
     let found = rw (kept, ← c.deref.ensures.value) at c.in_ok-picks.ensures.found in
-    writes_answer (g.F.Files.holds c.args.files.now) (view_call c.args.call) _ _ c.perform.result c.args.out.now
-    c.perform.new.out c.in_ok-script.ensures.found found c.perform.ensures
+    let still =
+    text_kept _ _ c.args.call.expected c.schedule_of.ensures.kept c.requires.expected
+    ∙ text_kept _ _ c.args.call.expected c.script_of.ensures.kept c.requires.expected in
+    let all = rw (still, ← c.deref-2.ensures.value) at c.in_ok-expected.ensures.found in
+    writes_answer (g.F.Files.holds c.args.files.now) (view_call c.args.call) _ _ _ c.perform.result c.args.out.now
+    c.perform.new.out c.in_ok-script.ensures.found found all c.perform.ensures

@@ -5,16 +5,16 @@ use Rattle.fx_command.proofs.WorkersLaws.{can_run}
 use Rattle.fx_command.proofs.perform.record.Goals as goal
 
 pub returns-in_err-write : goal.returns-in_err-write
-returns-in_err-write g c picks =
+returns-in_err-write g c picks expected =
     let fault = err_from_is_err_and c.from_residual-in_err-write.result c.from_residual-in_err-write.ensures.1 in
     let can = can_run c.args.workers _ c.in_ok-ran.ensures.workers in
     let part = rw (c.deref-2.ensures, c.in_ok-text.ensures) at c.in_err-write.ensures.part in
-    rw (fault.1, fault.2) (cut_short _ _ _ _ _ _ _ _ (recorded can.0 can.1 c.in_ok-ran.ensures.halted c.in_ok-ran.ensures.stamped) part)
+    rw (fault.1, fault.2) (cut_short _ _ _ _ _ _ _ _ _ (recorded can.0 can.1 c.in_ok-ran.ensures.halted c.in_ok-ran.ensures.stamped) part)
 
 pub returns : goal.returns
-returns g c picks = record {
+returns g c picks expected = record {
   text = _;
-  answer = recorded_with_status _ _ _ _ _ _ _ (can_run c.args.workers _ c.in_ok-ran.ensures.workers) c.in_ok-ran.ensures.halted
+  answer = recorded_with_status _ _ _ _ _ _ _ _ (can_run c.args.workers _ c.in_ok-ran.ensures.workers) c.in_ok-ran.ensures.halted
       c.in_ok-ran.ensures.stamped
       (rw c.deref.ensures.value at c.in_ok-words.ensures) c.status_after.ensures;
   taken = rw (c.deref-2.ensures, c.in_ok-text.ensures) at c.in_ok-write.ensures.whole;

@@ -4,14 +4,14 @@ use Rattle.fx_command.proofs.Performed.{replayed_with_status, cut_short}
 use Rattle.fx_command.proofs.perform.report.Goals as goal
 
 pub returns-in_err-write : goal.returns-in_err-write
-returns-in_err-write g c =
+returns-in_err-write g c expected =
     let fault = err_from_is_err_and c.from_residual-in_err-write.result c.from_residual-in_err-write.ensures.1 in
     let part = rw (c.deref.ensures, c.in_ok-text.ensures) at c.in_err-write.ensures.part in
-    rw (fault.1, fault.2) (cut_short _ _ _ _ _ _ _ _ (replayed c.in_ok-halt.ensures.replayed c.in_ok-halt.ensures.passed) part)
+    rw (fault.1, fault.2) (cut_short _ _ _ _ _ _ _ _ _ (replayed c.in_ok-halt.ensures.replayed c.in_ok-halt.ensures.passed) part)
 
 pub returns : goal.returns
-returns g c = record {
+returns g c expected = record {
   text = _;
-  answer = replayed_with_status _ _ _ _ _ _ _ c.in_ok-halt.ensures.replayed c.in_ok-halt.ensures.passed c.in_ok-words.ensures c.status_after.ensures;
+  answer = replayed_with_status _ _ _ _ _ _ _ _ c.in_ok-halt.ensures.replayed c.in_ok-halt.ensures.passed c.in_ok-words.ensures c.status_after.ensures;
   taken = rw (c.deref.ensures, c.in_ok-text.ensures) at c.in_ok-write.ensures.whole;
 }
