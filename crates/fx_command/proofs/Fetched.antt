@@ -1,5 +1,6 @@
 -- What is said of the part of a text that was read, said of the text.
-use Rattle.std.proofs.Common.{◌≡◌, ◌≢◌, ◌⊎◌, ℕ, ◌+◌, ◌<◌, ◌≤◌, Option, Some, None, Result, Ok, Err, List, [], length, take, codes, option_map, IfOk, IfErr, IfSome}
+use Rattle.std.proofs.Common.{◌≡◌, ◌≢◌, ◌⊎◌, ℕ, ◌+◌, ◌<◌, ◌≤◌, Option, Some, None, Result, Ok, Err, List, [], length, take, codes, option_map}
+use Rattle.std.proofs.Common.{IfOk, IfErr, IfSome}
 use Rattle.std.proofs.Common.{Bor, inl, inr, refl, sym, ◌∙◌, ap, subst, true, arith}
 use Rattle.std.specs.Prelude.{nat_lt}
 use Rattle.std.proofs.lemmas.Bool.{cases_lt, lt-ltb}

@@ -42,7 +42,8 @@ ran_with_status m picks expected workers r waits words status can lawful said is
 
 pub recorded_with_status : (m : Meaning) (picks : List Pick) (expected : List ℕ) (workers : ℕ) (r : ReportView) (waits : List Wait) (words : List ℕ)
     (status : ℕ) → (1 ≤ workers) × (workers ≤ most_workers) → IsLawfulWithWaits (script_of m) nobody r waits → IsStampedReport (script_of m) nobody r
-    → words ≡ waits_text (queue_names m) waits → status ≡ status_of r → IsPerformed m picks expected (Record workers) words status (trace_text (queue_names m) r)
+    → words ≡ waits_text (queue_names m) waits → status ≡ status_of r
+    → IsPerformed m picks expected (Record workers) words status (trace_text (queue_names m) r)
 recorded_with_status m picks expected workers r waits words status can lawful stamped said is = rw (is, said) (recorded can.0 can.1 lawful stamped)
 
 pub explored_with_status : (m : Meaning) (picks : List Pick) (expected : List ℕ) (most : ℕ) (e : Explored) (words : List ℕ) (status : ℕ)
