@@ -153,7 +153,7 @@ fiber waits for, fibers replay says there, by the schedule.
     fiber 1 blocked
     queue q left 2
     $ fibers explore script | tail -1
-    explored: 2 reports, 5 states, complete
+    explored: 2 reports, 4 states, complete
 
 With expect FILE it prints only the first of these reports that FILE does not
 have, if there is one, with its schedule, and then whether all are expected.
@@ -165,7 +165,7 @@ it found are, and else 0, also where a fiber is blocked.
 
     $ fibers explore script > expected
     $ fibers explore script expect expected
-    explored: 2 reports, 5 states, all expected
+    explored: 2 reports, 4 states, all expected
 ";
 
 const SCHEDULE: &str = "\

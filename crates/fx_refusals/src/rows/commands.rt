@@ -157,7 +157,7 @@ const SEARCHED: Worked = Worked {
     counts: "",
     report: "schedule\nfiber 0 succeeded 0\nfiber 1 blocked\nqueue q left 2\n\n\
             schedule 0 1\nfiber 0 blocked\nfiber 1 succeeded 0\nqueue q left 1\n\n\
-            explored: 2 reports, 5 states, complete\n",
+            explored: 2 reports, 4 states, complete\n",
     traces: "",
 };
 
