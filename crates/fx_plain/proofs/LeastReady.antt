@@ -9,7 +9,8 @@ use Rattle.fx_plain.specs.declared.class.Class.TheVariants.{Unstarted, Able, Wai
 use Rattle.fx_plain.specs.NumberSet.{IsLeastOf, lesser}
 use Rattle.fx_plain.specs.PlainQueue.{QueueView, no_queue, queue_at, have_room, have_element, has_room_in, has_element_in}
 use Rattle.fx_plain.specs.Classes.{is_ready}
-use Rattle.fx_plain.specs.ClassSets.{class_at, is_able, waits_there, waits_for_room_there, waits_for_element_there, SetsView, members, AreAble, ForRoom, ForElement, passes}
+use Rattle.fx_plain.specs.ClassSets.{class_at, is_able, waits_there, waits_for_room_there, waits_for_element_there}
+use Rattle.fx_plain.specs.ClassSets.{SetsView, members, AreAble, ForRoom, ForElement, passes}
 use Rattle.fx_plain.specs.ClassSets.{AreSets, is_ready_there, NobodyWaitsBetween}
 
 module _ (s t : ℕ → Bool) where

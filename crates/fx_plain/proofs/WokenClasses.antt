@@ -66,7 +66,8 @@ module _ (test : Class → Bool) (not_able : test Able ≡ false) where
         → (is_able (class_at (slice_set classes f Able) g) || test (class_at (slice_set classes f Able) g)) ≡ true
     seen g e = elim (cases_eq g f) [
       | inl is ↦ ap (λ (k : Class). is_able k || test k) (at_woken classes f lt g is)
-      | inr apart ↦ ap (λ (k : Class). is_able k || test k) (at_others classes f lt g apart) ∙ or_true (is_able (class_at classes g)) (test (class_at classes g)) e
+      | inr apart ↦ ap (λ (k : Class). is_able k || test k) (at_others classes f lt g apart)
+          ∙ or_true (is_able (class_at classes g)) (test (class_at classes g)) e
     ]
 
   pub least_or_woken : (classes : List Class) (woken least : Option ℕ) → IfSome woken (λ f. f < length classes)
@@ -143,7 +144,8 @@ module _ (q : ℕ) (own : QueueView) (queues : List QueueView) (lt : q < length 
 
       -- and who was found is found again
       found_beside : (found : Option ℕ) (n : ℕ) → found ≡ Some n → class_at classes n ≡ Able → (there result : Option ℕ)
-          → IsLeastOrAble test classes there → result ≡ lesser (Some n) there → IfSome found (λ k. IsLeastOf (λ f. ready_by queues (class_at classes f)) (Some k))
+          → IsLeastOrAble test classes there → result ≡ lesser (Some n) there
+          → IfSome found (λ k. IsLeastOf (λ f. ready_by queues (class_at classes f)) (Some k))
           → IfSome result (λ k. IsLeastOf now (Some k))
       found_beside found n is able there result h e least = rw e (by_there there h)
         where
