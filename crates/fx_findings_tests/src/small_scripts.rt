@@ -15,6 +15,8 @@ struct Row {
 
 const ZERO: Option<Outcome> = Some(Outcome::Succeeded(0));
 
+const ONE: Option<Outcome> = Some(Outcome::Succeeded(1));
+
 /// Of two takers one goes without.
 const TAKERS: &[Row] = &[
     Row {
@@ -68,6 +70,20 @@ const FIRST: &[Row] = &[
         outcomes: &[Some(Outcome::Succeeded(1)), Some(Outcome::Succeeded(1))],
         left: &[],
         is_replayed: false,
+    },
+];
+
+/// Whichever of two ends first is the one that a `first` learns of, and each of the two has a schedule.
+const EITHER: &[Row] = &[
+    Row {
+        outcomes: &[ZERO, ONE, Some(Outcome::Succeeded(2))],
+        left: &[],
+        is_replayed: true,
+    },
+    Row {
+        outcomes: &[ONE, ONE, Some(Outcome::Succeeded(2))],
+        left: &[],
+        is_replayed: true,
     },
 ];
 
@@ -130,6 +146,16 @@ fn reports_of_small_scripts_are_found(rt: HostRuntime) -> Result<(), Fail> {
         assert_eq!(rt; explored.findings.len(), rows.len());
         assert!(rt; are_found(&explored.findings, rows));
     }
+    Ok(())
+}
+
+#[test]
+fn each_of_two_may_end_first_by_a_schedule(rt: HostRuntime) -> Result<(), Fail> {
+    let text = b"(main (start a (pure 1) (start b (pure 2) (first a b))))";
+    let script = parse(rt.alloc(), text)?;
+    let explored = explore(rt.alloc(), &script, 1000)?;
+    assert_eq!(rt; explored.findings.len(), EITHER.len());
+    assert!(rt; are_found(&explored.findings, EITHER));
     Ok(())
 }
 
