@@ -19,6 +19,9 @@ use fx_text::{QueueDecl, Script};
 use std::alloc::{AllocError, Global};
 use std::io::Write;
 
+/// Most lines of fibers have no more bytes than this, so room for so many each is had at once.
+const LINE: usize = 24;
+
 /// The outcome that a fiber has ended with, which its trace tells.
 fn outcome_of(fiber: &FiberReport) -> Option<Outcome>
     requires { ends fiber.now.trace ≡ fiber.now.has_ended }
@@ -107,7 +110,7 @@ pub fn format_report(alloc: Global, script: &Script, report: &Report) -> Result<
     ensures { IfOk result
         (λ text. string_bytes text ≡ report_text (queue_names (meaning script.now)) report.now) }
 {
-    let mut text = String::new(alloc);
+    let mut text = String::with_capacity(alloc, report.fibers.len().saturating_mul(LINE))?;
     push_fiber_lines(&mut text, &report.fibers)?;
     push_queue_lines(&mut text, &script.queues, &report.left)?;
     Ok(text)
