@@ -96,7 +96,7 @@ leaf_below_can_step nodes s leaf o f below =
     let term = term_at nodes t.registers leaf.node in
     let is_leaf : IsLeafTerm t.masks.regions term = leaf_of_node t.masks.regions (length t.registers) t.registers (term_of nodes) leaf.node below.is_leaf in
     let here : progress_of nodes t ≡ running nodes t.registers t.cleanups (within nodes t.registers t.frames t.masks.regions term) =
-    progress_is nodes t.registers t.frames t.masks t.cleanups t.focus below.id leaf.node below.down.focus below.node sound term refl in
+    progress_is nodes t.registers t.frames t.masks t.cleanups t.focus leaf.id leaf.node below.down.focus below.node sound term refl in
     let counts : counts_of t ≡ counts_of s = below.down.same.counts in
     let progress : progress_of nodes t ≡ progress_of nodes s = below.down.same.progress in
     let opened : is_none_closed t.masks.regions ≡ leaf.is_open = below.down.opened_is in
@@ -165,17 +165,17 @@ await_can_step nodes s o f g sound here = rw here (by_left s.cleanups sound.clos
 
 -- the names of a leaf that needs outcomes have registers, with the numbers of fibers
 module _ (nodes : List Node) (s : Machine) (leaf : LeafBelow) (below : IsLeafBelow nodes s leaf) where
-  at_below : (n : Node) → leaf.node ≡ n → IsEvaluating nodes below.down.inside below.id n
+  at_below : (n : Node) → leaf.node ≡ n → IsEvaluating nodes below.down.inside leaf.id n
   at_below n is = record { sound = below.down.same.sound; focus = below.down.focus; node = below.node ∙ ap Some is }
 
   pub joined_within : (f x : ℕ) (a : NodeId) (e : ℕ) (b d : NodeId) → leaf.node ≡ node.Join f x a e b d → f < length s.registers
-  joined_within f x a e b d is = rw below.down.registers at (join_within nodes below.down.inside below.id f x a e b d (at_below _ is))
+  joined_within f x a e b d is = rw below.down.registers at (join_within nodes below.down.inside leaf.id f x a e b d (at_below _ is))
 
   pub either_within : (f g : ℕ) → leaf.node ≡ node.First f g → (f < length s.registers) × (g < length s.registers)
   either_within f g is =
       let t = below.down.inside in
       let at = at_below (node.First f g) is in
-      let both : (f < length t.registers) × (g < length t.registers) = (left_within nodes t below.id f g at, right_within nodes t below.id f g at) in
+      let both : (f < length t.registers) × (g < length t.registers) = (left_within nodes t leaf.id f g at, right_within nodes t leaf.id f g at) in
       rw below.down.registers at both
 
   module _ (over : IsProgressScopedOver is_fiber_number (progress_of nodes s)) where
@@ -183,14 +183,14 @@ module _ (nodes : List Node) (s : Machine) (leaf : LeafBelow) (below : IsLeafBel
     over_below = rw below.down.same.progress over
 
     pub joined_fits : (f x : ℕ) (a : NodeId) (e : ℕ) (b d : NodeId) → leaf.node ≡ node.Join f x a e b d → slice_index s.registers f < 2 ^ 32
-    joined_fits f x a e b d is = rw below.down.registers at (join_fits nodes below.down.inside below.id f x a e b d (at_below _ is) over_below)
+    joined_fits f x a e b d is = rw below.down.registers at (join_fits nodes below.down.inside leaf.id f x a e b d (at_below _ is) over_below)
 
     pub either_fits : (f g : ℕ) → leaf.node ≡ node.First f g → (slice_index s.registers f < 2 ^ 32) × (slice_index s.registers g < 2 ^ 32)
     either_fits f g is =
         let t = below.down.inside in
         let at = at_below (node.First f g) is in
         let both : (slice_index t.registers f < 2 ^ 32) × (slice_index t.registers g < 2 ^ 32) =
-        (left_fits nodes t below.id f g at over_below, right_fits nodes t below.id f g at over_below) in
+        (left_fits nodes t leaf.id f g at over_below, right_fits nodes t leaf.id f g at over_below) in
         rw below.down.registers at both
 
 -- each name of the leaf below is bound in it
@@ -199,6 +199,6 @@ pub closed_below : (nodes : List Node) (s : Machine) (leaf : LeafBelow) → IsLe
 closed_below nodes s leaf below over =
     let t = below.down.inside in
     let over_there : IsProgressScopedOver is_fiber_number (progress_of nodes t) = rw below.down.same.progress over in
-    let at : IsEvaluating nodes t below.id leaf.node = record { sound = below.down.same.sound; focus = below.down.focus; node = below.node } in
-    let here = leaf_at_over is_fiber_number (progress_of nodes t) _ (leaf_here nodes t below.id leaf.node at below.is_leaf) over_there in
+    let at : IsEvaluating nodes t leaf.id leaf.node = record { sound = below.down.same.sound; focus = below.down.focus; node = below.node } in
+    let here = leaf_at_over is_fiber_number (progress_of nodes t) _ (leaf_here nodes t leaf.id leaf.node at below.is_leaf) over_there in
     rw below.down.registers at here.0

@@ -24,4 +24,5 @@ pub mod Bursts
 pub mod Starts
 pub mod LeavesBelow
 pub mod WaitsBelow
+pub mod NodePlaces
 pub mod Turns

@@ -44,7 +44,7 @@ waits_below nodes s l below =
     let term = term_at nodes t.registers l.node in
     let is_leaf : IsLeafTerm t.masks.regions term = leaf_of_node t.masks.regions (length t.registers) t.registers (term_of nodes) l.node below.is_leaf in
     let here : progress_of nodes t ≡ running nodes t.registers t.cleanups (within nodes t.registers t.frames t.masks.regions term) =
-    progress_is nodes t.registers t.frames t.masks t.cleanups t.focus below.id l.node below.down.focus below.node sound term refl in
+    progress_is nodes t.registers t.frames t.masks t.cleanups t.focus l.id l.node below.down.focus below.node sound term refl in
     let registers : t.registers ≡ s.registers = below.down.registers in
     let there : waits (progress_of nodes t) ≡ wait_at term = ap waits here ∙ inside nodes t t.cleanups term ∙ ap wait_at is_leaf.is_leaf in
     ap (λ (ns : List ℕ). wait_at (term_at nodes ns l.node)) (sym registers) ∙ sym there ∙ ap waits below.down.same.progress

@@ -29,9 +29,8 @@ is_open_inside f opened = opened
 
 -- the leaf that a machine comes to by entering contexts alone, and whether the place there is open
 pub record IsLeafBelow (nodes : List Node) (s : Machine) (leaf : LeafBelow) : Type 0 where
-  pub id : NodeId
-  pub down : IsDownTo nodes s id leaf.is_open
-  pub node : slice_get nodes id.0 ≡ Some leaf.node
+  pub down : IsDownTo nodes s leaf.id leaf.is_open
+  pub node : slice_get nodes leaf.id.0 ≡ Some leaf.node
   pub is_leaf : IsLeafNode (Some leaf.node)
 
 -- the term of a node with the numbers in place of its names

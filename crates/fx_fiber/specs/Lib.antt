@@ -24,3 +24,4 @@ pub mod Bursts
 pub mod Turns
 pub mod Telling
 pub mod LeafBelow
+pub mod NodePlaces

@@ -7,7 +7,7 @@ use crate::machine::focus::Focus;
 use crate::port::Port;
 use crate::stepped::Stepped;
 use fx_model::{Closed, Source};
-use fx_term::{Code, Memory, Stamped};
+use fx_term::{Code, Memory, NodeId, Stamped};
 use std::alloc::Global;
 use std::marker::Model;
 
@@ -67,7 +67,8 @@ impl<P: Port> Fiber<P> {
     ghost use Rattle.fx_fiber.specs.MakesStep.{DoesStep};
     ghost use Rattle.fx_fiber.specs.Bursts.{Bursts, BurstsShort};
     ghost use Rattle.fx_fiber.specs.Cancels.{CancelsAmong};
-    ghost use Rattle.std.specs.Prelude.{option_and_then};
+    ghost use Rattle.fx_fiber.specs.NodePlaces.{is_open_at, IsPlaceOf, HasNoNode};
+    ghost use Rattle.std.specs.Prelude.{option_and_then, MatchOption};
     ghost use Rattle.fx_model.specs.Step.{Runs, leaf_at, has_ended};
     ghost use Rattle.fx_model.specs.Waiting.{wait_at};
     ghost use Rattle.fx_model.specs.Outside.{can_step};
@@ -175,6 +176,25 @@ impl<P: Port> Fiber<P> {
         ensures { result ≡ option_and_then wait_at (leaf_at (progress P.theory.code self.now)) }
     {
         self.body.machine.waits_for(code)
+    }
+
+    /// Whether the place where the fiber stands is open: nothing closes it, so a request is seen there before any
+    /// rule but that of a cancellation. Between clean-ups and at its end it has no place.
+    pub fn is_open(&self, code: &Code) -> bool
+        requires code { code.now.nodes ≡ P.theory.code }
+        ensures { result ≡ is_open_at (progress P.theory.code self.now) }
+    {
+        self.body.machine.is_open_at_leaf(code)
+    }
+
+    /// The node of the leaf where the fiber stands, or of the loop of which a turn comes next; none where it
+    /// stands with a result, awaits a fiber that it canceled, is between two clean-ups or has ended.
+    pub fn node(&self, code: &Code) -> Option<NodeId>
+        requires code { code.now.nodes ≡ P.theory.code }
+        ensures { MatchOption result (HasNoNode (leaf_at (progress P.theory.code self.now)))
+            (IsPlaceOf P.theory.code self.now.registers (leaf_at (progress P.theory.code self.now))) }
+    {
+        self.body.machine.node(code)
     }
 
     /// The numbers of those whom the fiber can cancel: each `cancel` in what it has left has one of these.

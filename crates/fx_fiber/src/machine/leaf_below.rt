@@ -10,9 +10,10 @@ use crate::machine::focus::Focus;
 use fx_frames::Frame;
 use fx_term::{Code, Node, NodeId};
 
-/// The leaf that a machine comes to by entering contexts alone, and whether the place there is open.
+/// The leaf that a machine comes to by entering contexts alone, by its number, and whether the place there is open.
 #[derive(Clone, Copy)]
 pub(crate) struct LeafBelow {
+    pub id: NodeId,
     pub node: Node,
     pub is_open: bool,
 }
@@ -42,6 +43,7 @@ impl Machine {
             let node = code.node(id);
             let Some((frame, first)) = entry_of(id, node) else {
                 return LeafBelow {
+                    id,
                     node: *node,
                     is_open,
                 };

@@ -1,0 +1,4 @@
+use Rattle.fx_fiber.proofs.machine.Machine.node.Given as goal
+
+abbrev pub ghost-leaf_below : goal.ghost-leaf_below
+ghost-leaf_below g a = g.nodes
