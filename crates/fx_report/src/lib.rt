@@ -48,6 +48,7 @@ mod write;
 pub use answer::Answer;
 pub use answer_fault::AnswerFault;
 pub use input::{MOST_OF_SCRIPT, read_text};
+pub use lines::push_event;
 pub use out_fault::OutFault;
 pub use output::write_text;
 pub use refusal::format_refusal;

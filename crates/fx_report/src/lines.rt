@@ -79,8 +79,8 @@ fn push_moved(
     push_numbered(text, " ", value)
 }
 
-/// Appends the words for an event, where the script has these queues.
-fn push_event(text: &mut String, queues: &[QueueDecl], event: Event) -> Result<(), AllocError>
+/// Appends the words for an event, where the script has these queues: what its line has after the stamp.
+pub fn push_event(text: &mut String, queues: &[QueueDecl], event: Event) -> Result<(), AllocError>
     requires { NamesQueueBelow (length queues.now) event }
     ensures { OnOk result
         (string_bytes text.new ≡ string_bytes text.old ++ event_text (names_of queues.now) event) }
