@@ -60,3 +60,6 @@ pub mod PassedNames
 pub mod OneTelling
 pub mod MovePicks
 pub mod Waits
+pub mod ToldSteps
+pub mod ToldWays
+pub mod ToldRuns

@@ -33,7 +33,7 @@ module _ (n : ℕ) (s : ScriptView) where
   first_named place (chosen.least is made rest) named = tt
   first_named place (chosen.halts none) named = tt
 
-  why_named : (m : WholeMachine) (f : ℕ) (why : Why) → AreNamed n m → IsWhy s m f why → IsWhyAtQueueBelow n why
+  pub why_named : (m : WholeMachine) (f : ℕ) (why : Why) → AreNamed n m → IsWhy s m f why → IsWhyAtQueueBelow n why
   why_named m f (Waits source) named is = named_source n (m.fibers f) source (named f) is
   why_named m f NoFiber named is = tt
   why_named m f NotStarted named is = tt

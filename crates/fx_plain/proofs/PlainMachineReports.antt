@@ -6,7 +6,6 @@ use Rattle.std.specs.List.{range_with_len, filter, filter_map, cons_option}
 use Rattle.std.proofs.lemmas.Option.{none-some}
 use Rattle.std.proofs.lemmas.List.{length-map}
 use Rattle.fx_term.specs.declared.node.Node.{Node}
-use Rattle.fx_term.specs.declared.item.Item.{Item}
 use Rattle.fx_term.specs.Element.{Element, elements_of}
 use Rattle.fx_term.specs.Script.{ScriptView, total}
 use Rattle.fx_model.specs.Step.{has_ended}

@@ -83,15 +83,20 @@ module _ {J : Type 0} (nodes : List Node) where
       (less_left (whole_machine_work s m) (whole_machine_work s m') (total s) (able_count p.world.classes) (able_count p'.world.classes) less
       (able_few s p' m' so'))
 
-  -- each try leaves less
-  pub try_leaves_less : (s : ScriptView) (p p' : PlainMachine J) (m : WholeMachine) (f : ℕ) → StandsForRun nodes s p m → Tries nodes s m f p p'
-      → left_of p' < left_of p
-  try_leaves_less s p p' m f so (steps {l = l} {m' = m'} chosen so' noted) = step_leaves_less s p p' m f l m' so chosen so'
-  try_leaves_less s p p' m f so (waits cannot so' fewer noted) =
+  -- and so does a wait that is noted
+  pub wait_leaves_less : (s : ScriptView) (p p' : PlainMachine J) (m : WholeMachine) → StandsForRun nodes s p m → StandsForRun nodes s p' m
+      → able_count p'.world.classes < able_count p.world.classes → left_of p' < left_of p
+  wait_leaves_less s p p' m so so' fewer =
       rw (work_is s p m so, work_is s p' m so', places s p m so, places s p' m so') (more (able_count p'.world.classes) (able_count p.world.classes) _ fewer)
     where
       more : (a b c : ℕ) → a < b → c + a < c + b
       more a b c lt = omega arith
+
+  -- each try leaves less
+  pub try_leaves_less : (s : ScriptView) (p p' : PlainMachine J) (m : WholeMachine) (f : ℕ) → StandsForRun nodes s p m → Tries nodes s m f p p'
+      → left_of p' < left_of p
+  try_leaves_less s p p' m f so (steps {l = l} {m' = m'} chosen so' noted) = step_leaves_less s p p' m f l m' so chosen so'
+  try_leaves_less s p p' m f so (waits cannot so' fewer noted) = wait_leaves_less s p p' m so so' fewer
 
   -- of a machine that stands for some
   pub some_leaves_less : (p p' : PlainMachine J) (f : ℕ) → StandsForSome nodes p

@@ -1,8 +1,7 @@
 -- The stamps that the world has are those of the whole machine.
-use Rattle.std.proofs.Common.{◌≡◌, ℕ, ◌<◌, Option, Some, None, List, [], ◌∷◌, ◌++◌, length, map, max, drop, refl, sym, ◌∙◌, ap, arith, inl, inr}
+use Rattle.std.proofs.Common.{◌≡◌, ℕ, ◌<◌, Option, List, [], ◌∷◌, ◌++◌, length, max, drop, refl, sym, ◌∙◌, ap, arith, inl, inr}
 use Rattle.std.proofs.Common.{get_or-set_same, get_or-set_other, length-set}
-use Rattle.std.specs.Prelude.{slice_index_or, slice_set, replicate}
-use Rattle.std.proofs.Math.ListN.{get_or-map}
+use Rattle.std.specs.Prelude.{slice_index_or, slice_set}
 use Rattle.std.proofs.lemmas.Bool.{cases_eq}
 use Rattle.std.proofs.lemmas.List.{length-replicate, map-append}
 use Rattle.fx_term.specs.declared.event.Event.TheVariants as event
@@ -15,11 +14,11 @@ use Rattle.fx_model.specs.Row.{Label, Silent, Shows, Learns, Starts}
 use Rattle.fx_model.proofs.StepLabels.{IsProper}
 use Rattle.fx_fiber.specs.declared.stepped.Stepped.{Stepped}
 use Rattle.fx_fiber.specs.MakesStep.{Tells}
-use Rattle.fx_fiber.specs.StampedRun.{next_stamp, last_of, IsUncaused, stamp_of_event}
-use Rattle.fx_plain.specs.MachineStamps.{MachineStamps, no_stamps, front_stamp, cause_of, stamp_of, began_after, asked_after, ended_after, put_after}
+use Rattle.fx_fiber.specs.StampedRun.{IsUncaused, stamp_of_event}
+use Rattle.fx_plain.specs.MachineStamps.{MachineStamps, no_stamps, front_stamp, cause_of, stamp_of, asked_after, ended_after, put_after}
 use Rattle.fx_plain.specs.MachineStamps.{stamps_after}
 use Rattle.fx_plain.specs.WholeMachine.{WholeMachine, IsAnswered, next_item}
-use Rattle.fx_plain.specs.PlainQueue.{QueueView, empty_queue, queue_at, IsFront, put_stamps, with_item, without_front}
+use Rattle.fx_plain.specs.PlainQueue.{QueueView, queue_at, IsFront, put_stamps, with_item, without_front}
 use Rattle.fx_plain.specs.World.{WorldView, asked_in, ended_in, stamped_item, world_after, HeldFiber, StandsFor, HasStamps, opening_world}
 use Rattle.fx_plain.specs.PlainCalls.{PortView, plain_theory}
 use Rattle.fx_term.proofs.MapLaws.{at_that, at_other}

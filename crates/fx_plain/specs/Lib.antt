@@ -20,4 +20,6 @@ pub mod PassedPicks
 pub mod TakenPick
 pub mod MovePicks
 pub mod PlainMachine
+pub mod ToldRun
+pub mod ToldWay
 pub mod TextReplay

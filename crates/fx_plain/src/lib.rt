@@ -55,7 +55,7 @@
 //! The report of that run has each fiber that started, ascending by number, with its parent, whether it
 //! has ended, and its trace with the stamps; what is left in each queue; and which numbers were requested from outside.
 //! Beside it [`replay_to_halt`] says what each fiber waits for that has not ended, and how many picks were
-//! passed over, with the first of them and why ([`PassedOver`]).
+//! passed over, with the first of them and why ([`PassedOver`]). [`tell_run`] tells that run step by step.
 //!
 //! What never happens: two fibers of one number; a start that finds its number taken, or no room for
 //! the child; an event after its fiber's end; an element that is taken twice, or by nobody and is gone;
@@ -78,6 +78,8 @@ mod plain_world;
 mod put_counts;
 mod started;
 mod text_replay;
+mod told;
+mod told_run;
 mod waiter_blocks;
 mod woken_classes;
 
@@ -90,3 +92,5 @@ pub use passed::{PassedOver, PassedPick, Why};
 pub use plain_port::PlainPort;
 pub use plain_world::PlainWorld;
 pub use text_replay::replay_text;
+pub use told::{MadeStep, Told};
+pub use told_run::tell_run;

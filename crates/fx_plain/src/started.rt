@@ -1,19 +1,30 @@
 //! A fiber that has started.
-ghost use Rattle.std.specs.Prelude.{◌≡◌, ◌^◌, ◌-◌, true, false, IfOk};
+ghost use Rattle.std.specs.Prelude.{◌≡◌, ◌^◌, ◌-◌, true, false, IfOk, slice_get};
+ghost use Rattle.fx_term.specs.Stamped.{events_in};
 ghost use Rattle.fx_model.specs.Step.{has_ended};
 ghost use Rattle.fx_fiber.specs.Fiber.{progress};
 ghost use Rattle.fx_fiber.specs.MakesStep.{DoesStep};
 ghost use Rattle.fx_fiber.specs.Bursts.{Bursts};
 ghost use Rattle.fx_plain.specs.PlainCalls.{plain_theory};
 ghost use Rattle.fx_plain.specs.Started.{reported, wait_of};
+ghost use Rattle.fx_plain.specs.ToldWay.{IsBeforeStep};
 
 use crate::plain_port::PlainPort;
 use crate::plain_world::PlainWorld;
 use fx_fiber::{Fiber, FiberReport, State, Stepped};
 use fx_report::Wait;
-use fx_term::{Code, CodeBrand, Memory, Stamped};
+use fx_term::{Code, CodeBrand, Event, Memory, NodeId, Stamped};
 use std::marker::Model;
 use std::snapshot::Snapshot;
+
+/// How many events a fiber has shown before a step, and where it stands: at which node, and whether a look comes
+/// first there.
+#[derive(Clone, Copy)]
+pub(crate) struct BeforeStep {
+    pub shown: usize,
+    pub node: Option<NodeId>,
+    pub is_open: bool,
+}
 
 /// What is kept of a fiber that has ended. What it was is known to proofs alone.
 #[derive(Drop)]
@@ -87,6 +98,44 @@ impl<J: CodeBrand> Started<J> {
             fiber: fiber.id(),
             source,
         })
+    }
+
+    /// Its events so far with their stamps.
+    fn trace(&self) -> &[Stamped]
+        ensures { events_in result.now ≡ self.now.fiber.trace }
+    {
+        match &self.stage {
+            Stage::Going(fiber) => fiber.trace(),
+            Stage::Over(kept) => &kept.trace,
+        }
+    }
+
+    /// The event at this place of its trace, if there is one.
+    pub fn event(&self, place: usize) -> Option<Event>
+        ensures { result ≡ slice_get self.now.fiber.trace place }
+    {
+        let stamped = self.trace().get(place)?;
+        Some(stamped.event)
+    }
+
+    /// How many events it has shown, and where it stands.
+    pub fn before_step(&self, code: &Code) -> BeforeStep
+        requires { code.now.nodes ≡ J.nodes }
+        ensures { IsBeforeStep J.nodes self.now result }
+    {
+        let shown = self.trace().len();
+        match &self.stage {
+            Stage::Going(fiber) => BeforeStep {
+                shown,
+                node: fiber.node(code),
+                is_open: fiber.is_open(code),
+            },
+            Stage::Over(_) => BeforeStep {
+                shown,
+                node: None,
+                is_open: false,
+            },
+        }
     }
 
     /// Lets it make one step.

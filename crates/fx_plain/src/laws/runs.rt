@@ -5,7 +5,7 @@ ghost use Rattle.fx_term.specs.Script.{ScriptView};
 ghost use Rattle.fx_model.specs.Row.{Label, Starts};
 ghost use Rattle.fx_model.specs.Origin.{Origin};
 ghost use Rattle.fx_model.specs.Work.{work};
-ghost use Rattle.fx_model.specs.Report.{ReportView};
+ghost use Rattle.fx_model.specs.Report.{ReportView, trace_in};
 ghost use Rattle.fx_model.specs.LawfulReport.{IsLawfulReport};
 ghost use Rattle.fx_model.specs.Happenings.{IsLawfulInOneList};
 ghost use Rattle.fx_model.specs.Headline.{KeepsWhatIsPromised};
@@ -19,6 +19,9 @@ ghost use Rattle.fx_plain.specs.Chosen.{IsChosen, IsReplay};
 ghost use Rattle.fx_plain.specs.declared.passed.PassedOver.{PassedOver};
 ghost use Rattle.fx_plain.specs.PassedPicks.{TellsPassed};
 ghost use Rattle.fx_plain.specs.MovePicks.{picks_of};
+ghost use Rattle.fx_plain.specs.declared.told.Told.{Told};
+ghost use Rattle.fx_plain.specs.ToldRun.{TellsRun, picks_told, events_told};
+ghost use Rattle.fx_term.specs.declared.node.Node.{Node};
 
 /// The report of a run of the whole machine is lawful, whoever chose its steps, where at its end no fiber
 /// can step. Every number may be requested from outside.
@@ -137,6 +140,19 @@ pub fn moves_choose_their_run()
         → IsChosen s (picks_of moves) (opening s) moves last }
     ensures fit { (s : ScriptView) (ps : List Pick) (moves : List Move) (last : WholeMachine)
         → IsChosen s ps (opening s) moves last → TellsPassed s (picks_of moves) None }
+{}
+
+/// What is told of that run step by step, taken as picks, has the same report: it is told of no other run, and in the
+/// order in which it is made.
+pub fn told_steps_choose_their_run()
+    ensures { (nodes : List Node) (s : ScriptView) (ps : List Pick) (told : List Told) (r : ReportView)
+        → TellsRun nodes s ps told → IsReplay s ps r → IsReplay s (picks_told told) r }
+{}
+
+/// Cut to a fiber it is that fiber's trace.
+pub fn told_steps_of_a_fiber_are_its_trace()
+    ensures { (nodes : List Node) (s : ScriptView) (ps : List Pick) (told : List Told) (r : ReportView)
+        → TellsRun nodes s ps told → IsReplay s ps r → (f : ℕ) → events_told f told ≡ trace_in r f }
 {}
 
 /// A run of the whole machine has no more steps of fibers than the work of the script's term and two.
