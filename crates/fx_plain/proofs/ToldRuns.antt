@@ -109,7 +109,8 @@ module _ (nodes : List Node) (s : ScriptView) where
   told_is_its_trace ps told r t h g =
       let same = one_run s (opening_is_kept s) t.chosen h.chosen in
       let report : IsReportOf s t.last r = subst (λ (m : WholeMachine). IsReportOf s m r) (sym same.1) h.report in
-      sym (ap trace_of_report (report.fibers g) ∙ reported_trace g (t.last.stamps.trace g) (t.last.fibers g) ∙ told_events 1 t.chosen told (opening_is_kept s) t.tells g
+      sym (ap trace_of_report (report.fibers g) ∙ reported_trace g (t.last.stamps.trace g) (t.last.fibers g)
+      ∙ told_events 1 t.chosen told (opening_is_kept s) t.tells g
       ∙ ap (λ (ls : List Label). events ls ++ events_told g told) (opening_has_no_labels s g))
 
   module _ (n : ℕ) where

@@ -127,7 +127,8 @@ module _ {J : Type 0} (nodes : List Node) (s : ScriptView) (p p' : PlainMachine 
       → told ≡ record { fiber = f; node = before.node; is_open = before.is_open; event = shown_at (at_number nodes p' f) before.shown }
       → Tries nodes s m f p p' → is_some (option_map why.Waits (awaited (class_at p'.world.classes f))) ≡ false
       → TriesAndTells nodes s m f p p' (Some told)
-  tried_and_steps before told at is (steps {l = l} {m' = m'} made so' none) e = way.steps made so' (step_told nodes s p p' m f l m' so made so' before told at is)
+  tried_and_steps before told at is (steps {l = l} {m' = m'} made so' none) e =
+      way.steps made so' (step_told nodes s p p' m f l m' so made so' before told at is)
   tried_and_steps before told at is (waits {source = source} cannot so' fewer noted) e =
       absurd (let no : is_some (option_map why.Waits (Some source)) ≡ false = sym (ap (λ o. is_some (option_map why.Waits o)) noted) ∙ e in cc)
 
