@@ -95,7 +95,8 @@ module _ (nodes : List Node) (s : Machine) (sound : IsSoundMachine nodes s) wher
 
 module _ (nodes : List Node) (s : Machine) where
   -- the leaf of what stands inside all contexts
-  inside_leaf_at : (left : Option Unwound) (u : Term) → leaf_at (running nodes s.registers left (within nodes s.registers s.frames s.masks.regions u)) ≡ Some (leaf u)
+  inside_leaf_at : (left : Option Unwound) (u : Term)
+      → leaf_at (running nodes s.registers left (within nodes s.registers s.frames s.masks.regions u)) ≡ Some (leaf u)
   inside_leaf_at None u = ap Some (leaf_within nodes s.registers s.frames s.masks.regions u)
   inside_leaf_at (Some left) u = ap Some (leaf_within nodes s.registers s.frames s.masks.regions u)
 
