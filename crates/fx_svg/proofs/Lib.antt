@@ -1,0 +1,4 @@
+pub mod Escapes
+pub mod Reading
+pub mod Tags
+pub mod WellFormedTexts

@@ -1,0 +1,4 @@
+pub mod Names
+pub mod Escaped
+pub mod Content
+pub mod WellFormed
