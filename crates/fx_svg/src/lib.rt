@@ -24,4 +24,4 @@ pub use attribute::{Attribute, Value};
 pub use escape::push_words;
 pub use key::Key;
 pub use tag::Tag;
-pub use write::{push_element, push_end_tag, push_start_tag};
+pub use write::{push_element, push_empty_element, push_end_tag, push_start_tag};

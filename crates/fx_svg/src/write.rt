@@ -2,7 +2,7 @@
 ghost use Rattle.std.specs.Prelude.{◌≡◌, ◌++◌, OnOk, string_bytes, map};
 ghost use Rattle.std.specs.List.{flat_map};
 ghost use Rattle.fx_svg.specs.Escaped.{escaped};
-ghost use Rattle.fx_svg.specs.Content.{value_words, view_attribute, attribute_text, start_tag, end_tag, element, words, rendering};
+ghost use Rattle.fx_svg.specs.Content.{value_words, view_attribute, attribute_text, start_tag, end_tag, element, nothing, words, rendering};
 
 use crate::attribute::{Attribute, Value};
 use crate::escape::push_words;
@@ -80,4 +80,17 @@ pub fn push_element(
     push_start_tag(text, tag, attributes)?;
     push_words(text, inside)?;
     push_end_tag(text, tag)
+}
+
+/// Appends an element with these attributes, in which nothing stands.
+pub fn push_empty_element(
+    text: &mut String,
+    shape: Tag,
+    attributes: &[Attribute<'_>],
+) -> Result<(), AllocError>
+    ensures { OnOk result (string_bytes text.new ≡ string_bytes text.old
+        ++ rendering (element shape (map view_attribute attributes.now) nothing)) }
+{
+    push_start_tag(text, shape, attributes)?;
+    push_end_tag(text, shape)
 }

@@ -1,0 +1,83 @@
+-- What an event stands on by the model is drawn.
+use Rattle.std.proofs.Common.{◌≡◌, ℕ, ◌<◌, Bool, true, Option, Some, None, List, refl, sym, ap, subst, ◌∙◌, eq-eqb, slice_get}
+use Rattle.std.specs.Prelude.{Contains}
+use Rattle.std.proofs.lemmas.Option.{none-some, same_Some, slice_get_within}
+use Rattle.fx_term.specs.declared.outcome.Outcome.{Outcome}
+use Rattle.fx_term.specs.declared.event.Event.{Event}
+use Rattle.fx_term.specs.declared.event.Event.TheVariants as event
+use Rattle.fx_term.specs.Script.{ScriptView}
+use Rattle.fx_model.specs.Row.{Learns}
+use Rattle.fx_model.specs.Report.{FiberReportView, ReportView, fiber_in, trace_in, trace_of_report}
+use Rattle.fx_model.specs.LawfulReport.{IsLawfulReport}
+use Rattle.fx_model.specs.Causes.{Needs, LearnsOfEnd, LeavesQueue}
+use Rattle.fx_model.specs.Causes as needs
+use Rattle.fx_model.specs.ReportStamps.{stamp_in}
+use Rattle.fx_model.proofs.StepLabels.{IsProper}
+use Rattle.fx_model.proofs.EventLabels.{run_is_proper}
+use Rattle.fx_model.proofs.ShownLabels.{shown_holds}
+use Rattle.fx_order.specs.declared.occurrence.Occurrence.{Occurrence}
+use Rattle.fx_order.specs.CausalOrder.{IsCausalOrder}
+use Rattle.fx_picture.specs.declared.cause.Cause.{Cause}
+use Rattle.fx_picture.specs.declared.cause.Cause.TheVariants.{Start, End, Request}
+use Rattle.fx_picture.specs.Causes.{is_told_by, cause_of}
+use Rattle.fx_picture.specs.IsDrawn.{SaysItsCause, IsDrawn, HasArrow}
+use Rattle.fx_picture.proofs.ArrowsDrawn.{none_missing}
+use Rattle.fx_picture.proofs.NamedEnds.{Names, run_names}
+
+-- an event that learns of the end of g, and names who ended, names g
+told_by : (g : ℕ) (o : Outcome) (v : Event) → IsProper (Learns g o v) → Names (Learns g o v) → SaysItsCause v → is_told_by g v ≡ true
+told_by g o (event.Joined h p) proper named says = eq-eqb h g (sym named)
+told_by g o (event.Awaited h) proper named says = eq-eqb h g (sym named)
+told_by g o (event.First n) proper named says = absurd says
+told_by g o _ proper named says = absurd proper
+
+module _ (s : ScriptView) (may : ℕ → Bool) (r : ReportView) (lawful : IsLawfulReport s may r) (list : List Occurrence)
+    (order : IsCausalOrder s may r lawful list) (names : List (List ℕ)) where
+  abbrev event_of : ℕ → ℕ → Event → Occurrence
+  event_of f i e = record { fiber = f; place = i; event = e; stamp = stamp_in r f i }
+
+  -- an event that stands on one above it is drawn with an arrow
+  is_drawn : (f i g j : ℕ) (e d : Event) (cause : Cause) → slice_get (trace_in r f) i ≡ Some e → slice_get (trace_in r g) j ≡ Some d
+      → order.moment g j < order.moment f i → cause_of (event_of g j d) (event_of f i e) ≡ Some cause → IsDrawn names r list f i g j
+  is_drawn f i g j e d cause at by above stands = record {
+    from = record { row = order.moment g j; event = event_of g j d };
+    to = record { row = order.moment f i; event = event_of f i e };
+    cause = cause;
+    begins = record { fiber = refl; place = refl };
+    ends = record { fiber = refl; place = refl };
+    has = none_missing r.fibers names list (order.moment g j) (order.moment f i) (event_of g j d) (event_of f i e) cause above
+        (order.stands g j d by) (order.stands f i e at) stands;
+  }
+
+  tells : (f i g j : ℕ) (l : LearnsOfEnd (trace_in r) lawful.runs.labels f i g j) → SaysItsCause l.learning → is_told_by g l.learning ≡ true
+  tells f i g j l says = by_fiber (fiber_in r f) refl
+    where
+      by_fiber : (o : Option FiberReportView) → fiber_in r f ≡ o → is_told_by g l.learning ≡ true
+      by_fiber None none =
+          absurd (none-some l.learning (sym (ap (λ (o : Option FiberReportView). slice_get (trace_of_report o) i) none) ∙ l.tells))
+      by_fiber (Some x) there =
+          let labels = lawful.runs.labels f in
+          let run = (lawful.runs.run f x there).run in
+          told_by g l.outcome l.learning (shown_holds IsProper labels i _ (run_is_proper _ _ _ _ labels run) l.learns)
+          (shown_holds Names labels i _ (run_names _ _ _ _ labels run) l.learns) says
+
+  pub cause_is_drawn : (f i g j : ℕ) (e : Event) → slice_get (trace_in r f) i ≡ Some e → SaysItsCause e
+      → Needs (trace_in r) lawful.runs.labels (LeavesQueue s may r lawful) f i g j → IsDrawn names r list f i g j
+  cause_is_drawn f i g j e at says (needs.taken_element t) = absurd (subst SaysItsCause (same_Some e _ (sym at ∙ t.got)) says)
+  cause_is_drawn f i g j e at says (needs.end_of_other l) =
+      let same : e ≡ l.learning = same_Some e l.learning (sym at ∙ l.tells) in
+      let told = tells f i g j l (subst SaysItsCause same says) in
+      let above = order.in_order.needed f i g j (slice_get_within _ i e at) (slice_get_within _ j _ l.ended) (needs.end_of_other l) in
+      is_drawn f i g j l.learning (event.Ended l.outcome) End l.tells l.ended above (rw told)
+  cause_is_drawn f i g j e at says (needs.start first started) =
+      let above = order.in_order.needed f i g j (slice_get_within _ i e at) (slice_get_within _ j _ started) (needs.start first started) in
+      is_drawn f i g j e (event.Start f) Start at started above (rw (eq-eqb i 0 first, eq-eqb f f refl))
+
+  pub seen_is_drawn : (f i : ℕ) → slice_get (trace_in r f) i ≡ Some event.Seen → (Contains r.outside f → ⊥) → HasArrow names r list f i
+  seen_is_drawn f i at inside =
+      let asked = order.in_order.requested f i at inside in
+      record {
+        by = asked.by;
+        place = asked.place;
+        drawn = is_drawn f i asked.by asked.place event.Seen (event.Request f) Request at asked.request asked.before (rw (eq-eqb f f refl));
+      }

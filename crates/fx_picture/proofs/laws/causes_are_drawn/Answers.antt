@@ -1,0 +1,8 @@
+use Rattle.fx_picture.proofs.CausesDrawn.{cause_is_drawn, seen_is_drawn}
+use Rattle.fx_picture.proofs.laws.causes_are_drawn.Goals as goal
+
+pub returns : goal.returns
+returns c = record {
+  needed = λ s may r lawful list order names. cause_is_drawn s may r lawful list order names;
+  requested = λ s may r lawful list order names. seen_is_drawn s may r lawful list order names;
+}

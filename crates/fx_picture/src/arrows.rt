@@ -1,0 +1,120 @@
+//! The arrows from causes to what they caused.
+ghost use Rattle.std.specs.Prelude.{◌≡◌, ◌≤◌, ◌<◌, ◌++◌, length, take, OnOk, string_bytes};
+ghost use Rattle.fx_svg.specs.Content.{rendering};
+ghost use Rattle.fx_picture.specs.Picture.{arrow, arrow_by, arrows_to, arrows_from};
+
+use crate::cause::{Cause, cause_of};
+use crate::layout::{MOST_EVENTS, lane_of, lane_x, row_y};
+use fx_model::FiberReport;
+use fx_order::Occurrence;
+use fx_svg::{Attribute, Key, Tag, Value, push_empty_element};
+use std::alloc::AllocError;
+
+/// An event, and the row where it is drawn.
+#[derive(Clone, Copy)]
+pub(crate) struct Drawn {
+    pub row: usize,
+    pub event: Occurrence,
+}
+
+/// Appends an arrow from the one mark to the other.
+fn push_arrow(
+    text: &mut String,
+    fibers: &[FiberReport],
+    from: Drawn,
+    to: Drawn,
+    cause: Cause,
+) -> Result<(), AllocError>
+    requires fibers { length fibers.now ≤ MOST_EVENTS }
+    requires from { from.row ≤ MOST_EVENTS }
+    requires to { to.row ≤ MOST_EVENTS }
+    ensures { OnOk result (string_bytes text.new ≡ string_bytes text.old
+        ++ rendering (arrow fibers.now from to cause)) }
+{
+    let ends = [
+        Attribute {
+            key: Key::Class,
+            value: Value::Words(cause.class()),
+        },
+        Attribute {
+            key: Key::X1,
+            value: Value::Number(lane_x(lane_of(fibers, from.event.fiber))),
+        },
+        Attribute {
+            key: Key::Y1,
+            value: Value::Number(row_y(from.row)),
+        },
+        Attribute {
+            key: Key::X2,
+            value: Value::Number(lane_x(lane_of(fibers, to.event.fiber))),
+        },
+        Attribute {
+            key: Key::Y2,
+            value: Value::Number(row_y(to.row)),
+        },
+    ];
+    push_empty_element(text, Tag::Line, &ends)
+}
+
+/// Appends an arrow from the one mark to the other, if that stands on it.
+fn push_arrow_of(
+    text: &mut String,
+    fibers: &[FiberReport],
+    from: Drawn,
+    to: Drawn,
+) -> Result<(), AllocError>
+    requires fibers { length fibers.now ≤ MOST_EVENTS }
+    requires from { from.row ≤ MOST_EVENTS }
+    requires to { to.row ≤ MOST_EVENTS }
+    ensures { OnOk result (string_bytes text.new ≡ string_bytes text.old
+        ++ rendering (arrow_by fibers.now from to)) }
+{
+    match cause_of(from.event, to.event) {
+        Some(cause) => push_arrow(text, fibers, from, to, cause),
+        None => Ok(()),
+    }
+}
+
+/// Appends the arrows to that event from those of these that it stands on.
+fn push_arrows_to(
+    text: &mut String,
+    fibers: &[FiberReport],
+    above: &[Occurrence],
+    to: Drawn,
+) -> Result<(), AllocError>
+    requires fibers { length fibers.now ≤ MOST_EVENTS }
+    requires above { length above.now ≤ MOST_EVENTS }
+    requires to { to.row ≤ MOST_EVENTS }
+    ensures { OnOk result (string_bytes text.new ≡ string_bytes text.old
+        ++ rendering (arrows_to fibers.now to 0 above.now)) }
+{
+    let mut row = 0;
+    let mut rest = above;
+    while let Some((it, more)) = rest.split_first() {
+        push_arrow_of(text, fibers, Drawn { row, event: *it }, to)?;
+        row += 1;
+        rest = more;
+    }
+    Ok(())
+}
+
+/// Appends the arrows to each event from those above it that it stands on.
+pub(crate) fn push_arrows(
+    text: &mut String,
+    fibers: &[FiberReport],
+    list: &[Occurrence],
+) -> Result<(), AllocError>
+    requires fibers { length fibers.now ≤ MOST_EVENTS }
+    requires rows { length list.now ≤ MOST_EVENTS }
+    ensures { OnOk result (string_bytes text.new ≡ string_bytes text.old
+        ++ rendering (arrows_from fibers.now list.now 0 list.now)) }
+{
+    let mut row = 0;
+    let mut rest = list;
+    while let Some((it, more)) = rest.split_first() {
+        push_arrows_to(text, fibers, &list[..row], Drawn { row, event: *it })?;
+        row += 1;
+        rest = more;
+    }
+    Ok(())
+}

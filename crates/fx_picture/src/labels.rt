@@ -1,0 +1,142 @@
+//! The words of a picture.
+ghost use Rattle.std.specs.Prelude.{◌≡◌, ◌++◌, ◌∷◌, [], OnOk, IfOk, string_bytes};
+ghost use Rattle.fx_report.specs.Text.{names_of, outcome_text, queue_name, event_text, state_text, number, end_text};
+ghost use Rattle.fx_picture.specs.Labels.{mark_words, fiber_words};
+
+use fx_model::{FiberReport, State};
+use fx_order::Occurrence;
+use fx_term::{Event, Outcome};
+use fx_text::QueueDecl;
+use std::alloc::{AllocError, Global};
+
+fn push_outcome(text: &mut String, outcome: Outcome) -> Result<(), AllocError>
+    ensures { OnOk result
+        (string_bytes text.new ≡ string_bytes text.old ++ outcome_text outcome) }
+{
+    match outcome {
+        Outcome::Succeeded(value) => write!(text, "succeeded {value}"),
+        Outcome::Errored(error) => write!(text, "errored {error}"),
+        Outcome::Canceled => text.push_str("canceled"),
+    }
+}
+
+/// Appends a word, and the name of a queue.
+fn push_named(
+    text: &mut String,
+    word: &str,
+    queues: &[QueueDecl],
+    queue: u8,
+) -> Result<(), AllocError>
+    ensures { OnOk result (string_bytes text.new
+        ≡ string_bytes text.old ++ word.now ++ queue_name (names_of queues.now) queue) }
+{
+    text.push_str(word)?;
+    text.push(' ')?;
+    match queues.get(queue as usize) {
+        Some(it) => text.push_str(&it.name),
+        None => Ok(()),
+    }
+}
+
+/// Appends a word, the name of a queue, and an element of it.
+fn push_moved(
+    text: &mut String,
+    word: &str,
+    queues: &[QueueDecl],
+    queue: u8,
+    value: u64,
+) -> Result<(), AllocError>
+    ensures { OnOk result (string_bytes text.new ≡ string_bytes text.old
+        ++ word.now ++ queue_name (names_of queues.now) queue ++ number value) }
+{
+    push_named(text, word, queues, queue)?;
+    write!(text, " {value}")
+}
+
+/// Appends the words for an event, where the script has these queues.
+fn push_event(text: &mut String, queues: &[QueueDecl], event: Event) -> Result<(), AllocError>
+    ensures { OnOk result
+        (string_bytes text.new ≡ string_bytes text.old ++ event_text (names_of queues.now) event) }
+{
+    match event {
+        Event::Start(fiber) => write!(text, "start {fiber}"),
+        Event::Request(fiber) => write!(text, "request {fiber}"),
+        Event::Awaited(fiber) => write!(text, "awaited {fiber}"),
+        Event::Joined(fiber, outcome) => {
+            write!(text, "joined {fiber} ")?;
+            push_outcome(text, outcome)
+        }
+        Event::First(side) => write!(text, "first {side}"),
+        Event::Put(queue, value) => push_moved(text, "put", queues, queue, value),
+        Event::Got(queue, value) => push_moved(text, "got", queues, queue, value),
+        Event::Refused(queue) => push_named(text, "refused", queues, queue),
+        Event::Empty(queue) => push_named(text, "empty", queues, queue),
+        Event::Acquired(resource) => write!(text, "acquired {resource}"),
+        Event::Begin(resource) => write!(text, "begin {resource}"),
+        Event::End(resource) => write!(text, "end {resource}"),
+        Event::Seen => text.push_str("seen"),
+        Event::SelfRequest => text.push_str("selfrequest"),
+        Event::Cancelled => text.push_str("cancelled"),
+        Event::Ended(outcome) => {
+            text.push_str("ended ")?;
+            push_outcome(text, outcome)
+        }
+    }
+}
+
+/// The words of a mark: the line of its event in a trace.
+pub(crate) fn mark_words(
+    alloc: Global,
+    queues: &[QueueDecl],
+    it: Occurrence,
+) -> Result<String, AllocError>
+    ensures { IfOk result (λ text. string_bytes text ≡ mark_words (names_of queues.now) it) }
+{
+    let mut text = String::new(alloc);
+    let (fiber, stamp) = (it.fiber, it.stamp);
+    write!(text, "{fiber} {stamp} ")?;
+    push_event(&mut text, queues, it.event)?;
+    Ok(text)
+}
+
+/// Appends the outcome that an event tells, if it is the end of its fiber.
+fn push_end_of(text: &mut String, event: Event) -> Result<(), AllocError>
+    ensures { OnOk result
+        (string_bytes text.new ≡ string_bytes text.old ++ end_text (event ∷ [])) }
+{
+    match event {
+        Event::Ended(outcome) => push_outcome(text, outcome),
+        _ => Ok(()),
+    }
+}
+
+fn push_end(text: &mut String, fiber: &FiberReport) -> Result<(), AllocError>
+    ensures { OnOk result (string_bytes text.new
+        ≡ string_bytes text.old ++ state_text fiber.now.has_ended fiber.now.trace) }
+{
+    match fiber.state {
+        State::Blocked => text.push_str("blocked"),
+        State::Ended => match fiber.trace.last() {
+            Some(last) => push_end_of(text, last.event),
+            None => Ok(()),
+        },
+    }
+}
+
+/// How a fiber is at the end, as it is told by its last event.
+pub(crate) fn end_words(alloc: Global, fiber: &FiberReport) -> Result<String, AllocError>
+    ensures { IfOk result (λ text. string_bytes text
+        ≡ state_text fiber.now.has_ended fiber.now.trace) }
+{
+    let mut text = String::new(alloc);
+    push_end(&mut text, fiber)?;
+    Ok(text)
+}
+
+/// What a fiber is called.
+pub(crate) fn fiber_words(alloc: Global, fiber: &FiberReport) -> Result<String, AllocError>
+    ensures { IfOk result (λ text. string_bytes text ≡ fiber_words fiber.now) }
+{
+    let id = fiber.id;
+    format!(in alloc; "fiber {id}")
+}

@@ -1,0 +1,174 @@
+//! The picture of a run.
+ghost use Rattle.std.specs.Prelude.{◌≡◌, ◌≤◌, ◌<◌, ◌++◌, ◌⊎◌, length, OnOk, IfOk, IfErr, string_bytes};
+ghost use Rattle.fx_text.specs.View.{meaning};
+ghost use Rattle.fx_report.specs.Text.{names_of, queue_names};
+ghost use Rattle.fx_svg.specs.Content.{start_tag, rendering};
+ghost use Rattle.fx_svg.specs.declared.tag.Tag.TheVariants.{Svg};
+ghost use Rattle.fx_order.specs.Occurrences.{occurrences};
+ghost use Rattle.fx_picture.specs.declared.fault.PictureFault.TheVariants.{TooLarge};
+ghost use Rattle.fx_picture.specs.Picture.{arrow_head, size, head, picture_text};
+ghost use Rattle.fx_picture.specs.IsPicture.{IsPicture, IsTooLarge};
+
+use crate::arrows::push_arrows;
+use crate::fault::PictureFault;
+use crate::lanes::push_lanes;
+use crate::layout::{MOST_EVENTS, lane_x, row_y};
+use crate::look::STYLE;
+use crate::marks::push_marks;
+use fx_model::{FiberReport, Report};
+use fx_order::{Occurrence, order_by_stamp};
+use fx_svg::{
+    Attribute, Key, Tag, Value, push_element, push_empty_element, push_end_tag, push_start_tag,
+};
+use fx_text::{QueueDecl, Script};
+use std::alloc::{AllocError, Global};
+
+/// What a picture is called, and what it shows, for who does not see it.
+pub(crate) const TITLE: &str = "A run of fibers";
+
+pub(crate) const DESCRIPTION: &str = "Each fiber has a lane and time goes down. \
+    A mark is an event, an arrow goes from a cause to what it caused. \
+    A lane that is dashed is that of a fiber that waits for good.";
+
+/// How far below the last row the picture ends.
+pub(crate) const FOOT: u64 = 48;
+
+/// Appends the head of an arrow, as the style means it.
+fn push_arrow_head(text: &mut String) -> Result<(), AllocError>
+    ensures { OnOk result (string_bytes text.new ≡ string_bytes text.old ++ rendering arrow_head) }
+{
+    let marker = [
+        Attribute {
+            key: Key::Id,
+            value: Value::Words("head"),
+        },
+        Attribute {
+            key: Key::ViewBox,
+            value: Value::Words("0 0 8 8"),
+        },
+        Attribute {
+            key: Key::PointX,
+            value: Value::Number(12),
+        },
+        Attribute {
+            key: Key::PointY,
+            value: Value::Number(4),
+        },
+        Attribute {
+            key: Key::MarkerWidth,
+            value: Value::Number(8),
+        },
+        Attribute {
+            key: Key::MarkerHeight,
+            value: Value::Number(8),
+        },
+        Attribute {
+            key: Key::Orient,
+            value: Value::Words("auto"),
+        },
+    ];
+    let way = [Attribute {
+        key: Key::Way,
+        value: Value::Words("M0 0L8 4L0 8Z"),
+    }];
+    push_start_tag(text, Tag::Marker, &marker)?;
+    push_empty_element(text, Tag::Path, &way)?;
+    push_end_tag(text, Tag::Marker)
+}
+
+/// Appends the start tag of a picture with so many lanes and rows.
+fn push_start(text: &mut String, lanes: usize, rows: usize) -> Result<(), AllocError>
+    requires lanes { lanes ≤ MOST_EVENTS }
+    requires rows { rows ≤ MOST_EVENTS }
+    ensures { OnOk result (string_bytes text.new ≡ string_bytes text.old
+        ++ start_tag Svg (size lanes rows)) }
+{
+    let size = [
+        Attribute {
+            key: Key::Namespace,
+            value: Value::Words("http://www.w3.org/2000/svg"),
+        },
+        Attribute {
+            key: Key::Role,
+            value: Value::Words("img"),
+        },
+        Attribute {
+            key: Key::Width,
+            value: Value::Number(lane_x(lanes)),
+        },
+        Attribute {
+            key: Key::Height,
+            value: Value::Number(row_y(rows) + FOOT),
+        },
+    ];
+    push_start_tag(text, Tag::Svg, &size)
+}
+
+/// Appends what a picture has beside what is drawn.
+fn push_head(text: &mut String) -> Result<(), AllocError>
+    ensures { OnOk result (string_bytes text.new ≡ string_bytes text.old ++ rendering head) }
+{
+    push_element(text, Tag::Title, &[], TITLE)?;
+    push_element(text, Tag::Description, &[], DESCRIPTION)?;
+    push_element(text, Tag::Style, &[], STYLE)?;
+    push_arrow_head(text)
+}
+
+/// Appends the picture of these events of these fibers.
+fn push_picture(
+    alloc: Global,
+    text: &mut String,
+    queues: &[QueueDecl],
+    fibers: &[FiberReport],
+    list: &[Occurrence],
+) -> Result<(), AllocError>
+    requires fibers { length fibers.now ≤ MOST_EVENTS }
+    requires rows { length list.now ≤ MOST_EVENTS }
+    ensures { OnOk result (string_bytes text.new ≡ string_bytes text.old
+        ++ picture_text (names_of queues.now) fibers.now list.now) }
+{
+    push_start(text, fibers.len(), list.len())?;
+    push_head(text)?;
+    push_lanes(alloc, text, list.len(), fibers)?;
+    push_arrows(text, fibers, list)?;
+    push_marks(alloc, text, queues, fibers, list)?;
+    push_end_tag(text, Tag::Svg)
+}
+
+/// The text of the picture with these events.
+fn draw(
+    alloc: Global,
+    script: &Script,
+    report: &Report,
+    list: &[Occurrence],
+) -> Result<String, AllocError>
+    requires fibers { length report.now.fibers ≤ MOST_EVENTS }
+    requires rows { length list.now ≤ MOST_EVENTS }
+    ensures { IfOk result (λ text. string_bytes text
+        ≡ picture_text (queue_names (meaning script.now)) report.now.fibers list.now) }
+{
+    let mut text = String::new(alloc);
+    push_picture(alloc, &mut text, &script.queues, &report.fibers, list)?;
+    Ok(text)
+}
+
+/// The picture of a report. It fails only where memory runs out, or where it would be too large.
+pub fn format_picture(
+    alloc: Global,
+    script: &Script,
+    report: &Report,
+) -> Result<String, PictureFault>
+    ensures picture { IfOk result (λ text.
+        IsPicture (queue_names (meaning script.now)) report.now (string_bytes text)) }
+    ensures fault { IfErr result (λ fault. fault ≡ TooLarge → IsTooLarge report.now) }
+{
+    let list = order_by_stamp(alloc, report)?;
+    if report.fibers.len() > MOST_EVENTS {
+        return Err(PictureFault::TooLarge);
+    }
+    if list.len() > MOST_EVENTS {
+        return Err(PictureFault::TooLarge);
+    }
+    let text = draw(alloc, script, report, &list)?;
+    Ok(text)
+}
