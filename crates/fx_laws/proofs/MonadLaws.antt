@@ -1,5 +1,6 @@
 -- The laws of a monad with errors.
 use Rattle.std.proofs.Common.{◌≡◌, ℕ, Bool, Option, Some, [], ◌∷◌, refl, subst}
+use Rattle.std.specs.Prelude.{◌↔◌}
 use Rattle.std.proofs.lemmas.Bool.{eq-eqb}
 use Rattle.fx_term.specs.declared.node.Arg.TheVariants.{Number, Slot}
 use Rattle.fx_term.specs.declared.done.Done.{Done}
@@ -106,3 +107,10 @@ cede_is_pure =
     everywhere Cede (Pure (Number 0))
     (λ place. both_lead showing place cede_leads (pure_leads 0) (record { closed = λ outer. refl; leaf_is = refl; clean = refl })
     (same_itself showing place (Finished (Val 0))))
+
+-- and each makes the steps of the other
+pub cede_steps_as_pure : (closed : Bool) (c d : Counts) (l : Label) (t : Term) → Row closed c Cede l d t ↔ Row closed c (Pure (Number 0)) l d t
+cede_steps_as_pure closed c d l t = (
+  λ r. let o = cede_leads.only closed c d l t r in rw (o.0, o.1, o.2) rule.pure,
+  λ r. let o = (pure_leads 0).only closed c d l t r in rw (o.0, o.1, o.2) rule.cede,
+)

@@ -4,7 +4,7 @@ use Rattle.fx_term.specs.declared.node.Arg.TheVariants.{Number, Slot}
 use Rattle.fx_term.specs.declared.done.Done.TheVariants.{Val}
 use Rattle.fx_term.specs.declared.outcome.Outcome.TheVariants as outcome
 use Rattle.fx_term.specs.declared.event.Event.TheVariants as event
-use Rattle.fx_term.specs.Term.{Term, Pure, Raise, Canceled, Never, Let, Handle, Mask, Poll, OnCancel, Offer, Finished, Masked}
+use Rattle.fx_term.specs.Term.{Term, Pure, Raise, Canceled, Never, Cede, Let, Handle, Mask, Poll, OnCancel, Offer, Finished, Masked}
 use Rattle.fx_model.specs.Path.{LetIn, MaskedIn, CleanupTerm, Finalizer, cleanup_terms, is_open, must_cancel}
 use Rattle.fx_model.specs.Row.{Counts, Label, Silent, Shows, Row, known_canceled, one_more_mask}
 use Rattle.fx_model.specs.Row as rule
@@ -85,6 +85,9 @@ forced_error_is_told = told_by_request (forced_after (Raise (Number 0)) with_fin
 
 pub bound_is_told : LookTheSame (Let None (Pure (Number 0)) (OnCancel Canceled (Offer 0 (Number 1)))) (OnCancel Canceled (Offer 0 (Number 1))) → ⊥
 bound_is_told = told_by_request (Let None (Pure (Number 0)) with_finalizer) refl refl refl refl
+
+pub ceded_is_told : LookTheSame (Let None Cede (OnCancel Canceled (Offer 0 (Number 1)))) (OnCancel Canceled (Offer 0 (Number 1))) → ⊥
+ceded_is_told = told_by_request (Let None Cede with_finalizer) refl refl refl refl
 
 pub polled_is_told : LookTheSame (Mask 0 (Poll (Slot 0) (OnCancel Canceled (Offer 0 (Number 1))))) (OnCancel Canceled (Offer 0 (Number 1))) → ⊥
 polled_is_told = told_by_request (Mask 0 (Poll (Slot 0) with_finalizer)) refl refl refl refl

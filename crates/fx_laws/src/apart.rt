@@ -1,7 +1,8 @@
 //! What can be told apart, so that the laws say something, and one pair that cannot.
-ghost use Rattle.std.specs.Prelude.{None, []};
+ghost use Rattle.std.specs.Prelude.{◌↔◌, Bool, None, []};
 ghost use Rattle.fx_term.specs.declared.node.Arg.TheVariants.{Number, Slot};
-ghost use Rattle.fx_term.specs.Term.{Pure, Raise, Canceled, Never, Cede, Let, Handle, Mask, Poll, OnCancel, Offer};
+ghost use Rattle.fx_term.specs.Term.{Term, Pure, Raise, Canceled, Never, Cede, Let, Handle, Mask, Poll, OnCancel, Offer};
+ghost use Rattle.fx_model.specs.Row.{Counts, Label, Row};
 ghost use Rattle.fx_model.specs.MaskLaws.{ShowTheSame, forced_after};
 ghost use Rattle.fx_laws.specs.Everywhere.{InCleanup, ShowTheSameAt, ShowTheSameEverywhere};
 ghost use Rattle.fx_laws.specs.Others.{LookTheSame};
@@ -38,14 +39,16 @@ pub fn finalizer_stands_inside_a_mask_or_outside()
 
 /// A term with a step before it is not that term: a request that is seen before the step leaves out a
 /// finalizer which, with nothing before it, always runs. So `(forcer (pure n) A)`, `(forcer (raise n) A)`,
-/// `(let _ (pure n) A)`, `(handle (raise n) _ A)` and `(mask p (poll p A))` are not `A` at the place of a
-/// whole term, not even as others see it, where `A` is `(oncancel (canceled) (offer q 1))`.
+/// `(let _ (pure n) A)`, `(seq (cede) A)`, `(handle (raise n) _ A)` and `(mask p (poll p A))` are not `A` at
+/// the place of a whole term, not even as others see it, where `A` is `(oncancel (canceled) (offer q 1))`.
 pub fn request_is_seen_before_the_first_step()
     ensures forced { LookTheSame (forced_after (Pure (Number 0)) (OnCancel Canceled (Offer 0 (Number 1))))
         (OnCancel Canceled (Offer 0 (Number 1))) → ⊥ }
     ensures forced_error { LookTheSame (forced_after (Raise (Number 0)) (OnCancel Canceled (Offer 0 (Number 1))))
         (OnCancel Canceled (Offer 0 (Number 1))) → ⊥ }
     ensures bound { LookTheSame (Let None (Pure (Number 0)) (OnCancel Canceled (Offer 0 (Number 1))))
+        (OnCancel Canceled (Offer 0 (Number 1))) → ⊥ }
+    ensures ceded { LookTheSame (Let None Cede (OnCancel Canceled (Offer 0 (Number 1))))
         (OnCancel Canceled (Offer 0 (Number 1))) → ⊥ }
     ensures polled { LookTheSame (Mask 0 (Poll (Slot 0) (OnCancel Canceled (Offer 0 (Number 1)))))
         (OnCancel Canceled (Offer 0 (Number 1))) → ⊥ }
@@ -73,7 +76,11 @@ pub fn never_is_not_canceled()
 {}
 
 /// `(cede)` cannot be told from `(pure 0)`: that a fiber gives up its turn is no event, so no report tells
-/// it. What it does is said of turns alone.
+/// it. Nor does a schedule: each step of the one is a step of the other, silent ones counted, so that they
+/// make their steps at the same picks. What it does is said of turns alone, and there the two are told apart
+/// (`fx_spawn_laws`, `ceding`).
 pub fn cede_is_pure_of_zero()
-    ensures { ShowTheSameEverywhere Cede (Pure (Number 0)) }
+    ensures same { ShowTheSameEverywhere Cede (Pure (Number 0)) }
+    ensures steps { (closed : Bool) (c d : Counts) (l : Label) (t : Term)
+        → Row closed c Cede l d t ↔ Row closed c (Pure (Number 0)) l d t }
 {}

@@ -1,14 +1,14 @@
 -- Terms that cannot be put for one another.
 use Rattle.std.proofs.Common.{◌≡◌, ℕ, Bool, None, List, [], ◌∷◌, ◌++◌, refl, sym, ◌∙◌, ap}
-use Rattle.fx_term.specs.declared.node.Arg.TheVariants.{Number}
-use Rattle.fx_term.specs.Term.{Term, Pure, Canceled, Never, Let, Mask, OnCancel, Offer}
+use Rattle.fx_term.specs.declared.node.Arg.TheVariants.{Number, Slot}
+use Rattle.fx_term.specs.Term.{Term, Pure, Canceled, Never, Cede, Let, Mask, Poll, OnCancel, Offer}
 use Rattle.fx_model.specs.Row.{Label, Silent, Shows, Learns, Starts}
 use Rattle.fx_model.specs.Run.{shown}
 use Rattle.fx_model.specs.MaskLaws.{CanShow, ShowTheSame, forced_after}
 use Rattle.fx_laws.specs.Others.{visible, OthersCanSee, LookTheSame}
 use Rattle.fx_laws.proofs.Looking.{visible_more}
 use Rattle.fx_laws.proofs.Showing.{whole_of_everywhere}
-use Rattle.fx_laws.proofs.SeenBefore.{canceled_is_told, mask_is_told, forced_is_told}
+use Rattle.fx_laws.proofs.SeenBefore.{canceled_is_told, mask_is_told, forced_is_told, ceded_is_told, polled_is_told}
 use Rattle.fx_script_laws.specs.Interchange.{AreInterchangeable}
 
 -- others see nothing of silent labels
@@ -58,3 +58,15 @@ module _ (own : ℕ → Bool) where
       let t = forced_after (Pure (Number 0)) (OnCancel Canceled (Offer 0 (Number 1))) in
       let u = OnCancel Canceled (Offer 0 (Number 1)) in
       forced_is_told (looks_the_same t u (shows_whole t u h))
+
+  pub turn_before : AreInterchangeable own (Let None Cede (OnCancel Canceled (Offer 0 (Number 1)))) (OnCancel Canceled (Offer 0 (Number 1))) → ⊥
+  turn_before h =
+      let t = Let None Cede (OnCancel Canceled (Offer 0 (Number 1))) in
+      let u = OnCancel Canceled (Offer 0 (Number 1)) in
+      ceded_is_told (looks_the_same t u (shows_whole t u h))
+
+  pub mask_before : AreInterchangeable own (Mask 0 (Poll (Slot 0) (OnCancel Canceled (Offer 0 (Number 1))))) (OnCancel Canceled (Offer 0 (Number 1))) → ⊥
+  mask_before h =
+      let t = Mask 0 (Poll (Slot 0) (OnCancel Canceled (Offer 0 (Number 1)))) in
+      let u = OnCancel Canceled (Offer 0 (Number 1)) in
+      polled_is_told (looks_the_same t u (shows_whole t u h))

@@ -1,7 +1,7 @@
 //! Terms that cannot be put for one another, so that the laws say something.
 ghost use Rattle.std.specs.Prelude.{ℕ, Bool, None};
-ghost use Rattle.fx_term.specs.declared.node.Arg.TheVariants.{Number};
-ghost use Rattle.fx_term.specs.Term.{Pure, Canceled, Never, Let, Mask, OnCancel, Offer};
+ghost use Rattle.fx_term.specs.declared.node.Arg.TheVariants.{Number, Slot};
+ghost use Rattle.fx_term.specs.Term.{Pure, Canceled, Never, Cede, Let, Mask, Poll, OnCancel, Offer};
 ghost use Rattle.fx_model.specs.MaskLaws.{forced_after};
 ghost use Rattle.fx_script_laws.specs.Interchange.{AreInterchangeable};
 
@@ -17,9 +17,16 @@ pub fn mask_is_not_put_for_its_inside()
 {}
 
 /// Not `(forcer (pure 0) A)` for `A`, where that is `(oncancel (canceled) (offer q 1))`: a request can be
-/// seen between the two.
+/// seen between the two. For the same reason neither `(seq (cede) A)` nor `(mask p (poll p A))`: so
+/// `uncancelablePollIsIdentity` does not hold in every script.
 pub fn step_is_not_put_before_a_term()
-    ensures { (own : ℕ → Bool)
+    ensures forced { (own : ℕ → Bool)
         → AreInterchangeable own (forced_after (Pure (Number 0)) (OnCancel Canceled (Offer 0 (Number 1))))
+        (OnCancel Canceled (Offer 0 (Number 1))) → ⊥ }
+    ensures ceded { (own : ℕ → Bool)
+        → AreInterchangeable own (Let None Cede (OnCancel Canceled (Offer 0 (Number 1))))
+        (OnCancel Canceled (Offer 0 (Number 1))) → ⊥ }
+    ensures polled { (own : ℕ → Bool)
+        → AreInterchangeable own (Mask 0 (Poll (Slot 0) (OnCancel Canceled (Offer 0 (Number 1)))))
         (OnCancel Canceled (Offer 0 (Number 1))) → ⊥ }
 {}
