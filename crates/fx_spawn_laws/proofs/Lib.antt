@@ -8,3 +8,4 @@ pub mod StartAndJoin
 pub mod JoinLaws
 pub mod CancelLaws
 pub mod RaceLaws
+pub mod GivingWay
