@@ -5,7 +5,7 @@ use Rattle.fx_term.specs.Term.{Pure, Cede}
 use Rattle.fx_model.specs.Row.{Silent}
 use Rattle.fx_model.specs.Step.{leaf_at}
 use Rattle.fx_fiber.specs.Fiber.{FiberView, progress}
-use Rattle.fx_fiber.specs.MakesStep.{MakesStep, Answers}
+use Rattle.fx_fiber.specs.MakesStep.{MakesStep}
 use Rattle.fx_fiber.specs.Theory.{Theory}
 use Rattle.fx_fiber.specs.declared.stepped.Stepped.{Stepped}
 use Rattle.fx_fiber.specs.declared.stepped.Stepped.TheVariants.{Went, Gave}

@@ -9,3 +9,9 @@ pub mod JoinLaws
 pub mod CancelLaws
 pub mod RaceLaws
 pub mod GivingWay
+pub mod RaceRuns
+pub mod UnseenRequests
+pub mod IgnoredNumbers
+pub mod RaceFacts
+pub mod RaceIdentities
+pub mod RaceSides

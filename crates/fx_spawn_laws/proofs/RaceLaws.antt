@@ -32,7 +32,7 @@ use Rattle.fx_spawn_laws.proofs.Outcomes.{ComesTo, NextIs, can_by_leaf, after_st
 use Rattle.fx_spawn_laws.proofs.StartedFibers.{main_is_blocked, main_runs, child_in_report, child_begins, canceled_child_ends, shown_at, told_by_labels}
 
 -- what a fiber that began at `never` can come to: it goes on waiting, or ends as canceled
-abbrev IsNeverOn : Progress → Type 0
+abbrev pub IsNeverOn : Progress → Type 0
 IsNeverOn (Runs Never) = Unit {0}
 IsNeverOn (Unwinds []) = Unit {0}
 IsNeverOn (HasEnded outcome.Canceled) = Unit {0}
@@ -62,21 +62,21 @@ never_step (step.row free r) on = never_row r on
 never_step step.unwound on = tt
 never_step _ on = absurd on
 
-never_on : (c d : Counts) (p q : Progress) (ls : List Label) → Leads c p ls d q → IsNeverOn p → IsNeverOn q
+pub never_on : (c d : Counts) (p q : Progress) (ls : List Label) → Leads c p ls d q → IsNeverOn p → IsNeverOn q
 never_on c d p q [] h on = rw h.1 on
 never_on c d p q (l ∷ ls) h on = never_on h.0 d h.1 q ls h.3 (never_step h.2 on)
 
-none_or_canceled : (p : Progress) → IsNeverOn p → (outcome_at p ≡ None) ⊎ (outcome_at p ≡ Some outcome.Canceled)
+pub none_or_canceled : (p : Progress) → IsNeverOn p → (outcome_at p ≡ None) ⊎ (outcome_at p ≡ Some outcome.Canceled)
 none_or_canceled (Runs Never) on = inl refl
 none_or_canceled (Unwinds []) on = inl refl
 none_or_canceled (HasEnded outcome.Canceled) on = inr refl
 none_or_canceled _ on = absurd on
 
 -- a row of a wait for the first of two learns of one of them
-abbrev LearnsOne : ℕ → ℕ → Label → Type 0
+abbrev pub LearnsOne : ℕ → ℕ → Label → Type 0
 LearnsOne g h l = (o : Outcome) × ((l ≡ Learns g o (event.First 0)) ⊎ (l ≡ Learns h o (event.First 1)))
 
-first_row : {k : Bool} {c d : Counts} {l : Label} {t u : Term} (g h : ℕ) → Row k c t l d u → leaf t ≡ First (Number g) (Number h) → LearnsOne g h l
+pub first_row : {k : Bool} {c d : Counts} {l : Label} {t u : Term} (g h : ℕ) → Row k c t l d u → leaf t ≡ First (Number g) (Number h) → LearnsOne g h l
 first_row g h (row.first_left {f = f} {g = f'} {o = o}) e = (o, inl (let same : f ≡ g = cc in rw same refl))
 first_row g h (row.first_right {f = f} {g = f'} {o = o}) e = (o, inr (let same : f' ≡ h = cc in rw same refl))
 first_row g h (row.inside f {a = a} e j r) is = first_row g h r (sym (leaf_plug f a) ∙ sym (ap leaf e) ∙ is)

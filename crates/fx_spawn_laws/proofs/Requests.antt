@@ -135,7 +135,7 @@ other_is_given is_given f g has lacks = by_test (f == g) refl
     by_test true e = absurd (let same = eqb-true f g e in let both : is_given g ≡ true = subst (λ (n : ℕ). is_given n ≡ true) same has in cc)
     by_test false e = refl
 
-given_asks_none : (is_given : ℕ → Bool) (g : ℕ) → is_given g ≡ false → (l : Label) → IsProper l → RequestsGiven is_given l → AsksNone g l
+pub given_asks_none : (is_given : ℕ → Bool) (g : ℕ) → is_given g ≡ false → (l : Label) → IsProper l → RequestsGiven is_given l → AsksNone g l
 given_asks_none is_given g lacks (Shows (event.Request f)) proper h = ap (λ (b : Bool). b || false) (other_is_given is_given f g h lacks)
 given_asks_none is_given g lacks (Learns f o (event.Request k)) proper h = absurd proper
 given_asks_none is_given g lacks (Shows e) proper h = refl
@@ -143,7 +143,7 @@ given_asks_none is_given g lacks (Learns f o e) proper h = refl
 given_asks_none is_given g lacks Silent proper h = refl
 given_asks_none is_given g lacks (Starts f b) proper h = refl
 
-leads_proper : (c d : Counts) (p q : Progress) (ls : List Label) → Leads c p ls d q → All IsProper ls
+pub leads_proper : (c d : Counts) (p q : Progress) (ls : List Label) → Leads c p ls d q → All IsProper ls
 leads_proper c d p q [] r = All-nil IsProper
 leads_proper c d p q (l ∷ ls) r = All-cons IsProper l ls (step_tells r.2).proper (leads_proper r.0 d r.1 q ls r.3)
 
@@ -153,7 +153,7 @@ all_both {P = P} {Q = Q} {R = R} both (l ∷ ls) ps qs =
     All-cons R l ls (both l (All-head P l ls ps) (All-head Q l ls qs)) (all_both {P = P} {Q = Q} {R = R} both ls (All-tail P l ls ps) (All-tail Q l ls qs))
 
 -- the events of labels none of which asks for fiber g
-trace_asks_none : (g : ℕ) (ls : List Label) → All (AsksNone g) ls → list_any (is_request_for g) (events ls) ≡ false
+pub trace_asks_none : (g : ℕ) (ls : List Label) → All (AsksNone g) ls → list_any (is_request_for g) (events ls) ≡ false
 trace_asks_none g [] all = refl
 trace_asks_none g (l ∷ ls) all =
     ap (list_any (is_request_for g)) (events_append (l ∷ []) ls)
@@ -165,7 +165,7 @@ trace_asks_none g (l ∷ ls) all =
 abbrev pub BeginsAbove : ℕ → Origin → Type 0
 BeginsAbove n b = IsScopedOver (nat_lt n) b.term × (n < b.next)
 
-starts_above : (n : ℕ) (b : Origin) (ls : List Label) (c : Counts) (p : Progress) → BeginsAbove n b → IsRun b ls c p → All (StartsSo (BeginsAbove n)) ls
+pub starts_above : (n : ℕ) (b : Origin) (ls : List Label) (c : Counts) (p : Progress) → BeginsAbove n b → IsRun b ls c p → All (StartsSo (BeginsAbove n)) ls
 starts_above n b ls c p so run =
     all_both {P = StartsScopedOver (nat_lt n)} {Q = IsStartRight b.next} {R = StartsSo (BeginsAbove n)} both ls
     (run_starts_scoped (nat_lt n) b ls c p so.0 (λ f low high. lt-ltb n f (let some = so.1 in omega arith)) run) (run_starts b ls c p run)
@@ -175,20 +175,25 @@ starts_above n b ls c p so run =
     both _ h right = tt
 
 -- a fiber that began so does not ask for that number
-asks_above : (n : ℕ) (b : Origin) (ls : List Label) (c : Counts) (p : Progress) → BeginsAbove n b → IsRun b ls c p → All (AsksNone n) ls
+pub asks_above : (n : ℕ) (b : Origin) (ls : List Label) (c : Counts) (p : Progress) → BeginsAbove n b → IsRun b ls c p → All (AsksNone n) ls
 asks_above n b ls c p so run =
     all_both {P = IsProper} {Q = RequestsGiven (nat_lt n)} {R = AsksNone n} (given_asks_none (nat_lt n) n (le-ltb n n (le_refl n))) ls
     (leads_proper _ _ _ _ ls run) (run_requests_given (nat_lt n) b ls c p so.0 (λ g low high. lt-ltb n g (let some = so.1 in omega arith)) run)
 
 module _ (s : ScriptView) (may : ℕ → Bool) (r : ReportView) (lawful : IsLawfulReport s may r) (alone : r.outside ≡ []) where
   -- a fiber that no trace asks for is not requested
-  pub unrequested : (g : ℕ) → ((f : ℕ) (x : FiberReportView) → fiber_in r f ≡ Some x → All (AsksNone g) (lawful.runs.labels f)) → is_requested_in r g ≡ false
-  unrequested g none =
+  pub unrequested_by_traces : (g : ℕ)
+      → ((f : ℕ) (x : FiberReportView) → fiber_in r f ≡ Some x → list_any (is_request_for g) (events (lawful.runs.labels f)) ≡ false)
+      → is_requested_in r g ≡ false
+  unrequested_by_traces g none =
       ap (λ (ns : List ℕ). list_any (λ (x : FiberReportView). list_any (is_request_for g) x.trace) r.fibers || list_any (λ (n : ℕ). n == g) ns) alone
       ∙ ap (λ (b : Bool). b || false)
       (list_any_none (λ (x : FiberReportView). list_any (is_request_for g) x.trace) r.fibers
       (all_found (λ (x : FiberReportView). x.id) (λ (x : FiberReportView). list_any (is_request_for g) x.trace ≡ false) r.fibers lawful.starters.ascending
-      (λ f x at. sym (ap (list_any (is_request_for g)) (lawful.runs.run f x at).trace) ∙ trace_asks_none g (lawful.runs.labels f) (none f x at))))
+      (λ f x at. sym (ap (list_any (is_request_for g)) (lawful.runs.run f x at).trace) ∙ none f x at)))
+
+  pub unrequested : (g : ℕ) → ((f : ℕ) (x : FiberReportView) → fiber_in r f ≡ Some x → All (AsksNone g) (lawful.runs.labels f)) → is_requested_in r g ≡ false
+  unrequested g none = unrequested_by_traces g (λ f x at. trace_asks_none g (lawful.runs.labels f) (none f x at))
 
   -- nobody requests the main fiber
   pub main_is_unrequested : IsScopedOver (nat_lt 0) s.term → is_requested_in r 0 ≡ false

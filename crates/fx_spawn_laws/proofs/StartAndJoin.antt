@@ -28,7 +28,7 @@ use Rattle.fx_spawn_laws.proofs.HaltingRuns.{GoesTo, goes_to, runs_to_halt}
 use Rattle.fx_spawn_laws.proofs.Outcomes.{ComesTo, can_by_leaf, after_step, where_it_waits, pure_comes, raise_comes}
 use Rattle.fx_spawn_laws.proofs.StartedFibers.{main_ends, main_is_blocked, child_in_report, child_begins, main_runs, tells, told_by_labels, shown_at}
 
-none_where_not_ended : (p : Progress) → has_ended p ≡ false → outcome_at p ≡ None
+pub none_where_not_ended : (p : Progress) → has_ended p ≡ false → outcome_at p ≡ None
 none_where_not_ended (HasEnded o) e = absurd cc
 none_where_not_ended _ e = refl
 

@@ -1,1 +1,2 @@
 pub mod MainFiber
+pub mod Races

@@ -1,5 +1,4 @@
 //! What a fiber does that gives way. A function here does nothing: its contract is the law.
-use fx_fiber::Port;
 ghost use Rattle.std.specs.Prelude.{◌≡◌, Some};
 ghost use Rattle.fx_term.specs.declared.node.Arg.TheVariants.{Number};
 ghost use Rattle.fx_term.specs.Term.{Pure, Cede};
@@ -9,6 +8,8 @@ ghost use Rattle.fx_fiber.specs.Fiber.{FiberView, progress};
 ghost use Rattle.fx_fiber.specs.MakesStep.{MakesStep};
 ghost use Rattle.fx_fiber.specs.declared.stepped.Stepped.{Stepped};
 ghost use Rattle.fx_fiber.specs.declared.stepped.Stepped.TheVariants.{Went, Gave};
+
+use fx_fiber::Port;
 
 /// Neither a report nor a schedule tells `(cede)` from `(pure 0)`, since each makes the step of the other
 /// (`fx_laws`, `cede_is_pure_of_zero`); but its turn does. The step of a `cede` gives way, which ends the
