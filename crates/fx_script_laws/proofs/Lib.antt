@@ -16,3 +16,5 @@ pub mod EndsInScripts
 pub mod ExampleScripts
 pub mod OwnNames
 pub mod KeptApart
+pub mod PutOrder
+pub mod StepsBefore

@@ -1,4 +1,4 @@
--- A number for a name leaves it as it is how many fiber numbers a term uses.
+-- A number for a name leaves it as it is how many fiber numbers a term uses. (fx_model has this lemma for itself, and shares it with nobody.)
 use Rattle.std.proofs.Common.{◌≡◌, ℕ, refl}
 use Rattle.fx_term.specs.Term.{Term, Let, Handle, If, For, Mask, Poll, OnCancel, Bracket, BracketCase, Start, Join, TryTake, Masked, Opened, InUse}
 use Rattle.fx_term.specs.Term.{InUseCase, InRelease, Loop, put}
