@@ -8,6 +8,8 @@ use Rattle.fx_model.specs.MaskLaws.{CanShow, ShowTheSame, forced_after}
 use Rattle.fx_laws.specs.Others.{visible, OthersCanSee, LookTheSame}
 use Rattle.fx_laws.proofs.Looking.{visible_more}
 use Rattle.fx_laws.proofs.Showing.{whole_of_everywhere}
+use Rattle.fx_laws.proofs.ToldApart.{closed_place_goes_on}
+use Rattle.fx_laws.proofs.Boundary.{boundary_is_seen}
 use Rattle.fx_laws.proofs.SeenBefore.{canceled_is_told, mask_is_told, forced_is_told, ceded_is_told, polled_is_told}
 use Rattle.fx_script_laws.specs.Interchange.{AreInterchangeable}
 
@@ -70,3 +72,13 @@ module _ (own : ℕ → Bool) where
       let t = Mask 0 (Poll (Slot 0) (OnCancel Canceled (Offer 0 (Number 1)))) in
       let u = OnCancel Canceled (Offer 0 (Number 1)) in
       polled_is_told (looks_the_same t u (shows_whole t u h))
+
+  pub canceled_goes_on : AreInterchangeable own (Let None Canceled (Offer 0 (Number 1))) Canceled → ⊥
+  canceled_goes_on h = closed_place_goes_on (h.shows.shows [] tt)
+
+  pub mask_and_finalizer : AreInterchangeable own (Mask 0 (OnCancel (Pure (Number 1)) (Offer 0 (Number 1)))) (OnCancel (Mask 0 (Pure (Number 1)))
+      (Offer 0 (Number 1))) → ⊥
+  mask_and_finalizer h =
+      let t = Mask 0 (OnCancel (Pure (Number 1)) (Offer 0 (Number 1))) in
+      let u = OnCancel (Mask 0 (Pure (Number 1))) (Offer 0 (Number 1)) in
+      boundary_is_seen (looks_the_same t u (shows_whole t u h))

@@ -30,3 +30,14 @@ pub fn step_is_not_put_before_a_term()
         → AreInterchangeable own (Mask 0 (Poll (Slot 0) (OnCancel Canceled (Offer 0 (Number 1)))))
         (OnCancel Canceled (Offer 0 (Number 1))) → ⊥ }
 {}
+
+/// Not `(seq (canceled) A)` for `(canceled)`, which are the same at open places alone, nor `(mask p (oncancel A
+/// F))` for `(oncancel (mask p A) F)`: a request that is seen before the mask runs the finalizer of the latter
+/// alone.
+pub fn what_is_told_at_some_places_is_not_put()
+    ensures canceled { (own : ℕ → Bool)
+        → AreInterchangeable own (Let None Canceled (Offer 0 (Number 1))) Canceled → ⊥ }
+    ensures boundary { (own : ℕ → Bool)
+        → AreInterchangeable own (Mask 0 (OnCancel (Pure (Number 1)) (Offer 0 (Number 1))))
+        (OnCancel (Mask 0 (Pure (Number 1))) (Offer 0 (Number 1))) → ⊥ }
+{}

@@ -15,3 +15,4 @@ pub mod IgnoredNumbers
 pub mod RaceFacts
 pub mod RaceIdentities
 pub mod RaceSides
+pub mod CanceledFibers

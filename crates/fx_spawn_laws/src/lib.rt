@@ -9,7 +9,7 @@
 //! | laws of | what they say |
 //! |---|---|
 //! | [`joining`] | a fiber that is joined is told as it ended, and one that waits for good is never told |
-//! | [`canceling`] | a fiber that is canceled ends, whatever masks its starter has, and one that is not holds nobody up |
+//! | [`canceling`] | a fiber that is canceled ends, whatever masks its starter has, and one that is not holds nobody up; who cancels waits for the end |
 //! | [`racing`] | a race of which one side never wins comes to what the other side comes to, and one that nobody wins waits inside a mask |
 //! | [`ceding`] | `cede` ends a turn, and nothing else tells it from `(pure 0)` |
 #![tactic(auto)]

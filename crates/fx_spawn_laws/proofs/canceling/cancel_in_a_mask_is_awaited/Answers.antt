@@ -1,0 +1,5 @@
+use Rattle.fx_spawn_laws.proofs.CanceledFibers.{canceled_in_mask_ends}
+use Rattle.fx_spawn_laws.proofs.canceling.cancel_in_a_mask_is_awaited.Goals as goal
+
+pub returns : goal.returns
+returns c s may r t is given lawful alone = canceled_in_mask_ends s may r lawful alone given t is
