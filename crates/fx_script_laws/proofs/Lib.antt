@@ -18,3 +18,6 @@ pub mod OwnNames
 pub mod KeptApart
 pub mod PutOrder
 pub mod StepsBefore
+pub mod BesideEnds
+pub mod MainReplaced
+pub mod MaskedMains

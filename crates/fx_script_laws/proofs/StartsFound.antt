@@ -30,7 +30,7 @@ find_shown f (Shows e ∷ ls) = find_shown f ls
 find_shown f (Learns g o e ∷ ls) = find_shown f ls
 find_shown f (Starts g b ∷ ls) = ap (λ (o : Option Origin). if g == f then Some b else o) (find_shown f ls)
 
-events_shown : (ls : List Label) → events (shown ls) ≡ events ls
+pub events_shown : (ls : List Label) → events (shown ls) ≡ events ls
 events_shown [] = refl
 events_shown (Silent ∷ ls) = events_shown ls
 events_shown (Shows e ∷ ls) = ap (λ (es : List Event). e ∷ es) (events_shown ls)
@@ -46,7 +46,7 @@ module _ (P : Label → Type 0) where
       All-cons P (Learns g o e) (shown ls) (All-head P (Learns g o e) ls h) (all_shown ls (All-tail P (Learns g o e) ls h))
   all_shown (Starts g b ∷ ls) h = All-cons P (Starts g b) (shown ls) (All-head P (Starts g b) ls h) (all_shown ls (All-tail P (Starts g b) ls h))
 
-  all_of_shown : P Silent → (ls : List Label) → All P (shown ls) → All P ls
+  pub all_of_shown : P Silent → (ls : List Label) → All P (shown ls) → All P ls
   all_of_shown s [] h = All-nil P
   all_of_shown s (Silent ∷ ls) h = All-cons P Silent ls s (all_of_shown s ls h)
   all_of_shown s (Shows e ∷ ls) h = All-cons P (Shows e) ls (All-head P (Shows e) (shown ls) h) (all_of_shown s ls (All-tail P (Shows e) (shown ls) h))

@@ -16,10 +16,12 @@
 //! | [`contexts`] | a fiber with the one whole term shows what one with the other does, and waits where that does |
 //! | [`scripts`] | two scripts that differ at such places have the same lawful reports |
 //! | [`laws`] | which terms can be put for one another |
+//! | [`masks`] | which masks, as a whole script, have the same reports |
 //! | [`refused`] | which cannot |
 #![tactic(auto)]
 
 pub mod contexts;
 pub mod laws;
+pub mod masks;
 pub mod refused;
 pub mod scripts;

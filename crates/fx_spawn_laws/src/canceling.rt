@@ -63,7 +63,8 @@ pub fn started_fiber_holds_nobody_up()
     ensures { (s : ScriptView) (may : ℕ → Bool) (r : ReportView) (t : Term) (n : ℕ)
         → s.term ≡ Start 0 t (Pure (Number n))
         → ((is_given : ℕ → Bool) → IsScopedOver is_given s.term)
-        → IsLawfulReport s may r → r.outside ≡ [] → MainEnds r (Succeeded n) }
+        → IsLawfulReport s may r → r.outside ≡ []
+        → MainEnds r (Succeeded n) }
 {}
 
 /// Whatever it is that is started inside a mask, `cancel` waits there for its end: `(mask p (start h A (cancel
