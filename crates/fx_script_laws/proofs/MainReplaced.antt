@@ -1,5 +1,6 @@
 -- A report stays lawful where the main fiber has another term and a run of its own with the same labels.
 use Rattle.std.proofs.Common.{◌≡◌, ℕ, zero, suc, ◌+◌, ◌<◌, ◌≤◌, Bool, false, Some, List, [], ◌∷◌, All, refl, sym, ◌∙◌, ap, subst, arith}
+use Rattle.std.specs.Prelude.{◌↔◌, slice_get}
 use Rattle.std.proofs.lemmas.List.Elements.{All-nil, All-cons, All-head, All-tail}
 use Rattle.fx_term.specs.Need.{need}
 use Rattle.fx_term.specs.Term.{Term}
@@ -9,8 +10,10 @@ use Rattle.fx_model.specs.Row.{Label, Silent, Shows, Learns, Starts}
 use Rattle.fx_model.specs.Origin.{Origin, main_origin}
 use Rattle.fx_model.specs.Step.{Runs, has_ended}
 use Rattle.fx_model.specs.Run.{first_counts, IsUnrequested, shown, events}
-use Rattle.fx_model.specs.Report.{FiberReportView, ReportView, fiber_in, is_requested_in, final_outside}
+use Rattle.fx_model.specs.Report.{FiberReportView, ReportView, fiber_in, trace_in, is_requested_in, final_outside}
 use Rattle.fx_model.specs.LawfulReport.{HasRun, HasRuns, BeginsAs, IsLearnt, IsSeenRightly, IsLawfulReport}
+use Rattle.fx_model.specs.Causes.{Needs, taken_element, end_of_other, start, LeavesQueue, CausesComeFirst, IsLawfulInOneOrder}
+use Rattle.fx_model.specs.Happenings.{IsLawfulInOneList}
 use Rattle.fx_model.proofs.StartLaws.{IsStartRight, run_starts}
 use Rattle.fx_model.proofs.HeadlineLaws.{numbers_above}
 use Rattle.fx_script_laws.specs.Interchange.{StopsThere, CanComeTo}
@@ -56,11 +59,11 @@ module _ (s : ScriptView) (other : Term) (may : ℕ → Bool) (r : ReportView) (
       (begins_as_new low some ls (All-tail (BeginsAs lawful.runs.origin) l ls h) (All-tail (IsStartRight low) l ls right))
     where
       one : (l : Label) → BeginsAs lawful.runs.origin l → IsStartRight low l → BeginsAs new_origin l
-      one (Starts zero b) e start = absurd (let h = start.least in omega arith)
-      one (Starts (suc g) b) e start = e
-      one Silent e start = tt
-      one (Shows v) e start = tt
-      one (Learns g o v) e start = tt
+      one (Starts zero b) e right = absurd (let h = right.least in omega arith)
+      one (Starts (suc g) b) e right = e
+      one Silent e right = tt
+      one (Shows v) e right = tt
+      one (Learns g o v) e right = tt
 
   new_run : (f : ℕ) (x : FiberReportView) → fiber_in r f ≡ Some x
       → HasRun s' r f x (new_origin f) (new_labels f) (first_as k.counts lawful.runs.counts f) (first_as k.progress lawful.runs.progress f)
@@ -103,7 +106,7 @@ module _ (s : ScriptView) (other : Term) (may : ℕ → Bool) (r : ReportView) (
   new_seen zero x at = moved (IsSeenRightly r 0) tt (lawful.seen 0 x at)
   new_seen (suc f) x at = lawful.seen (suc f) x at
 
-  pub main_replaced : IsLawfulReport s' may r
+  abbrev main_replaced : IsLawfulReport s' may r
   main_replaced =
       record {
         starters = lawful.starters;
@@ -116,3 +119,76 @@ module _ (s : ScriptView) (other : Term) (may : ℕ → Bool) (r : ReportView) (
         outside_ascending = lawful.outside_ascending;
         outside_named = λ f h. let n = lawful.outside_named f h in (subst (λ (m : ℕ). f < 1 + m) needs n.0, n.1);
       }
+
+  -- the labels that are shown are the same, so that causes still come first
+  same_shown : (f : ℕ) → shown (new_labels f) ≡ shown (lawful.runs.labels f)
+  same_shown zero = k.shown_is
+  same_shown (suc f) = refl
+
+  needs_kept : (f i g j : ℕ) → Needs (trace_in r) new_labels (LeavesQueue s may r lawful) f i g j
+      → Needs (trace_in r) lawful.runs.labels (LeavesQueue s may r lawful) f i g j
+  needs_kept f i g j (taken_element t) = taken_element t
+  needs_kept f i g j (end_of_other t) =
+      end_of_other (record {
+        outcome = t.outcome;
+        learning = t.learning;
+        learns = ap (λ (ls : List Label). slice_get ls i) (sym (same_shown f)) ∙ t.learns;
+        tells = t.tells;
+        ended = t.ended;
+      })
+  needs_kept f i g j (start e h) = start e h
+
+  abbrev causes_replaced : CausesComeFirst s may r lawful → CausesComeFirst s' may r main_replaced
+  causes_replaced c =
+      record {
+        moment = c.moment;
+        in_order = record {
+          distinct = c.in_order.distinct;
+          keeps = c.in_order.keeps;
+          needed = λ f i g j h e n. c.in_order.needed f i g j h e (needs_kept f i g j n);
+          requested = c.in_order.requested;
+        };
+      }
+
+-- two scripts have the same reports, lawful as they are, in one order and in one list
+pub record HaveSameReports (s z : ScriptView) (may : ℕ → Bool) (r : ReportView) : Type 0 where
+  pub reports : IsLawfulReport s may r ↔ IsLawfulReport z may r
+  pub orders : IsLawfulInOneOrder s may r ↔ IsLawfulInOneOrder z may r
+  pub lists : IsLawfulInOneList s may r ↔ IsLawfulInOneList z may r
+
+-- by each main run the other main fiber has one that shows the same and comes to the same end
+abbrev pub MainsCome : Term → Term → List ℕ → (ℕ → Bool) → ReportView → Type 0
+MainsCome t u capacities may r =
+    (lawful : IsLawfulReport (record { term = t; capacities = capacities }) may r)
+    → CanComeTo (StopsThere (final_outside (record { term = t; capacities = capacities }) r) 0 (has_ended (lawful.runs.progress 0)))
+    (first_counts (main_origin u)) (Runs u) (shown (lawful.runs.labels 0))
+
+module _ (t u : Term) (capacities : List ℕ) (may : ℕ → Bool) (r : ReportView) (needs : need t ≡ need u) (comes : MainsCome t u capacities may r) where
+  abbrev one : ScriptView
+  one = record { term = t; capacities = capacities }
+
+  abbrev two : ScriptView
+  two = record { term = u; capacities = capacities }
+
+  report_moved : IsLawfulReport one may r → IsLawfulReport two may r
+  report_moved lawful = main_replaced one u may r lawful needs (comes lawful)
+
+  abbrev order_moved : IsLawfulInOneOrder one may r → IsLawfulInOneOrder two may r
+  order_moved h =
+      record {
+        lawful = main_replaced one u may r h.lawful needs (comes h.lawful);
+        causes = causes_replaced one u may r h.lawful needs (comes h.lawful) h.causes;
+      }
+
+  list_moved : IsLawfulInOneList one may r → IsLawfulInOneList two may r
+  list_moved h = record { in_order = order_moved h.in_order; list = h.list; listed = h.listed }
+
+pub have_same : (t u : Term) (capacities : List ℕ) (may : ℕ → Bool) (r : ReportView) → need t ≡ need u → MainsCome t u capacities may r
+    → MainsCome u t capacities may r
+    → HaveSameReports (record { term = t; capacities = capacities }) (record { term = u; capacities = capacities }) may r
+have_same t u capacities may r needs to from =
+    record {
+      reports = (report_moved t u capacities may r needs to, report_moved u t capacities may r (sym needs) from);
+      orders = (order_moved t u capacities may r needs to, order_moved u t capacities may r (sym needs) from);
+      lists = (list_moved t u capacities may r needs to, list_moved u t capacities may r (sym needs) from);
+    }

@@ -1,6 +1,5 @@
 -- A main fiber whose whole term is a mask: with a poll that opens it at once, in another mask, or with two polls in the inverse order.
 use Rattle.std.proofs.Common.{◌≡◌, ◌≢◌, ℕ, suc, ◌+◌, ◌≤◌, Bool, false, Option, List, [], ◌∷◌, ◌++◌, All, refl, sym, ◌∙◌, ap, subst, arith}
-use Rattle.std.specs.Prelude.{◌↔◌}
 use Rattle.std.proofs.lemmas.Bool.{ne_eqb}
 use Rattle.std.proofs.lemmas.List.Elements.{All-head}
 use Rattle.fx_mask.specs.Closing.{Closing, Region, without_region}
@@ -9,7 +8,6 @@ use Rattle.fx_term.specs.declared.name_kind.NameKind.TheVariants as kind
 use Rattle.fx_term.specs.declared.node.Arg.TheVariants.{Slot}
 use Rattle.fx_term.specs.Need.{need}
 use Rattle.fx_term.specs.Scope.{with_name, IsScoped}
-use Rattle.fx_term.specs.Script.{ScriptView}
 use Rattle.fx_term.specs.Term.{Term, Mask, Poll, OnCancel, Masked, Opened, put}
 use Rattle.fx_term.proofs.NameUses.{put_other_poll, name_is}
 use Rattle.fx_model.specs.Row.{Counts, Label, Silent}
@@ -21,7 +19,6 @@ use Rattle.fx_model.specs.Run.{Leads, IsRun, IsUnrequested, shown}
 use Rattle.fx_model.specs.Outside.{Outside, can_step}
 use Rattle.fx_model.specs.MaskLaws.{IsPlain, IsScopedWithout}
 use Rattle.fx_model.specs.Report.{ReportView, is_requested_in, final_outside}
-use Rattle.fx_model.specs.LawfulReport.{IsLawfulReport}
 use Rattle.fx_model.proofs.Alike.{next_regions, Alike, plain_alike}
 use Rattle.fx_model.proofs.AlikePlaces.{AreMatching, AreInside}
 use Rattle.fx_model.proofs.MaskEntering.{counts_at, MaskLeadsInto, enters_mask, enters_own_poll, enters_finalizer, enters_two, enters_inverse}
@@ -31,7 +28,7 @@ use Rattle.fx_model.proofs.ShownRuns.{leads_append, Reaches, stays, steps, and_t
 use Rattle.fx_model.proofs.Wrapped.{Wrap, Closes, Opens, Cleans, wrapped}
 use Rattle.fx_script_laws.specs.Interchange.{StopsThere, CanComeTo}
 use Rattle.fx_script_laws.proofs.BesideEnds.{shown_append, not_stopped, come_along}
-use Rattle.fx_script_laws.proofs.MainReplaced.{unseen_all, main_replaced}
+use Rattle.fx_script_laws.proofs.MainReplaced.{unseen_all, HaveSameReports, MainsCome, have_same}
 
 abbrev own_poll : List Wrap
 own_poll = Opens 0 ∷ Closes 0 ∷ []
@@ -69,9 +66,6 @@ two_sides =
       clean = λ h. (tt, tt);
     }
 
-one_side : AreMatching 1 2 (Closes 0 ∷ []) (Closes 1 ∷ Closes 0 ∷ [])
-one_side = turned two_sides
-
 inverse_sides : AreMatching 2 1 (Opens 1 ∷ Opens 0 ∷ Closes 1 ∷ Closes 0 ∷ []) (Closes 0 ∷ [])
 inverse_sides =
     record {
@@ -82,9 +76,6 @@ inverse_sides =
       shut' = tt;
       clean = λ h. (tt, tt);
     }
-
-inverse_turned : AreMatching 1 2 (Closes 0 ∷ []) (Opens 1 ∷ Opens 0 ∷ Closes 1 ∷ Closes 0 ∷ [])
-inverse_turned = turned inverse_sides
 
 module _ (o : Outside) (next end : ℕ) where
   abbrev Comes : Term → Progress → List Label → Type 0
@@ -148,34 +139,27 @@ module _ (scope : ℕ → Option NameKind) (p : ℕ) (t : Term) (plain : IsPlain
         (come_along 0 1 o 0 (counts_at 0 next end) (counts_at 1 next end) d (Runs t) (Runs (Masked 0 (Opened 0 t))) q ls beside h unable)
 
   module _ (capacities : List ℕ) (may : ℕ → Bool) (r : ReportView) (quiet : is_requested_in r 0 ≡ false) where
-    abbrev with_mask : ScriptView
-    with_mask = record { term = masked; capacities = capacities }
-
-    abbrev without_mask : ScriptView
-    without_mask = record { term = t; capacities = capacities }
-
-    to_plain : IsLawfulReport with_mask may r → IsLawfulReport without_mask may r
+    to_plain : MainsCome masked t capacities may r
     to_plain lawful =
         let main = lawful.starters.main in
         let h = lawful.runs.run 0 main.0 main.1 in
         let run : IsRun (main_origin masked) (lawful.runs.labels 0) (lawful.runs.counts 0) (lawful.runs.progress 0) =
         subst (λ (b : Origin). IsRun b (lawful.runs.labels 0) (lawful.runs.counts 0) (lawful.runs.progress 0)) lawful.origins.main h.run in
-        main_replaced with_mask t may r lawful refl
-        (mask_comes (final_outside with_mask r) 1 (1 + need t) 1 0 p own_poll [] (Poll (Slot p) t) t t in_mask (alike_itself 1 0) into stays
-        (lawful.runs.labels 0) (lawful.runs.counts 0) (lawful.runs.progress 0) run
-        (unseen_all r 0 quiet (lawful.runs.labels 0) (lawful.seen 0 main.0 main.1)) h.unable)
+        mask_comes (final_outside (record { term = masked; capacities = capacities }) r) 1 (1 + need t) 1 0 p own_poll [] (Poll (Slot p) t) t t in_mask
+        (alike_itself 1 0) into stays (lawful.runs.labels 0) (lawful.runs.counts 0) (lawful.runs.progress 0) run
+        (unseen_all r 0 quiet (lawful.runs.labels 0) (lawful.seen 0 main.0 main.1)) h.unable
 
-    to_masked : IsLawfulReport without_mask may r → IsLawfulReport with_mask may r
+    to_masked : MainsCome t masked capacities may r
     to_masked lawful =
         let main = lawful.starters.main in
         let h = lawful.runs.run 0 main.0 main.1 in
         let run : IsRun (main_origin t) (lawful.runs.labels 0) (lawful.runs.counts 0) (lawful.runs.progress 0) =
         subst (λ (b : Origin). IsRun b (lawful.runs.labels 0) (lawful.runs.counts 0) (lawful.runs.progress 0)) lawful.origins.main h.run in
-        main_replaced without_mask masked may r lawful refl
-        (in_ (final_outside without_mask r) 1 (1 + need t) (lawful.runs.labels 0) (lawful.runs.counts 0) (lawful.runs.progress 0) run h.unable)
+        in_ (final_outside (record { term = t; capacities = capacities }) r) 1 (1 + need t) (lawful.runs.labels 0) (lawful.runs.counts 0)
+        (lawful.runs.progress 0) run h.unable
 
-    pub masked_main : IsLawfulReport with_mask may r ↔ IsLawfulReport without_mask may r
-    masked_main = (to_plain, to_masked)
+    pub masked_main : HaveSameReports (record { term = masked; capacities = capacities }) (record { term = t; capacities = capacities }) may r
+    masked_main = have_same masked t capacities may r refl to_plain to_masked
 
 -- a finalizer at a closed place
 finalizer_sides : (f : Term) → AreMatching 1 1 (Cleans f ∷ Closes 0 ∷ []) (Closes 0 ∷ [])
@@ -185,8 +169,7 @@ finalizer_sides f =
 -- two whole terms that begin with a mask and come into the same term, with no region that is told
 module _ (n n' p : ℕ) (ws ws' : List Wrap) (a b t : Term) (to_sides : AreMatching n n' ws ws') (from_sides : AreMatching n' n ws' ws)
     (same : (low low' : ℕ) → Alike low low' t t) (into : MaskLeadsInto p a n ws t) (into' : MaskLeadsInto p b n' ws' t) (needs : need a ≡ need b) where
-  one_for_other : (capacities : List ℕ) (may : ℕ → Bool) (r : ReportView) → is_requested_in r 0 ≡ false
-      → IsLawfulReport (record { term = Mask p a; capacities = capacities }) may r → IsLawfulReport (record { term = Mask p b; capacities = capacities }) may r
+  pub one_for_other : (capacities : List ℕ) (may : ℕ → Bool) (r : ReportView) → is_requested_in r 0 ≡ false → MainsCome (Mask p a) (Mask p b) capacities may r
   one_for_other capacities may r quiet lawful =
       let main = lawful.starters.main in
       let h = lawful.runs.run 0 main.0 main.1 in
@@ -196,10 +179,18 @@ module _ (n n' p : ℕ) (ws ws' : List Wrap) (a b t : Term) (to_sides : AreMatch
       let comes = mask_comes o 1 (1 + need a) n n' p ws ws' a t (Mask p b) to_sides (same n n') into (way_in o 1 (1 + need a) ws' t into')
       (lawful.runs.labels 0) (lawful.runs.counts 0) (lawful.runs.progress 0) run
       (unseen_all r 0 quiet (lawful.runs.labels 0) (lawful.seen 0 main.0 main.1)) h.unable in
-      main_replaced (record { term = Mask p a; capacities = capacities }) (Mask p b) may r lawful needs
-      (subst (λ (m : ℕ). CanComeTo (StopsThere o 0 (has_ended (lawful.runs.progress 0))) (counts_at 0 1 (1 + m)) (Runs (Mask p b))
-      (shown (lawful.runs.labels 0)))
-      needs comes)
+      subst (λ (m : ℕ). CanComeTo (StopsThere o 0 (has_ended (lawful.runs.progress 0))) (counts_at 0 1 (1 + m)) (Runs (Mask p b))
+      (shown (lawful.runs.labels 0))) needs comes
+
+-- and the one for the other is the other for the one
+module _ (n n' p : ℕ) (ws ws' : List Wrap) (a b t : Term) (sides : AreMatching n n' ws ws') (same : (low low' : ℕ) → Alike low low' t t)
+    (into : MaskLeadsInto p a n ws t) (into' : MaskLeadsInto p b n' ws' t) (needs : need a ≡ need b) (capacities : List ℕ) (may : ℕ → Bool) (r : ReportView)
+    (quiet : is_requested_in r 0 ≡ false) where
+  masks_have_same : HaveSameReports (record { term = Mask p a; capacities = capacities }) (record { term = Mask p b; capacities = capacities }) may r
+  masks_have_same =
+      have_same (Mask p a) (Mask p b) capacities may r needs
+      (one_for_other n n' p ws ws' a b t sides (turned sides) same into into' needs capacities may r quiet)
+      (one_for_other n' n p ws' ws b a t (turned sides) sides same into' into (sym needs) capacities may r quiet)
 
 module _ (scope : ℕ → Option NameKind) (p r : ℕ) (t : Term) (plain : IsPlain t) (other : p ≢ r) (scoped : IsScopedWithout scope p r t) where
   abbrev inner : ℕ → Option NameKind
@@ -224,23 +215,16 @@ module _ (scope : ℕ → Option NameKind) (p r : ℕ) (t : Term) (plain : IsPla
   into_inverse = enters_inverse p t p_unused r other r_unused
 
   module _ (capacities : List ℕ) (may : ℕ → Bool) (report : ReportView) (quiet : is_requested_in report 0 ≡ false) where
-    pub nested_main : IsLawfulReport (record { term = Mask p (Mask r t); capacities = capacities }) may report
-        ↔ IsLawfulReport (record { term = Mask p t; capacities = capacities }) may report
-    nested_main = (
-      one_for_other 2 1 p (Closes 1 ∷ Closes 0 ∷ []) (Closes 0 ∷ []) (Mask r t) t t two_sides one_side alike_both into_two into_one refl capacities may
-          report quiet,
-      one_for_other 1 2 p (Closes 0 ∷ []) (Closes 1 ∷ Closes 0 ∷ []) t (Mask r t) t one_side two_sides alike_both into_one into_two refl capacities may
-          report quiet,
-    )
+    pub nested_main : HaveSameReports (record { term = Mask p (Mask r t); capacities = capacities }) (record { term = Mask p t; capacities = capacities }) may
+        report
+    nested_main =
+        masks_have_same 2 1 p (Closes 1 ∷ Closes 0 ∷ []) (Closes 0 ∷ []) (Mask r t) t t two_sides alike_both into_two into_one refl capacities may report quiet
 
-    pub inverse_main : IsLawfulReport (record { term = Mask p (Mask r (Poll (Slot p) (Poll (Slot r) t))); capacities = capacities }) may report
-        ↔ IsLawfulReport (record { term = Mask p t; capacities = capacities }) may report
-    inverse_main = (
-      one_for_other 2 1 p (Opens 1 ∷ Opens 0 ∷ Closes 1 ∷ Closes 0 ∷ []) (Closes 0 ∷ []) (Mask r (Poll (Slot p) (Poll (Slot r) t))) t t inverse_sides
-          inverse_turned alike_both into_inverse into_one refl capacities may report quiet,
-      one_for_other 1 2 p (Closes 0 ∷ []) (Opens 1 ∷ Opens 0 ∷ Closes 1 ∷ Closes 0 ∷ []) t (Mask r (Poll (Slot p) (Poll (Slot r) t))) t inverse_turned
-          inverse_sides alike_both into_one into_inverse refl capacities may report quiet,
-    )
+    pub inverse_main : HaveSameReports (record { term = Mask p (Mask r (Poll (Slot p) (Poll (Slot r) t))); capacities = capacities })
+        (record { term = Mask p t; capacities = capacities }) may report
+    inverse_main =
+        masks_have_same 2 1 p (Opens 1 ∷ Opens 0 ∷ Closes 1 ∷ Closes 0 ∷ []) (Closes 0 ∷ []) (Mask r (Poll (Slot p) (Poll (Slot r) t))) t t inverse_sides
+        alike_both into_inverse into_one refl capacities may report quiet
 
 module _ (scope : ℕ → Option NameKind) (p : ℕ) (t f : Term) (plain : IsPlain t) (scoped : IsScoped (with_name p kind.OtherPoll scope) t) (few : need f ≡ 0)
     (capacities : List ℕ) (may : ℕ → Bool) (report : ReportView) (quiet : is_requested_in report 0 ≡ false) where
@@ -253,11 +237,8 @@ module _ (scope : ℕ → Option NameKind) (p : ℕ) (t f : Term) (plain : IsPla
   same_need : need t + need f ≡ need t
   same_need = omega (arith, few)
 
-  pub finalizer_main : IsLawfulReport (record { term = Mask p (OnCancel t f); capacities = capacities }) may report
-      ↔ IsLawfulReport (record { term = Mask p t; capacities = capacities }) may report
-  finalizer_main = (
-    one_for_other 1 1 p (Cleans (put p 0 f) ∷ Closes 0 ∷ []) (Closes 0 ∷ []) (OnCancel t f) t t (finalizer_sides (put p 0 f))
-        (turned (finalizer_sides (put p 0 f))) alike_one (enters_finalizer p t t_unused f) (enters_mask p t t_unused) same_need capacities may report quiet,
-    one_for_other 1 1 p (Closes 0 ∷ []) (Cleans (put p 0 f) ∷ Closes 0 ∷ []) t (OnCancel t f) t (turned (finalizer_sides (put p 0 f)))
-        (finalizer_sides (put p 0 f)) alike_one (enters_mask p t t_unused) (enters_finalizer p t t_unused f) (sym same_need) capacities may report quiet,
-  )
+  pub finalizer_main : HaveSameReports (record { term = Mask p (OnCancel t f); capacities = capacities }) (record { term = Mask p t; capacities = capacities })
+      may report
+  finalizer_main =
+      masks_have_same 1 1 p (Cleans (put p 0 f) ∷ Closes 0 ∷ []) (Closes 0 ∷ []) (OnCancel t f) t t (finalizer_sides (put p 0 f)) alike_one
+      (enters_finalizer p t t_unused f) (enters_mask p t t_unused) same_need capacities may report quiet
