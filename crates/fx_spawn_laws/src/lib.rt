@@ -3,8 +3,9 @@
 //!
 //! They speak of every lawful report of a script, and each report that a replay or a run on threads
 //! answers is lawful: so they hold under each schedule, of each number of workers and of each
-//! interleaving, so long as nobody is requested from outside. A function here does nothing: its contract
-//! is the law.
+//! interleaving, so long as nobody is requested from outside. Those of races of which one side never wins
+//! speak of the reports whose events stand in one order, causes first, as these do; and what `cede` does is
+//! said of a fiber's step. A function here does nothing: its contract is the law.
 //!
 //! | laws of | what they say |
 //! |---|---|
