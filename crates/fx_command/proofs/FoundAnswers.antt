@@ -1,5 +1,5 @@
 -- What a replay answers by the schedule of a finding.
-use Rattle.std.proofs.Common.{◌≡◌, ◌≤◌, ℕ, Some, List, All, length, refl, sym, ◌∙◌, subst}
+use Rattle.std.proofs.Common.{◌≡◌, ◌≤◌, ℕ, Option, Some, List, All, length, refl, sym, ◌∙◌, subst}
 use Rattle.std.proofs.lemmas.Result.{MatchResult-at_ok}
 use Rattle.fx_text.specs.declared.pick.Pick.{Pick}
 use Rattle.fx_text.specs.Limits.{most_picks}
@@ -13,6 +13,7 @@ use Rattle.fx_report.specs.Script.{script_of}
 use Rattle.fx_report.specs.Status.{status_of}
 use Rattle.fx_report.specs.Text.{queue_names, report_text}
 use Rattle.fx_plain.specs.Chosen.{IsReplay}
+use Rattle.fx_explore.specs.Setting.{setting}
 use Rattle.fx_findings.specs.declared.explored.Finding.{Finding}
 use Rattle.fx_findings.specs.Explored.{view_told, schedule_of, IsFinding}
 use Rattle.fx_findings.specs.Printed.{TellsSo, HasSmallNumber}
@@ -32,12 +33,12 @@ one_schedule : (text : List ℕ) (ps ps' : List Pick) → IsSchedule text ps →
 one_schedule text ps ps' is is' =
     MatchResult-at_ok (λ qs. ps ≡ qs) (λ _. ⊥) ps' (sym ((schedule_law text ps).0 is) ∙ (schedule_law text ps').0 is') refl
 
-module _ (m : Meaning) (x : Finding) (ps : List Pick) (h : IsFinding (script_of m) x) (e : schedule_of x ≡ Some ps) where
+module _ (m : Meaning) (target : Option ℕ) (x : Finding) (ps : List Pick) (h : IsFinding (setting (script_of m) target) x) (e : schedule_of x ≡ Some ps) where
   abbrev Tells : List ℕ → ℕ → Type 0
   Tells = TellsSo (queue_names m) (view_told x.told)
 
   told_again : (r : ReportView) → IsReplay (script_of m) ps r → Tells (report_text (queue_names m) r) (status_of r)
-  told_again = rw e at (tells_replay (script_of m) x (queue_names m) h)
+  told_again = rw e at (tells_replay (setting (script_of m) target) x (queue_names m) h)
 
   performed_again : (expected words : List ℕ) (status : ℕ) (text : List ℕ) → IsPerformed m ps expected Replay words status text → Tells text status
   performed_again _ _ _ _ (replayed {r = r} run tells) =

@@ -19,6 +19,8 @@ use Rattle.fx_findings.specs.Explored.{IsExplored}
 use Rattle.fx_findings.specs.Status.{explored_status}
 use Rattle.fx_findings.specs.Text.{explored_text}
 use Rattle.fx_findings.specs.Compared.{compared_text, compared_status}
+use Rattle.fx_explore.specs.Setting.{setting}
+use Rattle.fx_command.specs.declared.call.Search.{Search}
 use Rattle.fx_command.specs.declared.call.Command.{Command}
 use Rattle.fx_command.specs.declared.call.Command.TheVariants.{Replay, Trace, Run, Record, Explore, Expect}
 use Rattle.fx_command.specs.declared.command_fault.CommandFault.TheVariants.{Write}
@@ -46,15 +48,15 @@ pub recorded_with_status : (m : Meaning) (picks : List Pick) (expected : List �
     → IsPerformed m picks expected (Record workers) words status (trace_text (queue_names m) r)
 recorded_with_status m picks expected workers r waits words status can lawful stamped said is = rw (is, said) (recorded can.0 can.1 lawful stamped)
 
-pub explored_with_status : (m : Meaning) (picks : List Pick) (expected : List ℕ) (most : ℕ) (e : Explored) (words : List ℕ) (status : ℕ)
-    → IsExplored (script_of m) most e → words ≡ [] → status ≡ explored_status e
-    → IsPerformed m picks expected (Explore most) words status (explored_text (queue_names m) e)
-explored_with_status m picks expected most e words status is none told = rw (told, none) (explored is)
+pub explored_with_status : (m : Meaning) (picks : List Pick) (expected : List ℕ) (search : Search) (e : Explored) (words : List ℕ) (status : ℕ)
+    → IsExplored (setting (script_of m) search.target) search.most e → words ≡ [] → status ≡ explored_status e
+    → IsPerformed m picks expected (Explore search) words status (explored_text (queue_names m) e)
+explored_with_status m picks expected search e words status is none told = rw (told, none) (explored is)
 
-pub compared_with_status : (m : Meaning) (picks : List Pick) (expected : List ℕ) (most : ℕ) (e : Explored) (words : List ℕ) (status : ℕ)
-    → IsExplored (script_of m) most e → words ≡ [] → status ≡ compared_status (queue_names m) expected e
-    → IsPerformed m picks expected (Expect most) words status (compared_text (queue_names m) expected e)
-compared_with_status m picks expected most e words status is none told = rw (told, none) (compared is)
+pub compared_with_status : (m : Meaning) (picks : List Pick) (expected : List ℕ) (search : Search) (e : Explored) (words : List ℕ) (status : ℕ)
+    → IsExplored (setting (script_of m) search.target) search.most e → words ≡ [] → status ≡ compared_status (queue_names m) expected e
+    → IsPerformed m picks expected (Expect search) words status (compared_text (queue_names m) expected e)
+compared_with_status m picks expected search e words status is none told = rw (told, none) (compared is)
 
 -- what is left where the text was cut short
 pub cut_short : (m : Meaning) (picks : List Pick) (expected : List ℕ) (c : Command) (words : List ℕ) (status : ℕ) (text : List ℕ) (old new : StreamView)

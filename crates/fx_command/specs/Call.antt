@@ -3,6 +3,7 @@ use Rattle.std.specs.Prelude.{ℕ, if◌then◌else◌, Option, Some, None, List
 use Rattle.fx_command.specs.declared.call.Command.{Command}
 use Rattle.fx_command.specs.declared.call.Command.TheVariants.{Check, Replay, Trace, Run, Record, Explore, Expect}
 use Rattle.fx_command.specs.declared.call.Call.{Call}
+use Rattle.fx_command.specs.declared.call.Search.{Search}
 use Rattle.fx_command.specs.declared.states.TheConstants.{MOST_STATES}
 use Rattle.fx_command.specs.Workers.{workers_in}
 use Rattle.fx_command.specs.States.{states_in}
@@ -42,27 +43,34 @@ abbrev pub call_by_workers : Command → List (List ℕ) → Option CallView
 call_by_workers c (script ∷ word ∷ []) = Some (record { command = c; script = script; schedule = None; expected = None })
 call_by_workers c names = None
 
--- with the name of a script, and a number of states or none
-abbrev pub states_among : List (List ℕ) → Option ℕ
-states_among (script ∷ []) = Some MOST_STATES
-states_among (script ∷ word ∷ []) = states_in word
-states_among names = None
-
-abbrev pub call_by_states : Command → List (List ℕ) → Option CallView
-call_by_states c (script ∷ names) = Some (record { command = c; script = script; schedule = None; expected = None })
-call_by_states c [] = None
-
--- with the name of a script, a number of states or none, the word for what is expected, and the name of its text, which is no standard input
-abbrev pub call_expecting : ℕ → List ℕ → List ℕ → List ℕ → Option CallView
-call_expecting most script word file =
+-- with the name of a script, and nothing more, or the word for what is expected and the name of its text, which is no standard input
+abbrev pub call_expecting : List ℕ → Search → List (List ℕ) → Option CallView
+call_expecting script search [] = Some (record { command = Explore search; script = script; schedule = None; expected = None })
+call_expecting script search (word ∷ file ∷ []) =
     if bytes_eq word (codes "expect") && not (bytes_eq file (codes "-")) then
-    Some (record { command = Expect most; script = script; schedule = None; expected = Some file })
+    Some (record { command = Expect search; script = script; schedule = None; expected = Some file })
     else None
+call_expecting script search words = None
+
+-- before these the word for a request from outside and the number of its fiber, or neither
+abbrev pub call_canceling : List ℕ → ℕ → List (List ℕ) → Option CallView
+call_canceling script most (word ∷ fiber ∷ rest) =
+    if bytes_eq word (codes "cancel") then option_and_then (λ n. call_expecting script (record { most = most; target = Some n }) rest) (workers_in fiber)
+    else call_expecting script (record { most = most; target = None }) (word ∷ fiber ∷ rest)
+call_canceling script most words = call_expecting script (record { most = most; target = None }) words
+
+-- before these a number of states, if the first word is one
+abbrev pub call_with_states : List ℕ → List (List ℕ) → List (List ℕ) → Option ℕ → Option CallView
+call_with_states script words rest None = call_canceling script MOST_STATES words
+call_with_states script words rest (Some n) = call_canceling script n rest
+
+abbrev pub call_searching : List ℕ → List (List ℕ) → Option CallView
+call_searching script [] = call_canceling script MOST_STATES []
+call_searching script (word ∷ rest) = call_with_states script (word ∷ rest) rest (states_in word)
 
 abbrev pub call_to_explore : List (List ℕ) → Option CallView
-call_to_explore (script ∷ word ∷ file ∷ []) = call_expecting MOST_STATES script word file
-call_to_explore (script ∷ states ∷ word ∷ file ∷ []) = option_and_then (λ n. call_expecting n script word file) (states_in states)
-call_to_explore names = option_and_then (λ n. call_by_states (Explore n) names) (states_among names)
+call_to_explore (script ∷ words) = call_searching script words
+call_to_explore [] = None
 
 -- no words replay the script on standard input, and other words make no call
 abbrev pub call_of : List (List ℕ) → Option CallView

@@ -21,6 +21,8 @@ use Rattle.fx_findings.specs.Explored.{IsExplored}
 use Rattle.fx_findings.specs.Status.{explored_status}
 use Rattle.fx_findings.specs.Text.{explored_text}
 use Rattle.fx_findings.specs.Compared.{compared_text, compared_status}
+use Rattle.fx_explore.specs.Setting.{setting}
+use Rattle.fx_command.specs.declared.call.Search.{Search}
 use Rattle.fx_command.specs.declared.call.Command.{Command}
 use Rattle.fx_command.specs.declared.call.Command.TheVariants.{Check, Replay, Trace}
 use Rattle.fx_command.specs.declared.call.Command.TheVariants as command
@@ -45,8 +47,8 @@ nobody f = false
 
 -- the words for people, the status and the printed text: of a check the counts, and no words; else the report of the run that the picks choose, or its
 -- traces, or some lawful report by workers of a number that there can be, or the traces of one with the stamps of the definition; and a line for each
--- blocked fiber, after one on the picks that the run passed over, if there are any; or what a search has found that goes on from at most so many states, and
--- no words; or what comes of that where it is compared with the reports that are expected
+-- blocked fiber, after one on the picks that the run passed over, if there are any; or what a search has found that goes on from at most so many states,
+-- where nobody but its target is requested from outside, and no words; or what comes of that where it is compared with the reports that are expected
 pub data IsPerformed (m : Meaning) (picks : List Pick) (expected : List ℕ) : Command → List ℕ → ℕ → List ℕ → Type 0 where
   checked : IsPerformed m picks expected Check [] ENDED (check_text m)
   replayed : {r : ReportView} {waits : List Wait} {passed : Option PassedOver} → IsReplayWithWaits (script_of m) picks r waits
@@ -60,10 +62,10 @@ pub data IsPerformed (m : Meaning) (picks : List Pick) (expected : List ℕ) : C
   recorded : {workers : ℕ} {r : ReportView} {waits : List Wait} → 1 ≤ workers → workers ≤ most_workers → IsLawfulWithWaits (script_of m) nobody r waits
       → IsStampedReport (script_of m) nobody r
       → IsPerformed m picks expected (command.Record workers) (waits_text (queue_names m) waits) (status_of r) (trace_text (queue_names m) r)
-  explored : {most : ℕ} {e : Explored} → IsExplored (script_of m) most e
-      → IsPerformed m picks expected (command.Explore most) [] (explored_status e) (explored_text (queue_names m) e)
-  compared : {most : ℕ} {e : Explored} → IsExplored (script_of m) most e
-      → IsPerformed m picks expected (command.Expect most) [] (compared_status (queue_names m) expected e) (compared_text (queue_names m) expected e)
+  explored : {search : Search} {e : Explored} → IsExplored (setting (script_of m) search.target) search.most e
+      → IsPerformed m picks expected (command.Explore search) [] (explored_status e) (explored_text (queue_names m) e)
+  compared : {search : Search} {e : Explored} → IsExplored (setting (script_of m) search.target) search.most e
+      → IsPerformed m picks expected (command.Expect search) [] (compared_status (queue_names m) expected e) (compared_text (queue_names m) expected e)
 
 -- what is done takes the stream from `old` to `new`
 abbrev pub Performs : Command → Meaning → List Pick → List ℕ → Result Performed CommandFault → StreamView → StreamView → Type 0

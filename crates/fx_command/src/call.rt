@@ -1,6 +1,6 @@
 //! What the words after the program's name ask for.
 ghost use Rattle.std.specs.Prelude.{◌≡◌, map, string_bytes};
-ghost use Rattle.fx_command.specs.Call.{workers_among, states_among};
+ghost use Rattle.fx_command.specs.Call.{workers_among};
 
 use crate::files::STANDARD_INPUT;
 use crate::states::{MOST_STATES, states_in};
@@ -19,10 +19,19 @@ pub(crate) enum Command {
     Run(u32),
     /// Its fibers are run by so many workers, and the traces are written.
     Record(u32),
-    /// Each report of its runs is sought, from at most so many states.
-    Explore(u32),
+    /// Each report of its runs is sought.
+    Explore(Search),
     /// So it is, and what was found is compared with what is expected.
-    Expect(u32),
+    Expect(Search),
+}
+
+/// Which reports are sought.
+#[derive(Clone, Copy, PartialEq, Eq, Debug)]
+pub(crate) struct Search {
+    /// The search goes on from at most so many states.
+    pub(crate) most: u32,
+    /// The fiber that may be requested from outside, if one may.
+    pub(crate) target: Option<u32>,
 }
 
 /// A call of the program.
@@ -47,22 +56,11 @@ fn workers_among(names: &[String]) -> Option<u32>
     }
 }
 
-/// The number of states that the second of two words asks for, or that of a search for which there is no such word.
-fn states_among(names: &[String]) -> Option<u32>
-    ensures { result ≡ states_among (map string_bytes names.now) }
-{
-    match names {
-        [_] => Some(MOST_STATES),
-        [_, states] => states_in(states.as_str()),
-        _ => None,
-    }
-}
-
 impl<'a> Call<'a> {
     ghost use Rattle.std.specs.Prelude.{◌≡◌, ◌≢◌, IfSome, codes, map, option_map, string_bytes};
     ghost use Rattle.fx_command.specs.Call.{view_call, call_with_script, call_with_names};
-    ghost use Rattle.fx_command.specs.Call.{call_by_workers, call_by_states, call_expecting};
-    ghost use Rattle.fx_command.specs.Call.{call_to_explore, call_of};
+    ghost use Rattle.fx_command.specs.Call.{call_by_workers, call_expecting, call_canceling};
+    ghost use Rattle.fx_command.specs.Call.{call_searching, call_to_explore, call_of};
 
     /// The call that these words make, if they make one.
     pub(crate) fn of(words: &'a [String]) -> Option<Call<'a>>
@@ -151,47 +149,73 @@ impl<'a> Call<'a> {
         }
     }
 
-    /// The call for a script of this name, which may have a second word for the states.
-    fn by_states(command: Command, names: &'a [String]) -> Option<Call<'a>>
+    /// The call for this search of the script of this name, with nothing more, or with a word before the name of
+    /// what is expected. That is a file.
+    fn expecting(script: &'a str, search: Search, words: &'a [String]) -> Option<Call<'a>>
         ensures call { option_map view_call result
-            ≡ call_by_states command (map string_bytes names.now) }
+            ≡ call_expecting script.now search (map string_bytes words.now) }
         ensures file { IfSome result
             (λ call. IfSome call.schedule (λ name. name.now ≢ codes "-")) }
         ensures expected { IfSome result
             (λ call. IfSome call.expected (λ name. name.now ≢ codes "-")) }
     {
-        match names {
-            [script, ..] => Some(Call {
-                command,
-                script: script.as_str(),
+        match words {
+            [] => Some(Call {
+                command: Command::Explore(search),
+                script,
                 schedule: None,
                 expected: None,
             }),
+            [word, file] if word.as_str() == "expect" && file.as_str() != STANDARD_INPUT => {
+                Some(Call {
+                    command: Command::Expect(search),
+                    script,
+                    schedule: None,
+                    expected: Some(file.as_str()),
+                })
+            }
             _ => None,
         }
     }
 
-    /// The call for a script of this name, with this word before the name of what is expected. That is a file.
-    fn expecting(most: u32, script: &'a str, word: &'a str, file: &'a str) -> Option<Call<'a>>
-        ensures call { option_map view_call result ≡ call_expecting most script.now word.now file.now }
+    /// The call for a search of the script of this name from at most so many states, where a word may come before
+    /// the number of the fiber that is requested.
+    fn canceling(script: &'a str, most: u32, words: &'a [String]) -> Option<Call<'a>>
+        ensures call { option_map view_call result
+            ≡ call_canceling script.now most (map string_bytes words.now) }
         ensures file { IfSome result
             (λ call. IfSome call.schedule (λ name. name.now ≢ codes "-")) }
         ensures expected { IfSome result
             (λ call. IfSome call.expected (λ name. name.now ≢ codes "-")) }
     {
-        if word != "expect" || file == STANDARD_INPUT {
-            return None;
+        match words {
+            [word, fiber, rest @ ..] if word.as_str() == "cancel" => {
+                let target = Some(workers_in(fiber.as_str())?);
+                Call::expecting(script, Search { most, target }, rest)
+            }
+            _ => Call::expecting(script, Search { most, target: None }, words),
         }
-        Some(Call {
-            command: Command::Expect(most),
-            script,
-            schedule: None,
-            expected: Some(file),
-        })
     }
 
-    /// The call for a search of the script of this name, which may have a second word for the states, and after these a
-    /// word with the name of what is expected.
+    /// The call for a search of the script of this name, where a number of states may come first.
+    fn searching(script: &'a str, words: &'a [String]) -> Option<Call<'a>>
+        ensures call { option_map view_call result
+            ≡ call_searching script.now (map string_bytes words.now) }
+        ensures file { IfSome result
+            (λ call. IfSome call.schedule (λ name. name.now ≢ codes "-")) }
+        ensures expected { IfSome result
+            (λ call. IfSome call.expected (λ name. name.now ≢ codes "-")) }
+    {
+        let [word, rest @ ..] = words else {
+            return Call::canceling(script, MOST_STATES, words);
+        };
+        match states_in(word.as_str()) {
+            Some(most) => Call::canceling(script, most, rest),
+            None => Call::canceling(script, MOST_STATES, words),
+        }
+    }
+
+    /// The call for a search of the script of this name.
     fn to_explore(names: &'a [String]) -> Option<Call<'a>>
         ensures call { option_map view_call result
             ≡ call_to_explore (map string_bytes names.now) }
@@ -201,19 +225,8 @@ impl<'a> Call<'a> {
             (λ call. IfSome call.expected (λ name. name.now ≢ codes "-")) }
     {
         match names {
-            [script, word, file] => Call::expecting(
-                MOST_STATES,
-                script.as_str(),
-                word.as_str(),
-                file.as_str(),
-            ),
-            [script, states, word, file] => Call::expecting(
-                states_in(states.as_str())?,
-                script.as_str(),
-                word.as_str(),
-                file.as_str(),
-            ),
-            _ => Call::by_states(Command::Explore(states_among(names)?), names),
+            [script, words @ ..] => Call::searching(script.as_str(), words),
+            _ => None,
         }
     }
 }

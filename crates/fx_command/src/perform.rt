@@ -9,7 +9,7 @@ ghost use Rattle.fx_plain.specs.PassedPicks.{IsWhyAtQueueBelow};
 ghost use Rattle.fx_command.specs.Passed.{replay_words};
 ghost use Rattle.fx_command.specs.Performed.{counts_text, check_text, Performs};
 
-use crate::call::Command;
+use crate::call::{Command, Search};
 use crate::command_fault::CommandFault;
 use crate::passed::format_passed;
 use crate::stream::Stream;
@@ -161,18 +161,17 @@ fn record<'a, R: Wait + Threads + Sync + RandomSource + AllocGlobal, W: Write>(
     })
 }
 
-/// Visits the script's runs, in a search that goes on from at most so many states, and writes what it has
-/// found.
+/// Visits the script's runs in this search, and writes what it has found.
 fn find<'a, W: Write>(
     alloc: Global,
     script: &Script,
-    most: u32,
+    search: Search,
     out: &mut Stream<W>,
 ) -> Result<Performed, CommandFault<'a>>
-    ensures { (picks : List pick.Pick) (expected : List ℕ) → Performs (command.Explore most)
+    ensures { (picks : List pick.Pick) (expected : List ℕ) → Performs (command.Explore search)
         (meaning script.now) picks expected result out.old out.new }
 {
-    let explored = explore(alloc, script, most as usize)?;
+    let explored = explore(alloc, script, search.target, search.most as usize)?;
     let text = format_explored(alloc, script, &explored)?;
     out.write(&text)?;
     Ok(Performed {
@@ -181,19 +180,19 @@ fn find<'a, W: Write>(
     })
 }
 
-/// Visits the script's runs in such a search, and writes what comes of it where it is compared with the reports that are
+/// Visits the script's runs in this search, and writes what comes of it where it is compared with the reports that are
 /// expected.
 fn expect<'a, W: Write>(
     alloc: Global,
     script: &Script,
-    most: u32,
+    search: Search,
     expected: &[u8],
     out: &mut Stream<W>,
 ) -> Result<Performed, CommandFault<'a>>
-    ensures { (picks : List pick.Pick) → Performs (command.Expect most) (meaning script.now) picks
+    ensures { (picks : List pick.Pick) → Performs (command.Expect search) (meaning script.now) picks
         expected.now result out.old out.new }
 {
-    let found = explore(alloc, script, most as usize)?;
+    let found = explore(alloc, script, search.target, search.most as usize)?;
     let Compared { text, status } = compare(alloc, script, &found, expected)?;
     out.write(&text)?;
     Ok(Performed {
@@ -229,7 +228,7 @@ pub(crate) fn perform<'a, R: Wait + Threads + Sync + RandomSource + AllocGlobal,
         Command::Trace => trace(alloc, script, picks, out),
         Command::Run(workers) => run(rt, alloc, script, workers, out),
         Command::Record(workers) => record(rt, alloc, script, workers, out),
-        Command::Explore(most) => find(alloc, script, most, out),
-        Command::Expect(most) => expect(alloc, script, most, expected, out),
+        Command::Explore(search) => find(alloc, script, search, out),
+        Command::Expect(search) => expect(alloc, script, search, expected, out),
     }
 }

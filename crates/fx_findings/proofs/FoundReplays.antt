@@ -5,6 +5,7 @@ use Rattle.std.specs.List.{list_all, list_any}
 use Rattle.std.proofs.lemmas.List.Elements.{All-head, All-tail}
 use Rattle.std.proofs.lemmas.Option.{none-some, same_Some}
 use Rattle.fx_term.specs.Script.{ScriptView}
+use Rattle.fx_explore.specs.Setting.{Setting}
 use Rattle.fx_model.specs.Outside.{outcome_at}
 use Rattle.fx_model.specs.Report.{FiberReportView, ReportView, fiber_in, outcome_shown}
 use Rattle.fx_model.specs.Run.{events}
@@ -88,14 +89,14 @@ tells_report s r names h =
     }
 
 -- so are those of a replay by the schedule of a finding
-pub tells_replay : (s : ScriptView) (x : Finding) (names : List (List ℕ)) → IsFinding s x
-    → IfSome (schedule_of x) (λ ps. (r : ReportView) → IsReplay s ps r → TellsSo names (view_told x.told) (report_text names r) (status_of r))
+pub tells_replay : (s : Setting) (x : Finding) (names : List (List ℕ)) → IsFinding s x
+    → IfSome (schedule_of x) (λ ps. (r : ReportView) → IsReplay s.script ps r → TellsSo names (view_told x.told) (report_text names r) (status_of r))
 tells_replay s x names h = by_schedule (schedule_of x) h.replayed
   where
-    by_schedule : (o : Option (List Pick)) → IfSome o (λ ps. IsReplay s ps h.report)
-        → IfSome o (λ ps. (r : ReportView) → IsReplay s ps r → TellsSo names (view_told x.told) (report_text names r) (status_of r))
+    by_schedule : (o : Option (List Pick)) → IfSome o (λ ps. IsReplay s.script ps h.report)
+        → IfSome o (λ ps. (r : ReportView) → IsReplay s.script ps r → TellsSo names (view_told x.told) (report_text names r) (status_of r))
     by_schedule None own = tt
     by_schedule (Some ps) own = λ r replay.
-        let same : told_of r ≡ view_told x.told = ap told_of (one_replay s ps r h.report replay own) ∙ h.told in
+        let same : told_of r ≡ view_told x.told = ap told_of (one_replay s.script ps r h.report replay own) ∙ h.told in
         subst (λ (t : Told). TellsSo names t (report_text names r) (status_of r)) same
-        (tells_report s r names (replay_settles s ps r replay))
+        (tells_report s.script r names (replay_settles s.script ps r replay))

@@ -12,6 +12,7 @@ ghost use Rattle.fx_report.specs.Text.{line_end, report_text};
 ghost use Rattle.fx_report.specs.declared.status.TheConstants.{ENDED};
 ghost use Rattle.fx_plain.specs.Chosen.{IsReplay};
 ghost use Rattle.fx_plain.specs.SettledRun.{HasSettledRun};
+ghost use Rattle.fx_explore.specs.Setting.{Setting};
 ghost use Rattle.fx_explore.specs.Told.{told_of};
 ghost use Rattle.fx_findings.specs.declared.explored.Finding.{Finding};
 ghost use Rattle.fx_findings.specs.declared.explored.Explored.{Explored};
@@ -19,7 +20,7 @@ ghost use Rattle.fx_findings.specs.declared.compared.TheConstants.{UNEXPECTED};
 ghost use Rattle.fx_findings.specs.declared.status.TheConstants.{INCOMPLETE};
 ghost use Rattle.fx_findings.specs.Expected.{report_of, reports_of};
 ghost use Rattle.fx_findings.specs.Compared.{compared_status, TellsUnexpected};
-ghost use Rattle.fx_findings.specs.Explored.{view_told, schedule_of, IsFinding, IsUnrequestedReport, IsExplored};
+ghost use Rattle.fx_findings.specs.Explored.{view_told, schedule_of, IsFinding, IsReportWithin, IsExplored};
 ghost use Rattle.fx_findings.specs.Printed.{TellsSo, HasSmallNumber};
 ghost use Rattle.fx_findings.specs.Text.{picks_text};
 
@@ -32,8 +33,8 @@ pub fn report_is_told_as_it_is_printed()
 
 /// So is what a replay prints under the schedule of a finding what is told of the finding.
 pub fn finding_is_replayed()
-    ensures { (s : ScriptView) (x : Finding) (names : List (List ℕ)) → IsFinding s x
-        → IfSome (schedule_of x) (λ ps. (r : ReportView) → IsReplay s ps r
+    ensures { (s : Setting) (x : Finding) (names : List (List ℕ)) → IsFinding s x
+        → IfSome (schedule_of x) (λ ps. (r : ReportView) → IsReplay s.script ps r
         → TellsSo names (view_told x.told) (report_text names r) (status_of r)) }
 {}
 
@@ -44,18 +45,18 @@ pub fn printed_schedule_is_read()
         → IsSchedule (picks_text ps) ps }
 {}
 
-/// Where all findings of a complete search are expected, the text says the report of each run in which nobody is
-/// requested from outside.
+/// Where all findings of a complete search are expected, the text says the report of each run in which nobody but
+/// the target is requested from outside.
 pub fn each_report_is_expected()
-    ensures { (s : ScriptView) (most : ℕ) (e : Explored) (names : List (List ℕ)) (expected : List ℕ)
+    ensures { (s : Setting) (most : ℕ) (e : Explored) (names : List (List ℕ)) (expected : List ℕ)
         → IsExplored s most e → compared_status names expected e ≡ ENDED
-        → (r : ReportView) → IsUnrequestedReport s r
+        → (r : ReportView) → IsReportWithin s r
         → Among (report_text names r) (reports_of expected) }
 {}
 
 /// Where one is not, what is printed is the report of such a run, which the text does not say, and that not all are.
 pub fn unexpected_report_is_told()
-    ensures { (s : ScriptView) (most : ℕ) (e : Explored) (names : List (List ℕ)) (expected : List ℕ)
+    ensures { (s : Setting) (most : ℕ) (e : Explored) (names : List (List ℕ)) (expected : List ℕ)
         → IsExplored s most e → compared_status names expected e ≡ UNEXPECTED
         → TellsUnexpected s names expected e }
 {}

@@ -1,5 +1,6 @@
-//! What is found of a script's runs in which nobody is requested from outside: each report that some run has,
-//! as far as it is printed without its traces, with a schedule under which a replay has it.
+//! What is found of a script's runs in which nobody is requested from outside, or nobody but one fiber, the
+//! target: each report that some run has, as far as it is printed without its traces, with a schedule under
+//! which a replay has it.
 //!
 //! Its rules:
 //!

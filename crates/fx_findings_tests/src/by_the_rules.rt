@@ -2,7 +2,7 @@
 use fx_findings::{compare, explore};
 use fx_report::ENDED;
 use fx_search::Ending;
-use fx_text::parse;
+use fx_text::{Pick, parse};
 use std::test::Fail;
 
 /// A script, how many reports its runs have, and these, parted by empty lines.
@@ -153,15 +153,168 @@ static ROWS: [Row; 14] = [
     KEPT,
 ];
 
+/// A script, the fiber that is requested from outside at any moment or not at all, and the reports.
+#[derive(Clone, Copy)]
+struct Asked {
+    target: u32,
+    row: Row,
+}
+
+/// The permit is lost where its holder is canceled between its take and its offer.
+const LOST_PERMIT: Asked = Asked {
+    target: 1,
+    row: Row {
+        script: b"(queue p 1) (main (seq (offer p 7) (start h (seq (take p) (offer p 7)) (pure 0))))",
+        count: 3,
+        reports: b"fiber 0 succeeded 0\nfiber 1 canceled\nqueue p left 7\n
+fiber 0 succeeded 0\nfiber 1 canceled\nqueue p left\n
+fiber 0 succeeded 0\nfiber 1 succeeded 0\nqueue p left 7\n",
+    },
+};
+
+/// With a bracket it is always back.
+const BRACKETED_PERMIT: Asked = Asked {
+    target: 1,
+    row: Row {
+        script: b"(queue p 1) (main (seq (offer p 7)
+            (start h (bracket x (take p) (pure 1) (offer p x)) (pure 0))))",
+        count: 2,
+        reports: b"fiber 0 succeeded 0\nfiber 1 canceled\nqueue p left 7\n
+fiber 0 succeeded 0\nfiber 1 succeeded 1\nqueue p left 7\n",
+    },
+};
+
+/// Who waits for a permit that is lost waits for good.
+const WAITED_PERMIT: Asked = Asked {
+    target: 1,
+    row: Row {
+        script: b"(queue p 1) (main (seq (offer p 7) (start h (seq (take p) (offer p 7)) (take p))))",
+        count: 4,
+        reports: b"fiber 0 blocked\nfiber 1 canceled\nqueue p left\n
+fiber 0 succeeded 7\nfiber 1 blocked\nqueue p left\n
+fiber 0 succeeded 7\nfiber 1 succeeded 0\nqueue p left\n
+fiber 0 succeeded 7\nfiber 1 canceled\nqueue p left\n",
+    },
+};
+
+/// The request is seen before the mask or after it, and never between its two offers.
+const MASKED: Asked = Asked {
+    target: 1,
+    row: Row {
+        script: b"(queue q 2) (main (start h (mask p (seq (offer q 1) (offer q 2))) (pure 0)))",
+        count: 3,
+        reports: b"fiber 0 succeeded 0\nfiber 1 canceled\nqueue q left\n
+fiber 0 succeeded 0\nfiber 1 canceled\nqueue q left 1 2\n
+fiber 0 succeeded 0\nfiber 1 succeeded 0\nqueue q left 1 2\n",
+    },
+};
+
+/// The main fiber, which no other one can name, is requested before its offer or after it.
+const MAIN: Asked = Asked {
+    target: 0,
+    row: Row {
+        script: b"(queue q 1) (main (seq (offer q 2) (pure 3)))",
+        count: 3,
+        reports: b"fiber 0 canceled\nqueue q left\n
+fiber 0 canceled\nqueue q left 2\n
+fiber 0 succeeded 3\nqueue q left 2\n",
+    },
+};
+
+/// Who never starts is requested in vain.
+const UNSTARTED: Asked = Asked {
+    target: 1,
+    row: Row {
+        script: b"(main (if 0 (start h (pure 1) (pure 2)) (pure 3)))",
+        count: 1,
+        reports: b"fiber 0 succeeded 3\n",
+    },
+};
+
+/// So is a fiber of which the script has no number.
+const NO_FIBER: Asked = Asked {
+    target: 9,
+    row: Row {
+        script: b"(queue p 1) (main (seq (offer p 7) (start h (seq (take p) (offer p 7)) (pure 0))))",
+        count: 1,
+        reports: b"fiber 0 succeeded 0\nfiber 1 succeeded 0\nqueue p left 7\n",
+    },
+};
+
+/// Who waits for good is woken by a request, and another fiber is requested by nobody.
+const WOKEN: Asked = Asked {
+    target: 2,
+    row: Row {
+        script: b"(main (start a (never) (start b (never) (pure 0))))",
+        count: 2,
+        reports: b"fiber 0 succeeded 0\nfiber 1 blocked\nfiber 2 blocked\n
+fiber 0 succeeded 0\nfiber 1 blocked\nfiber 2 canceled\n",
+    },
+};
+
+static ASKED: [Asked; 8] = [
+    LOST_PERMIT,
+    BRACKETED_PERMIT,
+    WAITED_PERMIT,
+    MASKED,
+    MAIN,
+    UNSTARTED,
+    NO_FIBER,
+    WOKEN,
+];
+
+/// How many of the picks are requests for this fiber, and for any other one.
+fn requests(picks: &[Pick], target: u32) -> (usize, usize) {
+    let mut found = (0, 0);
+    for pick in picks {
+        match *pick {
+            Pick::Cancel(fiber) if fiber == target => found.0 += 1,
+            Pick::Cancel(_) => found.1 += 1,
+            Pick::Step(_) => {}
+        }
+    }
+    found
+}
+
 #[test]
 fn reports_are_those_of_the_rules(rt: HostRuntime) -> Result<(), Fail> {
     for row in &ROWS {
         let script = parse(rt.alloc(), row.script)?;
-        let explored = explore(rt.alloc(), &script, 100_000)?;
+        let explored = explore(rt.alloc(), &script, None, 100_000)?;
         assert_eq!(rt; explored.ending, Ending::Exhausted);
         assert_eq!(rt; explored.findings.len(), row.count);
         let compared = compare(rt.alloc(), &script, &explored, row.reports)?;
         assert_eq!(rt; compared.status, ENDED);
+    }
+    Ok(())
+}
+
+#[test]
+fn a_fiber_is_requested_at_any_moment(rt: HostRuntime) -> Result<(), Fail> {
+    for asked in &ASKED {
+        let script = parse(rt.alloc(), asked.row.script)?;
+        let explored = explore(rt.alloc(), &script, Some(asked.target), 100_000)?;
+        assert_eq!(rt; explored.ending, Ending::Exhausted);
+        assert_eq!(rt; explored.findings.len(), asked.row.count);
+        let compared = compare(rt.alloc(), &script, &explored, asked.row.reports)?;
+        assert_eq!(rt; compared.status, ENDED);
+    }
+    Ok(())
+}
+
+#[test]
+fn a_fiber_is_requested_at_most_once(rt: HostRuntime) -> Result<(), Fail> {
+    for asked in &ASKED {
+        let script = parse(rt.alloc(), asked.row.script)?;
+        let explored = explore(rt.alloc(), &script, Some(asked.target), 100_000)?;
+        for finding in &explored.findings {
+            assert!(rt; finding.schedule.is_some());
+            if let Some(picks) = &finding.schedule {
+                let (once, others) = requests(picks, asked.target);
+                assert!(rt; once <= 1);
+                assert_eq!(rt; others, 0);
+            }
+        }
     }
     Ok(())
 }

@@ -16,7 +16,10 @@ how each fiber ended; or it visits all runs of the script.
   fibers record F WORKERS     runs them so, and prints what each fiber did
   fibers explore F [MOST]     visits all runs, from at most so many states, and
                               prints each report that some run has
-  fibers explore F [MOST] expect FILE
+  fibers explore F [MOST] cancel N
+                              visits also those in which fiber N is requested
+                              from outside, at any moment
+  fibers explore F [MOST] [cancel N] expect FILE
                               prints the first of these that FILE does not have
   fibers help [WORD]          prints this page, or the one on a word
 
@@ -129,7 +132,7 @@ it stands on.
 ";
 
 const EXPLORE: &str = "\
-fibers explore F [MOST] [expect FILE]
+fibers explore F [MOST] [cancel N] [expect FILE]
 
 Visits all runs of the script in the file F in which nobody is requested from
 outside, and prints each report that some run has, each once, those first in
@@ -154,6 +157,14 @@ fiber waits for, fibers replay says there, by the schedule.
     queue q left 2
     $ fibers explore script | tail -1
     explored: 2 reports, 4 states, complete
+
+With cancel N it visits also the runs in which fiber N is requested from
+outside, once, at any moment; N may be 0, the main fiber. Then a schedule has
+the pick cN where the request comes.
+
+    $ echo '(queue q 1) (main (seq (offer q 1) (pure 2)))' > asked
+    $ fibers explore asked cancel 0 | tail -1
+    explored: 3 reports, 8 states, complete
 
 With expect FILE it prints only the first of these reports that FILE does not
 have, if there is one, with its schedule, and then whether all are expected.
