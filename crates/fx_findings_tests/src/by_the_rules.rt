@@ -263,17 +263,20 @@ static ASKED: [Asked; 8] = [
     WOKEN,
 ];
 
-/// How many of the picks are requests for this fiber, and for any other one.
-fn requests(picks: &[Pick], target: u32) -> (usize, usize) {
-    let mut found = (0, 0);
-    for pick in picks {
-        match *pick {
-            Pick::Cancel(fiber) if fiber == target => found.0 += 1,
-            Pick::Cancel(_) => found.1 += 1,
-            Pick::Step(_) => {}
-        }
-    }
-    found
+/// How many of the picks are requests, for any fiber.
+fn requests(picks: &[Pick]) -> usize {
+    picks
+        .iter()
+        .filter(|pick| matches!(pick, Pick::Cancel(_)))
+        .count()
+}
+
+/// How many of them are for this one.
+fn requests_for(picks: &[Pick], target: u32) -> usize {
+    picks
+        .iter()
+        .filter(|pick| **pick == Pick::Cancel(target))
+        .count()
 }
 
 #[test]
@@ -310,9 +313,9 @@ fn a_fiber_is_requested_at_most_once(rt: HostRuntime) -> Result<(), Fail> {
         for finding in &explored.findings {
             assert!(rt; finding.schedule.is_some());
             if let Some(picks) = &finding.schedule {
-                let (once, others) = requests(picks, asked.target);
-                assert!(rt; once <= 1);
-                assert_eq!(rt; others, 0);
+                let own = requests_for(picks, asked.target);
+                assert!(rt; own <= 1);
+                assert_eq!(rt; requests(picks), own);
             }
         }
     }
