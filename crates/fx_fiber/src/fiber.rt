@@ -93,6 +93,8 @@ impl<P: Port> Fiber<P> {
     {
         let begin = main_begin(alloc, code);
         let mut body = Body::beginning(alloc, 0, &begin)?;
+        // It often has many events, so its list begins with room for more than that of a child.
+        body.trace.reserve_exact(64)?;
         body.have(begin.slots);
         Ok(Fiber::beginning(port, body))
     }
