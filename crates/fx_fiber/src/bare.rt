@@ -4,7 +4,7 @@ ghost use Rattle.std.specs.Prelude.{◌≡◌};
 use crate::fiber::body::Body;
 use crate::machine::focus::Focus;
 use fx_model::{Closed, Source};
-use fx_term::{Code, Stamped};
+use fx_term::{Code, NodeId, Stamped};
 use std::marker::Model;
 use std::snapshot::Snapshot;
 
@@ -41,13 +41,14 @@ impl Bare {
     ghost use Rattle.fx_fiber.specs.Bare.{bare_at, HasOwnRun, reached};
     ghost use Rattle.fx_fiber.specs.Fiber.{is_fiber_number};
     ghost use Rattle.fx_fiber.specs.Machine.{counts_of, progress_of};
+    ghost use Rattle.fx_fiber.specs.NodePlaces.{HasNoNode, IsPlaceOf};
     ghost use Rattle.fx_fiber.specs.Sound.{IsSoundMachine};
     ghost use Rattle.fx_model.specs.Closed.{outside_of};
     ghost use Rattle.fx_model.specs.Outside.{can_step};
     ghost use Rattle.fx_model.specs.Scopes.{IsProgressScopedOver};
     ghost use Rattle.fx_model.specs.Step.{has_ended, leaf_at};
     ghost use Rattle.fx_model.specs.Waiting.{wait_at};
-    ghost use Rattle.std.specs.Prelude.{option_and_then};
+    ghost use Rattle.std.specs.Prelude.{MatchOption, option_and_then};
 
     /// The fiber of this code that has this beside its port.
     pub(crate) fn new(body: Box<Body>, code: &Code) -> Bare
@@ -103,6 +104,15 @@ impl Bare {
         ensures { result ≡ option_and_then wait_at (leaf_at (reached self.now)) }
     {
         self.body.machine.waits_for(code)
+    }
+
+    /// The node where the fiber stands, as [`Fiber::node`](crate::Fiber::node) tells.
+    pub fn node(&self, code: &Code) -> Option<NodeId>
+        requires code { code.now.nodes ≡ self.now.nodes }
+        ensures { MatchOption result (HasNoNode (leaf_at (reached self.now)))
+            (IsPlaceOf self.now.nodes self.now.registers (leaf_at (reached self.now))) }
+    {
+        self.body.machine.node(code)
     }
 
     /// Whether the fiber can step where the outside is as a run left it, as

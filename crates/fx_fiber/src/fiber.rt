@@ -188,7 +188,8 @@ impl<P: Port> Fiber<P> {
     }
 
     /// The node of the leaf where the fiber stands, or of the loop of which a turn comes next; none where it
-    /// stands with a result, awaits a fiber that it canceled, is between two clean-ups or has ended.
+    /// stands with a result, awaits a fiber that it canceled, is between two clean-ups or has ended. Terms do
+    /// not name their nodes, so the contract tells a node by what it reads as.
     pub fn node(&self, code: &Code) -> Option<NodeId>
         requires code { code.now.nodes ≡ P.theory.code }
         ensures { MatchOption result (HasNoNode (leaf_at (progress P.theory.code self.now)))
