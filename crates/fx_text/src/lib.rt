@@ -33,6 +33,7 @@ pub mod laws;
 mod part;
 mod pick;
 mod place;
+mod position;
 mod queue_decl;
 mod queues;
 mod reader;
@@ -44,6 +45,7 @@ mod top;
 
 pub use fault::{TextFault, TextKind};
 pub use pick::Pick;
+pub use position::Position;
 pub use queue_decl::QueueDecl;
 pub use schedules::{MOST_SCHEDULE_BYTES, schedule};
 pub use script::{MOST_SCRIPT_BYTES, Script, parse};
