@@ -59,7 +59,8 @@ pub mod NamedQueues
 pub mod PassedNames
 pub mod OneTelling
 pub mod MovePicks
-pub mod Waits
 pub mod ToldSteps
+pub mod Standing
+pub mod Waits
 pub mod ToldWays
 pub mod ToldRuns

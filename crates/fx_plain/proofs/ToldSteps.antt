@@ -60,7 +60,7 @@ ended_has_none (Runs t) e = absurd cc
 ended_has_none (Unwinds rest) e = absurd cc
 ended_has_none (CleansUp k t rest) e = absurd cc
 
-some_numbers : (nodes : List Node) (numbers : List ℕ) (leaf : Option Term) (node : Option NodeId)
+pub some_numbers : (nodes : List Node) (numbers : List ℕ) (leaf : Option Term) (node : Option NodeId)
     → MatchOption node (HasNoNode leaf) (IsPlaceOf nodes numbers leaf)
     → MatchOption node (HasNoNode leaf) (λ id. (numbers : List ℕ) × IsPlaceOf nodes numbers leaf id)
 some_numbers nodes numbers leaf None h = h
@@ -68,7 +68,7 @@ some_numbers nodes numbers leaf (Some id) h = (numbers, h)
 
 module _ {J : Type 0} (nodes : List Node) (s : ScriptView) where
   -- the fiber of a machine that a fiber of the whole machine is
-  record IsHeld (p : PlainMachine J) (f : ℕ) (x : StartedFiber) : Type 0 where
+  pub record IsHeld (p : PlainMachine J) (f : ℕ) (x : StartedFiber) : Type 0 where
     pub view : StartedView J
     pub at : at_number nodes p f ≡ Some view
     pub is : held nodes view ≡ held_of x
@@ -78,7 +78,7 @@ module _ {J : Type 0} (nodes : List Node) (s : ScriptView) where
   held_by None x e p f at = absurd (none-some (held_of x) e)
   held_by (Some v) x e p f at = record { view = v; at = at; is = same_Some (held nodes v) (held_of x) e }
 
-  is_held : (p : PlainMachine J) (m : WholeMachine) (f : ℕ) (x : StartedFiber) → StandsForRun nodes s p m → m.fibers f ≡ Some x → IsHeld p f x
+  pub is_held : (p : PlainMachine J) (m : WholeMachine) (f : ℕ) (x : StartedFiber) → StandsForRun nodes s p m → m.fibers f ≡ Some x → IsHeld p f x
   is_held p m f x so at =
       held_by (at_number nodes p f) x (sym (held_at nodes p f) ∙ so.stands.fibers f ∙ ap (option_map held_of) at) p f refl
 

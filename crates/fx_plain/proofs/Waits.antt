@@ -16,10 +16,11 @@ use Rattle.fx_fiber.specs.Fiber.{progress}
 use Rattle.fx_text.specs.declared.pick.Pick.{Pick}
 use Rattle.fx_text.specs.Meaning.{Meaning}
 use Rattle.fx_report.specs.declared.wait.Wait.{Wait}
+use Rattle.fx_report.specs.declared.blocked.Blocked.{Blocked}
 use Rattle.fx_report.specs.Script.{script_of}
 use Rattle.fx_report.specs.Text.{queue_names}
-use Rattle.fx_report.specs.Waits.{WaitsAtQueueBelow}
-use Rattle.fx_report.proofs.BlockedFibers.{fibers_of, blocked_of, wait_from, one_blocked}
+use Rattle.fx_report.specs.Waits.{WaitsAtQueueBelow, waits_in}
+use Rattle.fx_report.proofs.BlockedFibers.{fibers_of, blocked_of, wait_from, one_blocked, each_wait}
 use Rattle.fx_plain.specs.Started.{StartedView, reported, wait_of}
 use Rattle.fx_plain.specs.declared.plain_machine.PlainMachine.{PlainMachine}
 use Rattle.fx_plain.specs.declared.class.Class.{Class}
@@ -33,6 +34,7 @@ use Rattle.fx_plain.specs.PlainQueue.{have_room, have_element}
 use Rattle.fx_plain.specs.World.{HeldFiber}
 use Rattle.fx_plain.specs.PlainMachine.{all_reported, all_waits, all_held, StandsForRun, IsUnderWay, Halts}
 use Rattle.fx_plain.specs.Waits.{source_of_fiber, AreWaitsOf, IsReplayWithWaits}
+use Rattle.fx_plain.specs.Standing.{StandsIn, StandsAt, IsReplayWithBlocked}
 use Rattle.fx_plain.proofs.LawfulRuns.{opening_is_kept}
 use Rattle.fx_plain.proofs.OneRun.{one_run}
 use Rattle.fx_plain.proofs.ChosenRuns.{chosen_leads}
@@ -40,6 +42,7 @@ use Rattle.fx_plain.proofs.WorldClasses.{unready_cannot}
 use Rattle.fx_plain.proofs.ReadyFibers.{waiting_goes}
 use Rattle.fx_plain.proofs.PlainMachineSteps.{at_number, is_fiber}
 use Rattle.fx_plain.proofs.NamedQueues.{run_named, named_source}
+use Rattle.fx_plain.proofs.Standing.{stands_so}
 
 -- a report with waits is a report
 pub without_waits : (s : ScriptView) (ps : List Pick) (r : ReportView) (waits : List Wait) → IsReplayWithWaits s ps r waits → IsReplay s ps r
@@ -147,16 +150,36 @@ module _ {J : Type 0} (nodes : List Node) where
     }
 
   -- the report of a machine that has halted on the way of the picks, and its waits
-  pub replay_with_waits : (s : ScriptView) (p : PlainMachine J) (all : List Pick) (r : ReportView) (waits : List Wait) → IsUnderWay nodes s all [] p → Halts p
-      → IsReplay s all r → r.fibers ≡ all_reported nodes p.fibers.items → waits ≡ all_waits nodes p.fibers.items → IsReplayWithWaits s all r waits
-  replay_with_waits s p all r waits u halts h fibers are =
-      let none : IsSettled s u.machine = λ f. unready_cannot s p.world (all_held nodes p) u.machine u.stands.stands u.stands.tells f (halts f) in
-      let own = u.way [] u.machine (chosen.halts none) in
-      let same = (one_run s (opening_is_kept s) h.chosen own.1).1 in
+  module _ (s : ScriptView) (p : PlainMachine J) (all : List Pick) (r : ReportView) (waits : List Wait) (u : IsUnderWay nodes s all [] p) (halts : Halts p)
+      (h : IsReplay s all r) (fibers : r.fibers ≡ all_reported nodes p.fibers.items) (are : waits ≡ all_waits nodes p.fibers.items) where
+    -- it has come to the end of that run
+    pub at_end : u.machine ≡ h.last
+    at_end =
+        let none : IsSettled s u.machine = λ f. unready_cannot s p.world (all_held nodes p) u.machine u.stands.stands u.stands.tells f (halts f) in
+        let own = u.way [] u.machine (chosen.halts none) in
+        sym (one_run s (opening_is_kept s) h.chosen own.1).1
+
+    pub replay_with_waits : IsReplayWithWaits s all r waits
+    replay_with_waits = record {
+      moves = h.moves;
+      last = h.last;
+      chosen = h.chosen;
+      report = h.report;
+      waiting = rw (sym at_end, are) (waits_are s p u.machine u.stands halts r fibers);
+    }
+
+  pub replay_with_blocked : (s : ScriptView) (p : PlainMachine J) (all : List Pick) (r : ReportView) (blocked : List Blocked) → IsUnderWay nodes s all [] p
+      → Halts p → IsReplay s all r → r.fibers ≡ all_reported nodes p.fibers.items → waits_in blocked ≡ all_waits nodes p.fibers.items
+      → All (StandsIn nodes p) blocked → IsReplayWithBlocked nodes s all r blocked
+  unfolding replay_with_waits
+  replay_with_blocked s p all r blocked u halts h fibers are stand =
+      let replay = replay_with_waits s p all r (waits_in blocked) u halts h fibers are in
+      let end = at_end s p all r (waits_in blocked) u halts h fibers are in
+      let sources = each_wait (IsSourceIn h.last) blocked replay.waiting.sources in
       record {
-        moves = h.moves;
-        last = h.last;
-        chosen = h.chosen;
-        report = h.report;
-        waiting = rw (same, are) (waits_are s p u.machine u.stands halts r fibers);
+        replay = replay;
+        stand = λ k b lt.
+            subst (λ (m : WholeMachine). StandsAt nodes m (slice_index_or blocked k b)) end
+            (stands_so nodes s p u.machine u.stands (slice_index_or blocked k b)
+            (subst (λ (m : WholeMachine). IsSourceIn m (slice_index_or blocked k b).wait) (sym end) (sources k b lt)) (stand k b lt));
       }

@@ -21,5 +21,6 @@ pub mod TakenPick
 pub mod MovePicks
 pub mod PlainMachine
 pub mod ToldRun
+pub mod Standing
 pub mod ToldWay
 pub mod TextReplay

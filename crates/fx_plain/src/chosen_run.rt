@@ -8,26 +8,26 @@ ghost use Rattle.fx_model.specs.ReportStamps.{IsStampedReport};
 ghost use Rattle.fx_plain.specs.Chosen.{IsReplay};
 ghost use Rattle.fx_plain.specs.PassedPicks.{IsWhyAtQueueBelow, TellsPassed};
 ghost use Rattle.fx_plain.specs.StampedList.{IsStampedInOneList};
-ghost use Rattle.fx_plain.specs.Waits.{IsReplayWithWaits};
+ghost use Rattle.fx_plain.specs.Standing.{IsReplayWithBlocked};
 ghost use Rattle.fx_report.specs.Script.{script_of};
 ghost use Rattle.fx_report.specs.Text.{queue_names, IsWritable};
-ghost use Rattle.fx_report.specs.Waits.{WaitsAtQueueBelow};
+ghost use Rattle.fx_report.specs.Waits.{IsBlockedAtQueueBelow};
 
 use crate::passed::{PassedOver, told_after};
 use crate::plain_machine::PlainMachine;
 use fx_fiber::Report;
-use fx_report::Wait;
+use fx_report::Blocked;
 use fx_term::{CodeBrand, Memory};
 use fx_text::{Pick, Script};
 use std::alloc::Global;
 use std::marker::Brand;
 
 /// What there is once no fiber of a run can step any more: the report, what each fiber waits for that is
-/// blocked, in the report's order, and what is told of the picks that were passed over.
+/// blocked and where it stands, in the report's order, and what is told of the picks that were passed over.
 #[derive(Drop)]
 pub struct Halt {
     pub report: Report,
-    pub waits: Vec<Wait>,
+    pub blocked: Vec<Blocked>,
     pub passed: Option<PassedOver>,
 }
 
@@ -38,15 +38,15 @@ fn replay_named<J: CodeBrand>(
     picks: &[Pick],
 ) -> Result<Halt, Memory>
     requires code { script.now.code.nodes ≡ J.nodes }
-    ensures replayed { IfOk result (λ halt. IsReplayWithWaits (script_of (meaning script.now))
-        picks.now halt.report halt.waits.items) }
+    ensures replayed { IfOk result (λ halt. IsReplayWithBlocked script.now.code.nodes
+        (script_of (meaning script.now)) picks.now halt.report halt.blocked.items) }
     ensures promised { IfOk result
         (λ halt. KeepsWhatIsPromised (script_of (meaning script.now)) (λ f. true) halt.report) }
     ensures writable { script.now.code.queues ≤ length script.now.queues.items
         → IfOk result (λ halt. IsWritable (queue_names (meaning script.now)) halt.report) }
     ensures named { script.now.code.queues ≤ length script.now.queues.items
-        → IfOk result (λ halt. All (WaitsAtQueueBelow (length (queue_names (meaning script.now))))
-        halt.waits.items) }
+        → IfOk result (λ halt. All
+        (IsBlockedAtQueueBelow (length (queue_names (meaning script.now)))) halt.blocked.items) }
     ensures passed { IfOk result
         (λ halt. TellsPassed (script_of (meaning script.now)) picks.now halt.passed) }
     ensures passed_named { script.now.code.queues ≤ length script.now.queues.items
@@ -61,27 +61,28 @@ fn replay_named<J: CodeBrand>(
     }
     machine.run_to_halt(&script.code)?;
     let waits = machine.waits(alloc, &script.code)?;
+    let blocked = machine.all_blocked(alloc, &script.code, &waits)?;
     let report = machine.into_report(alloc)?;
     Ok(Halt {
         report,
-        waits,
+        blocked,
         passed,
     })
 }
 
-/// The report of the run that the picks choose, as [`replay`] gives it, what its blocked fibers wait for,
-/// and what is told of the picks that were passed over. The writers take all three where the code names no
-/// queue that is not declared.
+/// The report of the run that the picks choose, as [`replay`] gives it, what its blocked fibers wait for
+/// and where they stand, and what is told of the picks that were passed over. The writers take all three
+/// where the code names no queue that is not declared.
 pub fn replay_to_halt(alloc: Global, script: &Script, picks: &[Pick]) -> Result<Halt, Memory>
-    ensures replayed { IfOk result (λ halt. IsReplayWithWaits (script_of (meaning script.now))
-        picks.now halt.report halt.waits.items) }
+    ensures replayed { IfOk result (λ halt. IsReplayWithBlocked script.now.code.nodes
+        (script_of (meaning script.now)) picks.now halt.report halt.blocked.items) }
     ensures promised { IfOk result
         (λ halt. KeepsWhatIsPromised (script_of (meaning script.now)) (λ f. true) halt.report) }
     ensures writable { script.now.code.queues ≤ length script.now.queues.items
         → IfOk result (λ halt. IsWritable (queue_names (meaning script.now)) halt.report) }
     ensures named { script.now.code.queues ≤ length script.now.queues.items
-        → IfOk result (λ halt. All (WaitsAtQueueBelow (length (queue_names (meaning script.now))))
-        halt.waits.items) }
+        → IfOk result (λ halt. All
+        (IsBlockedAtQueueBelow (length (queue_names (meaning script.now)))) halt.blocked.items) }
     ensures passed { IfOk result
         (λ halt. TellsPassed (script_of (meaning script.now)) picks.now halt.passed) }
     ensures passed_named { script.now.code.queues ≤ length script.now.queues.items

@@ -18,6 +18,7 @@ ghost use Rattle.fx_plain.specs.Started.{wait_of};
 ghost use Rattle.fx_plain.specs.declared.plain_machine.Next.TheVariants.{Step};
 ghost use Rattle.fx_report.specs.Script.{script_of};
 
+mod standing;
 mod telling;
 
 use crate::passed::Why;

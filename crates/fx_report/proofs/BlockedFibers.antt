@@ -1,7 +1,8 @@
 -- The fibers that a report has as blocked, and what they wait for.
-use Rattle.std.proofs.Common.{◌≡◌, ℕ, Bool, Option, Some, option_map, List, ◌∷◌, map, sym, ap}
+use Rattle.std.proofs.Common.{◌≡◌, ℕ, Bool, Option, Some, option_map, List, [], ◌∷◌, ◌++◌, map, All, refl, sym, ap}
 use Rattle.std.specs.Prelude.{not, option_and_then}
 use Rattle.std.specs.List.{filter, cons_option}
+use Rattle.std.proofs.lemmas.List.Elements.{All-nil, All-cons, All-head, All-tail}
 use Rattle.std.proofs.lemmas.Option.{none-some, same_Some}
 use Rattle.fx_term.specs.declared.node.Arg.TheVariants.{Number}
 use Rattle.fx_term.specs.QueuesNamed.{NamesQueuesBelow}
@@ -15,7 +16,8 @@ use Rattle.fx_model.specs.Report.{FiberReportView}
 use Rattle.fx_model.proofs.QueueNames.{ProgressNamesBelow}
 use Rattle.fx_model.proofs.BlockedFibers.{HasEndedOrWaits, ends, waits_for}
 use Rattle.fx_report.specs.declared.wait.Wait.{Wait}
-use Rattle.fx_report.specs.Waits.{IsAtQueueBelow}
+use Rattle.fx_report.specs.declared.blocked.Blocked.{Blocked}
+use Rattle.fx_report.specs.Waits.{IsAtQueueBelow, waits_in}
 
 abbrev is_blocked : FiberReportView → Bool
 is_blocked x = not x.has_ended
@@ -35,6 +37,18 @@ pub one_blocked : (f : ℕ) (x : FiberReportView) (source : Option Source) (wait
     → fibers_of (cons_option (option_map (wait_from f) source) waits) ≡ blocked_of (x ∷ xs)
 one_blocked f x source waits xs id (ends none ended) e = rw (none, ended) e
 one_blocked f x source waits xs id (waits_for w some goes) e = rw (some, goes, id) (ap (λ (fs : List ℕ). f ∷ fs) e)
+
+-- those who wait, with one more
+pub waits_append : (blocked : List Blocked) (b : Blocked) → waits_in (blocked ++ b ∷ []) ≡ waits_in blocked ++ b.wait ∷ []
+waits_append [] b = refl
+waits_append (x ∷ blocked) b = ap (λ (ws : List Wait). x.wait ∷ ws) (waits_append blocked b)
+
+-- what is said of all waits is said of those who wait
+pub each_wait : (Holds : Wait → Type 0) (blocked : List Blocked) → All Holds (waits_in blocked) → All (λ (b : Blocked). Holds b.wait) blocked
+each_wait Holds [] h = All-nil (λ (b : Blocked). Holds b.wait)
+each_wait Holds (b ∷ blocked) h =
+    All-cons (λ (b : Blocked). Holds b.wait) b blocked (All-head Holds b.wait (waits_in blocked) h)
+    (each_wait Holds blocked (All-tail Holds b.wait (waits_in blocked) h))
 
 -- what a fiber waits for is at no queue but those that its term names
 module _ (n : ℕ) where

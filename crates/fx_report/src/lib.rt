@@ -8,7 +8,8 @@
 //! | report | a fiber, with how it is at the end; then a queue, with what is left in it |
 //! | traces | an event of a fiber, with its stamp; fiber by fiber |
 //!
-//! Beside them there is a line for people for each blocked fiber, with what it waits for ([`Wait`]).
+//! Beside them there is a line for people for each blocked fiber, with where it stands and what it waits for
+//! ([`Blocked`]).
 //!
 //! The text of a script has one answer, a status and a printed text, or a fault and none:
 //!
@@ -34,6 +35,7 @@
 
 mod answer;
 mod answer_fault;
+mod blocked;
 mod input;
 pub mod laws;
 mod lines;
@@ -47,6 +49,7 @@ mod write;
 
 pub use answer::Answer;
 pub use answer_fault::AnswerFault;
+pub use blocked::Blocked;
 pub use input::{MOST_OF_SCRIPT, read_text};
 pub use lines::push_event;
 pub use out_fault::OutFault;

@@ -49,7 +49,7 @@ fn tell(told: &mut Vec<Told>, made: Option<MadeStep>) -> Result<(), Memory>
 
 impl<J: CodeBrand> PlainMachine<J> {
     /// How this fiber stands.
-    fn before_step(&self, code: &Code, fiber: u32) -> BeforeStep
+    pub(super) fn before_step(&self, code: &Code, fiber: u32) -> BeforeStep
         requires { code.now.nodes ≡ J.nodes }
         ensures { IsBeforeStepAt J.nodes (slice_index_or self.now.fibers.items fiber None) result }
     {
