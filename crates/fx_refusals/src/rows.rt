@@ -98,7 +98,7 @@ static OF_TWO: [Line; 2] = [
 ];
 
 /// Those of each worked script.
-static OF_WORKED: [Line; 15] = [
+static OF_WORKED: [Line; 16] = [
     ("parse", "", Row::Text(texts::Of::Parse)),
     (
         "PlainWorld::new",
@@ -125,6 +125,11 @@ static OF_WORKED: [Line; 15] = [
         "Fiber::step over PlainPort",
         "",
         Row::OnScript(OnScript::Plain(fibers::Of::Steps(Part::Step))),
+    ),
+    (
+        "Fiber::burst over PlainPort",
+        "",
+        Row::OnScript(OnScript::Plain(fibers::Of::Steps(Part::Burst))),
     ),
     (
         "gated_turn over PlainPort",
@@ -160,16 +165,6 @@ static OF_WORKED: [Line; 15] = [
     ("run by 4", "", Row::OnScript(OnScript::Run(4))),
 ];
 
-/// That of the bursts of its fibers.
-static OF_BURSTS: [Line; 1] = [(
-    "Fiber::burst over PlainPort",
-    "",
-    Row::OnScript(OnScript::Plain(fibers::Of::Steps(Part::Burst))),
-)];
-
-/// The script of which no burst makes a request.
-const WITHOUT_BURST: &str = "mask";
-
 /// Tries all rows.
 pub fn all<R: Print + Wait + Threads + Sync + RandomSource + AllocGlobal + Drop>(
     tally: &mut Tally<R>,
@@ -191,9 +186,6 @@ fn of_worked<R: Print + Wait + Threads + Sync + RandomSource + AllocGlobal + Dro
     worked: &Worked,
 ) {
     listed(tally, &OF_WORKED, worked);
-    if worked.name != WITHOUT_BURST {
-        listed(tally, &OF_BURSTS, worked);
-    }
     for said in &WORDS {
         row(tally, said.words, worked.name, Row::Command(said), worked);
     }

@@ -75,11 +75,12 @@ pub static WORKED: [Worked; 10] = [
     },
     Worked {
         name: "race",
-        text: "(main (race (never) (pure 8)))",
+        text: "(main (race (oncancel (never) (bracket y (pure 1) (pure 2) (pure 0))) (pure 8)))",
         counts: "fibers 3 queues 0\n",
         report: "fiber 0 succeeded 8\nfiber 1 canceled\nfiber 2 succeeded 8\n",
-        traces: "0 1 start 1\n0 2 start 2\n0 4 first 1\n0 5 joined 2 succeeded 8\n0 6 request 1\n0 10 awaited 1\n\
-            0 11 ended succeeded 8\n1 7 seen\n1 8 cancelled\n1 9 ended canceled\n2 3 ended succeeded 8\n",
+        traces: "0 1 start 1\n0 2 start 2\n0 4 first 1\n0 5 joined 2 succeeded 8\n0 6 request 1\n0 13 awaited 1\n\
+            0 14 ended succeeded 8\n1 7 seen\n1 8 cancelled\n1 9 acquired 0\n1 10 begin 0\n1 11 end 0\n1 12 ended canceled\n\
+            2 3 ended succeeded 8\n",
     },
     Worked {
         name: "masks",
@@ -90,20 +91,22 @@ pub static WORKED: [Worked; 10] = [
     },
     Worked {
         name: "cancel",
-        text: "(main (start h (never) (seq (cancel h) (join h (x (pure 1)) (e (pure 2)) (pure 3)))))",
+        text: "(main (start h (oncancel (never) (bracket y (pure 1) (pure 2) (pure 0))) \
+            (seq (cancel h) (join h (x (pure 1)) (e (pure 2)) (pure 3)))))",
         counts: "fibers 2 queues 0\n",
         report: "fiber 0 succeeded 3\nfiber 1 canceled\n",
-        traces: "0 1 start 1\n0 2 request 1\n0 6 awaited 1\n0 7 joined 1 canceled\n0 8 ended succeeded 3\n1 3 seen\n\
-            1 4 cancelled\n1 5 ended canceled\n",
+        traces: "0 1 start 1\n0 2 request 1\n0 9 awaited 1\n0 10 joined 1 canceled\n0 11 ended succeeded 3\n1 3 seen\n\
+            1 4 cancelled\n1 5 acquired 0\n1 6 begin 0\n1 7 end 0\n1 8 ended canceled\n",
     },
     Worked {
         name: "wake",
-        text: "(queue q 1) (main (start a (take q) (start b (take q) \
+        text: "(queue q 1) (main (start a (oncancel (take q) (bracket y (pure 1) (pure 2) (pure 0))) (start b (take q) \
             (seq (cancel a) (offer q 3) (join b (x (pure x)) (e (pure 0)) (pure 1))))))",
         counts: "fibers 3 queues 1\n",
         report: "fiber 0 succeeded 3\nfiber 1 canceled\nfiber 2 succeeded 3\nqueue q left\n",
-        traces: "0 1 start 1\n0 2 start 2\n0 3 request 1\n0 7 awaited 1\n0 8 put q 3\n0 11 joined 2 succeeded 3\n\
-            0 12 ended succeeded 3\n1 4 seen\n1 5 cancelled\n1 6 ended canceled\n2 9 got q 3\n2 10 ended succeeded 3\n",
+        traces: "0 1 start 1\n0 2 start 2\n0 3 request 1\n0 10 awaited 1\n0 11 put q 3\n0 14 joined 2 succeeded 3\n\
+            0 15 ended succeeded 3\n1 4 seen\n1 5 cancelled\n1 6 acquired 0\n1 7 begin 0\n1 8 end 0\n1 9 ended canceled\n\
+            2 12 got q 3\n2 13 ended succeeded 3\n",
     },
     Worked {
         name: "names",
@@ -114,11 +117,12 @@ pub static WORKED: [Worked; 10] = [
     },
     Worked {
         name: "mask",
-        text: "(main (mask p (start h (never) (seq (cancel h) (pure 6)))))",
+        text: "(main (mask p (start h (oncancel (never) (bracket y (pure 1) (pure 2) (pure 0))) \
+            (seq (cancel h) (pure 6)))))",
         counts: "fibers 2 queues 0\n",
         report: "fiber 0 succeeded 6\nfiber 1 canceled\n",
-        traces: "0 1 start 1\n0 2 request 1\n0 6 awaited 1\n0 7 ended succeeded 6\n1 3 seen\n1 4 cancelled\n\
-            1 5 ended canceled\n",
+        traces: "0 1 start 1\n0 2 request 1\n0 9 awaited 1\n0 10 ended succeeded 6\n1 3 seen\n1 4 cancelled\n\
+            1 5 acquired 0\n1 6 begin 0\n1 7 end 0\n1 8 ended canceled\n",
     },
     Worked {
         name: "tries",
@@ -130,10 +134,11 @@ pub static WORKED: [Worked; 10] = [
     },
     Worked {
         name: "shared",
-        text: "(queue q 1) (main (start h (never) (let r (tryoffer q 1) (seq (cancel h) (pure r)))))",
+        text: "(queue q 1) (main (start h (oncancel (never) (bracket y (pure 1) (pure 2) (pure 0))) \
+            (let r (tryoffer q 1) (seq (cancel h) (pure r)))))",
         counts: "fibers 2 queues 1\n",
         report: "fiber 0 succeeded 1\nfiber 1 canceled\nqueue q left 1\n",
-        traces: "0 1 start 1\n0 2 put q 1\n0 3 request 1\n0 7 awaited 1\n0 8 ended succeeded 1\n1 4 seen\n1 5 cancelled\n\
-            1 6 ended canceled\n",
+        traces: "0 1 start 1\n0 2 put q 1\n0 3 request 1\n0 10 awaited 1\n0 11 ended succeeded 1\n1 4 seen\n1 5 cancelled\n\
+            1 6 acquired 0\n1 7 begin 0\n1 8 end 0\n1 9 ended canceled\n",
     },
 ];
