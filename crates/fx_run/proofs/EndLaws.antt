@@ -1,5 +1,5 @@
 -- What the fibers of a run left is all that its end asks for.
-use Rattle.std.proofs.Common.{◌≡◌, ℕ, ◌<◌, ◌≤◌, All, Bool, true, Some, None, List, [], ◌∷◌, length, map, slice_get, zero, suc}
+use Rattle.std.proofs.Common.{◌≡◌, ℕ, ◌<◌, ◌≤◌, All, Bool, Some, None, List, [], ◌∷◌, length, map, slice_get, zero, suc}
 use Rattle.std.proofs.Common.{refl, sym, ◌∙◌, ap, subst, inl, inr, arith}
 use Rattle.std.specs.Prelude.{◌==◌, slice_index, slice_index_or}
 use Rattle.std.proofs.lemmas.Option.{same_Some}
@@ -8,13 +8,9 @@ use Rattle.fx_term.specs.Lists.{Among}
 use Rattle.fx_term.specs.declared.node.Node.{Node}
 use Rattle.fx_term.specs.declared.item.Item.{Item}
 use Rattle.fx_term.specs.Meaning.{root_term}
-use Rattle.fx_term.specs.QueuesNamed.{NamesQueuesBelow}
 use Rattle.fx_term.specs.Script.{ScriptView, total}
-use Rattle.fx_model.specs.Scopes.{IsScopedOver}
 use Rattle.fx_model.specs.Report.{ReportView, capacity_of}
 use Rattle.fx_fiber.specs.Bare.{BareView}
-use Rattle.fx_report.specs.declared.wait.Wait.{Wait}
-use Rattle.fx_report.specs.Waits.{WaitsAtQueueBelow}
 use Rattle.fx_word.specs.Words as word
 use Rattle.fx_word.specs.SeatView as seat
 use Rattle.fx_queue.specs.PassView as queue
@@ -30,8 +26,6 @@ use Rattle.fx_run.specs.Gathered.{AreGathered, AreEntries, ArePasses, IsGathered
 use Rattle.fx_run.specs.Reported.{RanCode, AreAscending, report_of, NoneIsLost, IsReported}
 use Rattle.fx_run.specs.EndOfRun.{AreNoted, QueueEnd, IsUntouched, EndsWithReport}
 use Rattle.fx_run.specs.Closing.{AreMarked, IsReportOf}
-use Rattle.fx_run.specs.RunWaits.{IsLawfulWithWaits, all_waits}
-use Rattle.fx_run.proofs.RunWaits.{end_waits, end_waits_named}
 use Rattle.fx_run.proofs.Members.{all_among, found_is}
 use Rattle.fx_run.proofs.Apart.{parted_of}
 use Rattle.fx_run.proofs.WholeEntries.{seat_is_whole, pass_is_whole}
@@ -187,14 +181,7 @@ module _ (nodes : List Node) (words : word.WordsId) (queues : List QueueId) (g :
       unfolding ends_so
       ended_fibers may allowed settled late answer r = refl
 
-      -- and what its blocked fibers wait for, at queues that the script's term names
-      module _ (may : ℕ → Bool) (allowed : AreAllowed may g.noted) (settled : seat.IsSettled g.seat.view) (late : ℕ) (answer : ReportView)
-          (r : IsReportOf s g late answer) (scoped : IsScopedOver (λ f. true) s.term) (waits : List Wait) (are : waits ≡ all_waits g.bares.items) where
-        pub waits_so : IsLawfulWithWaits s may answer waits
-        unfolding ends_so
-        waits_so = end_waits s may answer (ends_so may allowed settled late answer r) scoped waits (are ∙ ap all_waits (sym bares_same))
-
-        pub waits_named_so : (n : ℕ) → NamesQueuesBelow n s.term → All (WaitsAtQueueBelow n) waits
-        unfolding ends_so
-        waits_named_so n names =
-            end_waits_named s may answer (ends_so may allowed settled late answer r) scoped n names waits (are ∙ ap all_waits (sym bares_same))
+      pub ended_nodes : (may : ℕ → Bool) (allowed : AreAllowed may g.noted) (settled : seat.IsSettled g.seat.view) (late : ℕ) (answer : ReportView)
+          (r : IsReportOf s g late answer) → (ends_so may allowed settled late answer r).nodes ≡ nodes
+      unfolding ends_so
+      ended_nodes may allowed settled late answer r = refl

@@ -17,12 +17,13 @@ use Rattle.fx_term.specs.Queue.{empty_queue, cut, replayed, queue_events, AreAli
 use Rattle.fx_model.specs.Row.{Label, Silent, Shows, Learns, Starts}
 use Rattle.fx_model.specs.Origin.{main_begin_of}
 use Rattle.fx_model.specs.Run.{events, shown}
-use Rattle.fx_model.specs.Report.{FiberReportView, ReportView, fiber_in, trace_in, capacity_of}
+use Rattle.fx_model.specs.Report.{ReportView, trace_in, capacity_of}
 use Rattle.fx_model.specs.LawfulReport.{IsLawfulReport}
-use Rattle.fx_model.specs.Stamps.{HasNoCause, IsLawfulWithStamps}
+use Rattle.fx_model.specs.Causes.{LeavesQueue}
+use Rattle.fx_model.specs.Stamps.{HasNoCause, IsStamped, IsBelowTop, IsOrderedByStamps}
 use Rattle.fx_model.specs.StampedQueue.{IsStampedHistory, stamped}
 use Rattle.fx_model.specs.KeptStamps.{number_in}
-use Rattle.fx_model.specs.ReportStamps.{stamps_of_report, stamps_in, stamp_in, IsStampedReport}
+use Rattle.fx_model.specs.ReportStamps.{stamps_of_report, stamps_in, stamp_in}
 use Rattle.fx_model.specs.ToldStamps.{OwnStamps, StampsEntry, Requests, EntryAgrees, ClosedStamps, AreTold}
 use Rattle.fx_model.proofs.StepLabels.{IsProper}
 use Rattle.fx_model.proofs.ShownLabels.{shown_events, shown_length, shown_holds}
@@ -31,7 +32,7 @@ use Rattle.fx_model.proofs.ToldStamps.{told_is_stamped}
 use Rattle.fx_model.proofs.StampedReports.{ordered_by_stamps}
 use Rattle.fx_fiber.specs.Deed.{Deed, Started, Requested, Saw, Put, Got, FoundFull, FoundEmpty, FoundEnded, Ended, deeds_of_event, AreDeedsOf}
 use Rattle.fx_fiber.specs.StampedDeed.{StampedDeed, stamped_deed, deeds_of, number_of, BeginsWith, AreNumbered}
-use Rattle.fx_fiber.specs.Bare.{BareView, reached}
+use Rattle.fx_fiber.specs.Bare.{reached}
 use Rattle.fx_fiber.proofs.StampedPlaces.{each_stamp, At, at, done_at, as_many_stamps}
 use Rattle.fx_fiber.proofs.QueueNumbers.{one_deed, numbers_told, nothing_there, cut_alike}
 use Rattle.fx_word.specs.declared.entry.Entry.{Entry}
@@ -39,13 +40,15 @@ use Rattle.fx_queue.specs.declared.entry.Entry as pass
 use Rattle.fx_queue.specs.PassView as queue
 use Rattle.fx_port.specs.PortView.{beginning_in}
 use Rattle.fx_run.specs.Parted.{Parted, bares_of, parted_at}
-use Rattle.fx_run.specs.Reported.{RanCode, AreAscending, report_of_bare, NoneIsLost, NoneIsUnsettled}
+use Rattle.fx_run.specs.Reported.{RanCode, AreAscending, NoneIsLost, NoneIsUnsettled}
 use Rattle.fx_run.specs.EndOfRun.{AreNamed, AreNoted, WordsEnd, QueueEnd, IsUntouched, EndsWithReport}
+use Rattle.fx_run.specs.LawfulRun.{HasStamps}
 use Rattle.fx_run.proofs.GivenFibers.{id_at, report_in, report_nowhere}
 use Rattle.fx_run.proofs.Gathering.{gathered_of, whose}
 use Rattle.fx_run.proofs.WholeEntries.{number_at, pass_number_at, main_is_given, started_is_given, part_in_trace}
 use Rattle.fx_run.proofs.Starters.{its_code, in_seat, entry_of, none_before_main}
 use Rattle.fx_run.proofs.Lawful.{labels_at, told, trace_at, trace_nowhere, acts_told, report_is_lawful, labels_told, HistoryOf, of_close, of_none, history_of}
+use Rattle.fx_run.proofs.EndedRun.{end_report, end_is_lawful}
 
 -- members of a list that was mapped
 among_mapped : {A B : Type 0} (h : A → B) (xs : List A) (y : B) → Among y (map h xs) → (x : A) × Among x xs × (y ≡ h x)
@@ -437,19 +440,6 @@ module _ (s : ScriptView) (nodes : List Node) (ps : List Parted) (left : List (L
           (history_of s nodes ps left outside late ran ascending lost words unsettled term noted_outside may named by_queue queues undeclared q);
     }
 
-    -- so these are stamps of the definition, and put the events in one order
-    with_stamps : IsLawfulWithStamps s may report stamp_at
-    with_stamps =
-        let are = told_is_stamped s may report lawful (λ f. entry_by (parted_at ps f)) stamp_at cause_at all_told in
-        record {
-          lawful = lawful;
-          began = λ f. (entry_by (parted_at ps f)).began;
-          cause = cause_at;
-          are = are;
-          ordered = ordered_by_stamps s may report lawful
-              (record { began = λ f. (entry_by (parted_at ps f)).began; stamp = stamp_at; cause = cause_at; are = are });
-        }
-
     -- they are those that the report tells
     stamps_told : (f : ℕ) (o : Option Parted) → parted_at ps f ≡ o → stamps_of_parted o ≡ stamps_in report f
     stamps_told f None e = sym (ap stamps_of_report (report_nowhere ps left outside late f e))
@@ -468,15 +458,25 @@ module _ (s : ScriptView) (nodes : List Node) (ps : List Parted) (left : List (L
         ∙ shown_length p.lawful.labels ∙ ap length p.lawful.traced
         ∙ sym (ap length (trace_at s nodes ps left outside late ran ascending lost words f p e))
 
-    report_is_stamped : IsStampedReport s may report
-    report_is_stamped = record {
-      one_each = λ f. one_each f (parted_at ps f) refl;
-      stamped = subst (IsLawfulWithStamps s may report) stamps_same with_stamps;
-    }
+    -- so these are stamps of the definition, and put the events in one order
+    has_stamps : HasStamps s may report lawful
+    has_stamps =
+        let began : ℕ → ℕ = λ f. (entry_by (parted_at ps f)).began in
+        let are = told_is_stamped s may report lawful (λ f. entry_by (parted_at ps f)) stamp_at cause_at all_told in
+        let labels = lawful.runs.labels in
+        record {
+          one_each = λ f. one_each f (parted_at ps f) refl;
+          began = began;
+          cause = cause_at;
+          are = subst (λ (stamp : ℕ → ℕ → ℕ). IsStamped (trace_in report) labels (LeavesQueue s may report lawful) (Contains outside) began stamp cause_at)
+              stamps_same are;
+          ordered = subst (λ (stamp : ℕ → ℕ → ℕ). IsBelowTop (trace_in report) stamp → IsOrderedByStamps s may report lawful stamp) stamps_same
+              (ordered_by_stamps s may report lawful (record { began = began; stamp = stamp_at; cause = cause_at; are = are }));
+        }
 
 -- the report of a run that has ended has the stamps of the definition
-pub end_is_stamped : (s : ScriptView) (may : ℕ → Bool) (r : ReportView) → EndsWithReport s may r → IsStampedReport s may r
-end_is_stamped s may r h =
-    subst (IsStampedReport s may) (sym h.answered.is)
-    (report_is_stamped s h.nodes h.fibers h.left h.outside h.late h.ran h.ascending h.answered.none_lost h.words h.answered.none_unsettled
-    h.term h.noted may h.named h.left_by_queue h.queues h.undeclared)
+module _ (s : ScriptView) (may : ℕ → Bool) (answer : ReportView) (h : EndsWithReport s may answer) where
+  pub end_has_stamps : HasStamps s may (end_report s may answer h) (end_is_lawful s may answer h)
+  end_has_stamps =
+      has_stamps s h.nodes h.fibers h.left h.outside h.late h.ran h.ascending h.answered.none_lost h.words h.answered.none_unsettled
+      h.term h.noted may h.named h.left_by_queue h.queues h.undeclared

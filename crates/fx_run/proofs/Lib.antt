@@ -9,6 +9,7 @@ pub mod Gathering
 pub mod GatheredLaws
 pub mod WholeEntries
 pub mod MarkedNumbers
+pub mod EndedRun
 pub mod EndLaws
 pub mod Declared
 pub mod CloseFaults
@@ -16,10 +17,10 @@ pub mod TracedDeeds
 pub mod FoundPasses
 pub mod RefusalLaws
 pub mod EndStamps
-pub mod StampLaws
 pub mod Starters
 pub mod Lawful
 pub mod RunWaits
+pub mod LawfulRuns
 pub mod Answered
 pub mod Agreeing
 pub mod AgreeingStamps

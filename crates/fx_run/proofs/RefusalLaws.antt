@@ -1,43 +1,35 @@
 -- Where the trace of a fiber tells of a refusal, its queue was full, or empty.
-use Rattle.std.proofs.Common.{◌≡◌, ℕ, ◌<◌, ◌≤◌, Bool, Option, Some, None, List, [], ◌∷◌, ◌++◌, length, map, refl, sym, ◌∙◌, ap, subst}
+use Rattle.std.proofs.Common.{◌≡◌, ℕ, ◌<◌, ◌≤◌, Bool, Option, Some, None, List, [], ◌∷◌, ◌++◌, length, refl, sym, ◌∙◌, ap, subst}
 use Rattle.std.proofs.Common.{inl, inr, ◌⊎◌, arith, append-nil}
 use Rattle.std.specs.Prelude.{if◌then◌else◌}
 use Rattle.std.proofs.lemmas.Bool.{eq-eqb, cases_lt}
 use Rattle.std.proofs.lemmas.List.Elements.{filter_map-append}
 use Rattle.fx_term.specs.Lists.{Among}
-use Rattle.fx_term.specs.declared.node.Node.{Node}
 use Rattle.fx_term.specs.declared.event.Event.{Event}
 use Rattle.fx_term.specs.declared.event.Event.TheVariants as event
 use Rattle.fx_term.specs.declared.queue_event.QueueEvent.{QueueEvent}
-use Rattle.fx_term.specs.Meaning.{root_term}
 use Rattle.fx_term.specs.Queue.{queue_event, queue_events, cut}
-use Rattle.fx_term.specs.Script.{ScriptView, total}
+use Rattle.fx_term.specs.Script.{ScriptView}
 use Rattle.fx_model.specs.Report.{FiberReportView, ReportView, fiber_in, parent_in, parent_of_report}
 use Rattle.fx_model.specs.LawfulReport.{is_start_of, starts_of, is_parent, HasStarters, IsLawfulReport}
-use Rattle.fx_word.specs.Words as word
-use Rattle.fx_word.specs.SeatView as seat
 use Rattle.fx_queue.specs.History.{Begins}
-use Rattle.fx_queue.specs.Queues.{QueueId}
 use Rattle.fx_queue.specs.PassView as queue
 use Rattle.fx_queue.proofs.Histories.{cut-append, Begins-trans}
 use Rattle.fx_fiber.specs.StampedDeed.{deeds_of}
-use Rattle.fx_run.specs.declared.gathered.Gathered.{Gathered}
-use Rattle.fx_run.specs.Gathered.{IsGathered, AreAllowed}
 use Rattle.fx_run.specs.Parted.{Parted, bares_of, parted_at}
-use Rattle.fx_run.specs.Reported.{AreAscending, NoneIsLost, report_of_bare}
+use Rattle.fx_run.specs.Reported.{report_of_bare}
 use Rattle.fx_run.specs.EndOfRun.{EndsWithReport}
-use Rattle.fx_run.specs.Closing.{IsReportOf}
 use Rattle.fx_run.specs.Ancestors.{ComesFrom, started, through}
-use Rattle.fx_run.specs.Refusals.{IsOnlyFiber, AreRefusalsTrue, IsLawfulWithRefusals}
+use Rattle.fx_run.specs.Refusals.{IsOnlyFiber, AreRefusalsTrue}
 use Rattle.fx_run.proofs.Members.{any_among}
-use Rattle.fx_run.proofs.GivenFibers.{id_at, report, report_in, of_report}
+use Rattle.fx_run.proofs.GivenFibers.{id_at, report_in, of_report}
 use Rattle.fx_run.proofs.Gathering.{gathered_of}
 use Rattle.fx_run.proofs.WholeEntries.{part_in_trace, pass_number_at}
 use Rattle.fx_run.proofs.Starters.{starts_some}
-use Rattle.fx_run.proofs.Lawful.{report_is_lawful, history_goes_on}
-use Rattle.fx_run.proofs.EndLaws.{ends_so, ended_fibers}
+use Rattle.fx_run.proofs.Lawful.{history_goes_on}
+use Rattle.fx_run.proofs.EndedRun.{end_report, end_is_lawful}
 use Rattle.fx_run.proofs.QueueDeeds.{queue_done}
-use Rattle.fx_run.proofs.FoundPasses.{none_before, AllFound, all_found, AllHanded, all_handed}
+use Rattle.fx_run.proofs.FoundPasses.{none_before, AllFound, AllHanded}
 
 -- nobody starts a fiber in a report of one
 module _ (r : ReportView) (starters : HasStarters r) (f : ℕ) (only : IsOnlyFiber r f) where
@@ -69,12 +61,10 @@ module _ (s : ScriptView) (may : ℕ → Bool) (answer : ReportView) (h : EndsWi
   ps = h.fibers
 
   abbrev told : ReportView
-  told = report ps h.left h.outside h.late
+  told = end_report s may answer h
 
   abbrev lawful : IsLawfulReport s may told
-  lawful =
-      report_is_lawful s h.nodes ps h.left h.outside h.late h.ran h.ascending h.answered.none_lost h.words h.answered.none_unsettled
-      h.term h.noted may h.named h.left_by_queue h.queues h.undeclared
+  lawful = end_is_lawful s may answer h
 
   goes_on : (q f : ℕ) (p : Parted) → q < length s.capacities → parted_at ps f ≡ Some p → Begins (lawful.histories q).history (p.passes q).seen
   goes_on =
@@ -167,8 +157,8 @@ module _ (s : ScriptView) (may : ℕ → Bool) (answer : ReportView) (h : EndsWi
   ancestors_by q f p at seen begun (inr le) g earlier line =
       (cut g seen, ap (λ l. l ++ cut g seen) (sym (comes_after_nothing q le f g earlier line)))
 
-  told_refusals : AreRefusalsTrue s may told lawful
-  told_refusals f x at k q before after is =
+  pub end_refusals : AreRefusalsTrue s may told lawful
+  end_refusals f x at k q before after is =
       let o = of_report ps h.left h.outside h.late f x at in
       let w = all f o.fiber o.at k q before after (ap (λ (y : FiberReportView). y.trace) (sym o.is) ∙ is) in
       record {
@@ -185,20 +175,3 @@ module _ (s : ScriptView) (may : ℕ → Bool) (answer : ReportView) (h : EndsWi
         within = w.within;
         alone = λ only. w.lone (is_main told lawful.starters f only) (no_parts q f o.fiber o.at only);
       }
-
-  pub end_refusals : IsLawfulWithRefusals s may answer
-  end_refusals =
-      subst (IsLawfulWithRefusals s may) (sym h.answered.is) (record { lawful = lawful; refusals = told_refusals })
-
--- and so it is where a run is closed
-module _ (nodes : List Node) (words : word.WordsId) (queues : List QueueId) (g : Gathered) (h : IsGathered nodes words queues g)
-    (lost : NoneIsLost g.bares.items) (ascending : AreAscending g.bares.items) (s : ScriptView) (term : s.term ≡ root_term nodes)
-    (fibers : words.fibers ≡ total s) (capacities : map (λ (i : QueueId). i.cap) queues ≡ s.capacities) where
-  pub refusals_true : (may : ℕ → Bool) → AreAllowed may g.noted → seat.IsSettled g.seat.view → (late : ℕ) (answer : ReportView) → IsReportOf s g late answer
-      → IsLawfulWithRefusals s may answer
-  refusals_true may allowed settled late answer r =
-      end_refusals s may answer (ends_so nodes words queues g h lost ascending s term fibers capacities may allowed settled late answer r)
-      (subst (AllFound s) (sym (ended_fibers nodes words queues g h lost ascending s term fibers capacities may allowed settled late answer r))
-      (all_found nodes words queues s fibers capacities g h))
-      (subst (AllHanded s) (sym (ended_fibers nodes words queues g h lost ascending s term fibers capacities may allowed settled late answer r))
-      (all_handed nodes words queues s capacities g h))

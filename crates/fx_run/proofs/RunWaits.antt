@@ -1,14 +1,17 @@
--- What the blocked fibers of a run that has ended wait for is told rightly.
+-- What the blocked fibers of a run that has ended wait for, and where they stand, is told rightly.
 use Rattle.std.proofs.Common.{◌≡◌, ℕ, ◌+◌, ◌<◌, Bool, true, Option, Some, None, List, [], ◌∷◌, ◌++◌, length, map, take, All, refl, sym, ◌∙◌, ap, subst}
-use Rattle.std.specs.Prelude.{option_map, slice_index_or}
+use Rattle.std.specs.Prelude.{MatchOption, option_map, slice_index_or}
 use Rattle.std.specs.List.{cons_option}
 use Rattle.std.proofs.lemmas.List.{take_more}
-use Rattle.std.proofs.lemmas.List.Elements.{All-nil, All-cons, All-head, All-tail, filter_map-append}
+use Rattle.std.proofs.lemmas.List.Elements.{All-nil, All-cons, All-head, All-tail, All-contains, filter_map-append}
+use Rattle.fx_term.specs.declared.node.Node.{Node}
+use Rattle.fx_term.specs.declared.node.NodeId.{NodeId}
 use Rattle.fx_term.specs.QueuesNamed.{NamesQueuesBelow}
 use Rattle.fx_term.specs.Script.{ScriptView}
+use Rattle.fx_term.specs.Term.{Term}
 use Rattle.fx_model.specs.Origin.{Origin}
 use Rattle.fx_model.specs.declared.source.Source.{Source}
-use Rattle.fx_model.specs.Step.{Progress, has_ended}
+use Rattle.fx_model.specs.Step.{Progress, has_ended, leaf_at}
 use Rattle.fx_model.specs.Scopes.{IsScopedOver}
 use Rattle.fx_model.specs.Report.{FiberReportView, ReportView, fiber_in}
 use Rattle.fx_model.specs.LawfulReport.{IsLawfulReport}
@@ -16,16 +19,18 @@ use Rattle.fx_model.proofs.HeadlineLaws.{each_begins_so}
 use Rattle.fx_model.proofs.QueueNames.{ProgressNamesBelow, run_starts_named, run_stays_named}
 use Rattle.fx_model.proofs.BlockedFibers.{source_at, HasEndedOrWaits, has_ended_or_waits}
 use Rattle.fx_fiber.specs.Bare.{BareView, reached}
+use Rattle.fx_fiber.specs.NodePlaces.{IsPlaceOf, HasNoNode}
+use Rattle.fx_report.specs.declared.blocked.Blocked.{Blocked}
 use Rattle.fx_report.specs.declared.wait.Wait.{Wait}
 use Rattle.fx_report.specs.Waits.{WaitsAtQueueBelow}
 use Rattle.fx_report.proofs.BlockedFibers.{fibers_of, blocked_of, wait_from, one_blocked, source_named}
 use Rattle.fx_report.proofs.Keys.{all_found}
-use Rattle.fx_run.specs.Parted.{Parted, bares_of, parted_at}
+use Rattle.fx_run.specs.Parted.{Parted, bares_of}
 use Rattle.fx_run.specs.Reported.{bare_at, report_of_bare}
 use Rattle.fx_run.specs.EndOfRun.{EndsWithReport}
-use Rattle.fx_run.specs.RunWaits.{AreWaitsAt, IsLawfulWithWaits, wait_of, all_waits}
-use Rattle.fx_run.proofs.GivenFibers.{report, report_in, of_bare, id_at}
-use Rattle.fx_run.proofs.Lawful.{report_is_lawful, progress_told}
+use Rattle.fx_run.specs.RunWaits.{AreWaitsAt, StandsAt, StandsAmong, wait_of, all_waits}
+use Rattle.fx_run.proofs.GivenFibers.{report_in, of_bare, id_at}
+use Rattle.fx_run.proofs.EndedRun.{end_report, end_is_lawful, end_progress}
 
 -- what a fiber more waits for
 pub one_more : (bares : List BareView) (k : ℕ) (x : BareView) → k < length bares → x ≡ slice_index_or bares k x
@@ -33,6 +38,13 @@ pub one_more : (bares : List BareView) (k : ℕ) (x : BareView) → k < length b
 one_more bares k x lt e =
     ap all_waits (take_more bares k x lt) ∙ filter_map-append wait_of (take k bares) (slice_index_or bares k x ∷ [])
     ∙ ap (λ (y : BareView). all_waits (take k bares) ++ cons_option (wait_of y) []) (sym e)
+
+-- a node with these numbers for its names is one with some
+with_some_numbers : (nodes : List Node) (numbers : List ℕ) (leaf : Option Term) (node : Option NodeId)
+    → MatchOption node (HasNoNode leaf) (IsPlaceOf nodes numbers leaf)
+    → MatchOption node (HasNoNode leaf) (λ id. (others : List ℕ) × IsPlaceOf nodes others leaf id)
+with_some_numbers nodes numbers leaf None h = h
+with_some_numbers nodes numbers leaf (Some id) h = (numbers, h)
 
 abbrev Stands : BareView → Type 0
 Stands x = HasEndedOrWaits (source_at (reached x)) (has_ended (reached x))
@@ -81,32 +93,25 @@ module _ (s : ScriptView) (may : ℕ → Bool) (answer : ReportView) (h : EndsWi
   ps = h.fibers
 
   abbrev told : ReportView
-  told = report ps h.left h.outside h.late
+  told = end_report s may answer h
 
   abbrev lawful : IsLawfulReport s may told
-  lawful =
-      report_is_lawful s h.nodes ps h.left h.outside h.late h.ran h.ascending h.answered.none_lost h.words h.answered.none_unsettled
-      h.term h.noted may h.named h.left_by_queue h.queues h.undeclared
+  lawful = end_is_lawful s may answer h
 
   abbrev reached_by : ℕ → Progress
   reached_by = lawful.runs.progress
-
-  far : (f : ℕ) (p : Parted) → parted_at ps f ≡ Some p → reached_by f ≡ reached p.bare
-  far =
-      progress_told s h.nodes ps h.left h.outside h.late h.ran h.ascending h.answered.none_lost h.words h.answered.none_unsettled
-      h.term h.noted may h.named h.left_by_queue h.queues h.undeclared
 
   is_at : (f : ℕ) (b : BareView) → bare_at (bares_of ps) f ≡ Some b → IsAt reached_by b
   is_at f b at =
       let o = of_bare ps f b at in
       let number : b.id ≡ f = ap (λ (x : BareView). x.id) o.is ∙ id_at ps f o.fiber o.at in
-      ap reached_by number ∙ far f o.fiber o.at ∙ ap reached (sym o.is)
+      ap reached_by number ∙ end_progress s may answer h f o.fiber o.at ∙ ap reached (sym o.is)
 
   stands : (f : ℕ) (b : BareView) → bare_at (bares_of ps) f ≡ Some b → Stands b
   stands f b at =
       let o = of_bare ps f b at in
       let there = has_ended_or_waits s may told scoped lawful f _ (report_in ps h.left h.outside h.late f o.fiber o.at) in
-      subst (λ (q : Progress). HasEndedOrWaits (source_at q) (has_ended q)) (far f o.fiber o.at ∙ ap reached (sym o.is)) there
+      subst (λ (q : Progress). HasEndedOrWaits (source_at q) (has_ended q)) (end_progress s may answer h f o.fiber o.at ∙ ap reached (sym o.is)) there
 
   -- what they wait for is at queues that the script's term names
   module _ (n : ℕ) (named : NamesQueuesBelow n s.term) where
@@ -119,7 +124,7 @@ module _ (s : ScriptView) (may : ℕ → Bool) (answer : ReportView) (h : EndsWi
         let there = report_in ps h.left h.outside h.late f o.fiber o.at in
         let runs = lawful.runs in
         let run = (runs.run f _ there).run in
-        subst (ProgressNamesBelow n) (far f o.fiber o.at ∙ ap reached (sym o.is))
+        subst (ProgressNamesBelow n) (end_progress s may answer h f o.fiber o.at ∙ ap reached (sym o.is))
         (run_stays_named n (runs.origin f) (runs.labels f) (runs.counts f) (runs.progress f) (begins_named f _ there) run)
 
     pub end_waits_named : (waits : List Wait) → waits ≡ all_waits (bares_of ps) → All (WaitsAtQueueBelow n) waits
@@ -127,13 +132,20 @@ module _ (s : ScriptView) (may : ℕ → Bool) (answer : ReportView) (h : EndsWi
         let key : BareView → ℕ = λ x. x.id in
         rw e (waits_named n (bares_of ps) (all_found key (λ x. ProgressNamesBelow n (reached x)) (bares_of ps) h.ascending is_named))
 
-  pub end_waits : (waits : List Wait) → waits ≡ all_waits (bares_of ps) → IsLawfulWithWaits s may answer waits
-  end_waits waits e =
-      let key : BareView → ℕ = λ x. x.id in
-      let are : AreWaitsAt reached_by told (all_waits (bares_of ps)) =
-      record {
-        blocked = blocked_are (bares_of ps) (bares_of ps) (all_found key Stands (bares_of ps) h.ascending stands);
-        sources = sources_are reached_by (bares_of ps) (all_found key (IsAt reached_by) (bares_of ps) h.ascending is_at);
-      } in
-      let here : IsLawfulWithWaits s may told (all_waits (bares_of ps)) = record { lawful = lawful; waiting = are } in
-      rw e (subst (λ (r : ReportView). IsLawfulWithWaits s may r (all_waits (bares_of ps))) (sym h.answered.is) here)
+  -- each is where its run has come to
+  all_at : All (IsAt reached_by) (bares_of ps)
+  all_at = all_found (λ (x : BareView). x.id) (IsAt reached_by) (bares_of ps) h.ascending is_at
+
+  pub end_waits : AreWaitsAt reached_by told (all_waits (bares_of ps))
+  end_waits = record {
+    blocked = blocked_are (bares_of ps) (bares_of ps) (all_found (λ (x : BareView). x.id) Stands (bares_of ps) h.ascending stands);
+    sources = sources_are reached_by (bares_of ps) all_at;
+  }
+
+  pub end_stands : (b : Blocked) → StandsAmong (bares_of ps) b → StandsAt h.nodes reached_by b
+  end_stands b (x, among, is) =
+      let code : x.nodes ≡ h.nodes = All-contains (λ (y : BareView). y.nodes ≡ h.nodes) (bares_of ps) x h.ran among in
+      let far : reached_by b.wait.fiber ≡ reached x = ap reached_by is.fiber ∙ All-contains (IsAt reached_by) (bares_of ps) x all_at among in
+      subst (λ (p : Progress). MatchOption b.node (HasNoNode (leaf_at p)) (λ id. (numbers : List ℕ) × IsPlaceOf h.nodes numbers (leaf_at p) id)) (sym far)
+      (with_some_numbers h.nodes x.registers (leaf_at (reached x)) b.node
+      (subst (λ (nodes : List Node). MatchOption b.node (HasNoNode (leaf_at (reached x))) (IsPlaceOf nodes x.registers (leaf_at (reached x)))) code is.node))

@@ -17,4 +17,5 @@ pub mod Ancestors
 pub mod Refusals
 pub mod FalseRefusal
 pub mod RunWaits
+pub mod LawfulRun
 pub mod Example

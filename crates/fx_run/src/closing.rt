@@ -2,24 +2,21 @@
 ghost use Rattle.std.specs.Prelude.{◌≡◌, ◌≤◌, ℕ, Bool, All, IfOk, IfErr, length, map};
 ghost use Rattle.std.specs.List.Sorted.{IsStrictlyIncreasing};
 ghost use Rattle.fx_term.specs.Script.{total};
-ghost use Rattle.fx_model.specs.Headline.{KeepsWhatIsPromised};
-ghost use Rattle.fx_model.specs.ReportStamps.{IsStampedReport};
 ghost use Rattle.fx_text.specs.View.{meaning};
 ghost use Rattle.fx_report.specs.Script.{script_of};
 ghost use Rattle.fx_queue.specs.Queues.{QueueId};
 ghost use Rattle.fx_run.specs.Reported.{AreAscending};
 ghost use Rattle.fx_run.specs.Gathered.{IsGathered, AreAllowed};
 ghost use Rattle.fx_report.specs.Text.{queue_names, IsWritable};
-ghost use Rattle.fx_report.specs.Waits.{WaitsAtQueueBelow};
-ghost use Rattle.fx_run.specs.RunWaits.{IsLawfulWithWaits};
-ghost use Rattle.fx_run.specs.Refusals.{IsLawfulWithRefusals};
+ghost use Rattle.fx_report.specs.Waits.{IsBlockedAtQueueBelow};
+ghost use Rattle.fx_run.specs.LawfulRun.{IsLawfulHalt};
 ghost use Rattle.fx_run.specs.Closing.{AreMarked, IsReportOf, IsCloseFault};
 
 use crate::gathered::Gathered;
 use crate::halt::Halt;
 use crate::lost::test_for_lost;
 use crate::run_fault::RunFault;
-use crate::waits::waits_of;
+use crate::waits::all_blocked;
 use crate::whole_report::report;
 use fx_fiber::main_begin;
 use fx_port::{Marks, close_queues};
@@ -62,21 +59,13 @@ pub(crate) fn close_run<R: Wait>(
     ensures report { IfOk result
         (λ halt. IsReportOf (script_of (meaning script.now)) gathered late halt.report) }
     ensures halted { (may : ℕ → Bool) → AreAllowed may gathered.noted
-        → IfOk result (λ halt. IsLawfulWithWaits (script_of (meaning script.now)) may
-        halt.report halt.waits.items) }
-    ensures promised { (may : ℕ → Bool) → AreAllowed may gathered.noted
-        → IfOk result (λ halt. KeepsWhatIsPromised (script_of (meaning script.now)) may
-        halt.report) }
-    ensures refusals { (may : ℕ → Bool) → AreAllowed may gathered.noted
-        → IfOk result (λ halt. IsLawfulWithRefusals (script_of (meaning script.now)) may
-        halt.report) }
-    ensures stamped { (may : ℕ → Bool) → AreAllowed may gathered.noted
-        → IfOk result (λ halt. IsStampedReport (script_of (meaning script.now)) may halt.report) }
+        → IfOk result (λ halt. IsLawfulHalt script.now.code.nodes (script_of (meaning script.now))
+        may halt.report halt.blocked.items) }
     ensures writable { script.now.code.queues ≤ length script.now.queues.items
         → IfOk result (λ halt. IsWritable (queue_names (meaning script.now)) halt.report) }
     ensures named { script.now.code.queues ≤ length script.now.queues.items
-        → IfOk result (λ halt. All (WaitsAtQueueBelow (length (queue_names (meaning script.now))))
-        halt.waits.items) }
+        → IfOk result (λ halt. All
+        (IsBlockedAtQueueBelow (length (queue_names (meaning script.now)))) halt.blocked.items) }
     ensures fault { IfErr result
         (λ fault. IsCloseFault (script_of (meaning script.now)) gathered late fault) }
 {
@@ -91,7 +80,7 @@ pub(crate) fn close_run<R: Wait>(
     let outside = marked(alloc, numbers, &noted)?;
     words.close(seat);
     let left = close_queues(rt, alloc, queues, passes)?;
-    let waits = waits_of(alloc, &script.code, &bares)?;
+    let blocked = all_blocked(alloc, &script.code, &bares)?;
     let report = report(alloc, script, bares, left, outside, late)?;
-    Ok(Halt { report, waits })
+    Ok(Halt { report, blocked })
 }

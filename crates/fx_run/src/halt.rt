@@ -1,12 +1,12 @@
 //! What there is once a run has ended.
 
 use fx_fiber::Report;
-use fx_report::Wait;
+use fx_report::Blocked;
 
 /// What there is once no fiber of a run can step any more: the report, and what each fiber waits for that
-/// is blocked, in the report's order.
+/// is blocked and where it stands, in the report's order.
 #[derive(Drop)]
 pub struct Halt {
     pub report: Report,
-    pub waits: Vec<Wait>,
+    pub blocked: Vec<Blocked>,
 }

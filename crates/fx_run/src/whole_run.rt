@@ -1,20 +1,16 @@
 //! Runs a script's fibers on threads.
 ghost use Rattle.std.specs.Prelude.{◌≡◌, ◌≢◌, ◌<◌, ◌≤◌, ◌↔◌, ◌⊎◌, ℕ, true, Err, All, IfOk, IfErr, length, map};
 ghost use Rattle.fx_term.specs.Script.{total};
-ghost use Rattle.fx_model.specs.LawfulReport.{IsLawfulReport};
-ghost use Rattle.fx_model.specs.Headline.{KeepsWhatIsPromised};
-ghost use Rattle.fx_model.specs.ReportStamps.{IsStampedReport};
 ghost use Rattle.fx_text.specs.View.{meaning};
 ghost use Rattle.fx_report.specs.Script.{script_of};
 ghost use Rattle.fx_report.specs.Text.{queue_names, IsWritable};
-ghost use Rattle.fx_report.specs.Waits.{WaitsAtQueueBelow};
+ghost use Rattle.fx_report.specs.Waits.{IsBlockedAtQueueBelow};
 ghost use Rattle.fx_word.specs.SeatView.{first_view};
 ghost use Rattle.fx_word.specs.Words.{IsOf};
 ghost use Rattle.fx_port.specs.Rows.{AreFirst};
 ghost use Rattle.fx_run.specs.Reported.{AreAscending};
 ghost use Rattle.fx_run.specs.Gathered.{IsGathered, AreAllowed};
-ghost use Rattle.fx_run.specs.Refusals.{IsLawfulWithRefusals};
-ghost use Rattle.fx_run.specs.RunWaits.{IsLawfulWithWaits};
+ghost use Rattle.fx_run.specs.LawfulRun.{IsLawfulRun, IsLawfulHalt};
 ghost use Rattle.fx_run.specs.Workers.{most_workers};
 ghost use Rattle.fx_run.specs.declared.run_fault.RunFault.TheVariants.{Workers};
 
@@ -107,19 +103,13 @@ fn run_by<R: Wait + Threads + Sync + RandomSource + AllocGlobal, G: Gate + Sync>
     workers: u32,
     gate: &G,
 ) -> Result<Halt, RunFault>
-    ensures halted { IfOk result (λ halt. IsLawfulWithWaits (script_of (meaning script.now))
-        (G.may gate.now) halt.report halt.waits.items) }
-    ensures promised { IfOk result (λ halt. KeepsWhatIsPromised (script_of (meaning script.now))
-        (G.may gate.now) halt.report) }
-    ensures refusals { IfOk result (λ halt. IsLawfulWithRefusals (script_of (meaning script.now))
-        (G.may gate.now) halt.report) }
-    ensures stamped { IfOk result (λ halt. IsStampedReport (script_of (meaning script.now))
-        (G.may gate.now) halt.report) }
+    ensures halted { IfOk result (λ halt. IsLawfulHalt script.now.code.nodes
+        (script_of (meaning script.now)) (G.may gate.now) halt.report halt.blocked.items) }
     ensures writable { script.now.code.queues ≤ length script.now.queues.items
         → IfOk result (λ halt. IsWritable (queue_names (meaning script.now)) halt.report) }
     ensures named { script.now.code.queues ≤ length script.now.queues.items
-        → IfOk result (λ halt. All (WaitsAtQueueBelow (length (queue_names (meaning script.now))))
-        halt.waits.items) }
+        → IfOk result (λ halt. All
+        (IsBlockedAtQueueBelow (length (queue_names (meaning script.now)))) halt.blocked.items) }
     ensures fault { IfErr result (λ fault. fault ≢ Workers) }
 {
     let total = script.total();
@@ -133,7 +123,7 @@ fn run_by<R: Wait + Threads + Sync + RandomSource + AllocGlobal, G: Gate + Sync>
 }
 
 /// The report of a run of the script's fibers by so many workers, as [`run`] gives it, and what its
-/// blocked fibers wait for. The writers take both where the code names no queue that is not declared.
+/// blocked fibers wait for and where they stand. The writers take both where the code names no queue that is not declared.
 pub fn run_to_halt<R: Wait + Threads + Sync + RandomSource + AllocGlobal, G: Gate + Sync>(
     rt: &R,
     alloc: Global,
@@ -141,19 +131,13 @@ pub fn run_to_halt<R: Wait + Threads + Sync + RandomSource + AllocGlobal, G: Gat
     workers: u32,
     gate: &G,
 ) -> Result<Halt, RunFault>
-    ensures halted { IfOk result (λ halt. IsLawfulWithWaits (script_of (meaning script.now))
-        (G.may gate.now) halt.report halt.waits.items) }
-    ensures promised { IfOk result (λ halt. KeepsWhatIsPromised (script_of (meaning script.now))
-        (G.may gate.now) halt.report) }
-    ensures refusals { IfOk result (λ halt. IsLawfulWithRefusals (script_of (meaning script.now))
-        (G.may gate.now) halt.report) }
-    ensures stamped { IfOk result (λ halt. IsStampedReport (script_of (meaning script.now))
-        (G.may gate.now) halt.report) }
+    ensures halted { IfOk result (λ halt. IsLawfulHalt script.now.code.nodes
+        (script_of (meaning script.now)) (G.may gate.now) halt.report halt.blocked.items) }
     ensures writable { script.now.code.queues ≤ length script.now.queues.items
         → IfOk result (λ halt. IsWritable (queue_names (meaning script.now)) halt.report) }
     ensures named { script.now.code.queues ≤ length script.now.queues.items
-        → IfOk result (λ halt. All (WaitsAtQueueBelow (length (queue_names (meaning script.now))))
-        halt.waits.items) }
+        → IfOk result (λ halt. All
+        (IsBlockedAtQueueBelow (length (queue_names (meaning script.now)))) halt.blocked.items) }
     ensures workers { ((workers < 1) ⊎ (most_workers < workers)) ↔ (result ≡ Err Workers) }
 {
     if workers < 1 || MOST_WORKERS < workers {
@@ -175,13 +159,7 @@ pub fn run<R: Wait + Threads + Sync + RandomSource + AllocGlobal, G: Gate + Sync
     gate: &G,
 ) -> Result<Report, RunFault>
     ensures lawful { IfOk result
-        (λ r. IsLawfulReport (script_of (meaning script.now)) (G.may gate.now) r) }
-    ensures promised { IfOk result
-        (λ r. KeepsWhatIsPromised (script_of (meaning script.now)) (G.may gate.now) r) }
-    ensures refusals { IfOk result
-        (λ r. IsLawfulWithRefusals (script_of (meaning script.now)) (G.may gate.now) r) }
-    ensures stamped { IfOk result
-        (λ r. IsStampedReport (script_of (meaning script.now)) (G.may gate.now) r) }
+        (λ r. IsLawfulRun (script_of (meaning script.now)) (G.may gate.now) r) }
     ensures writable { script.now.code.queues ≤ length script.now.queues.items
         → IfOk result (λ r. IsWritable (queue_names (meaning script.now)) r) }
     ensures workers { ((workers < 1) ⊎ (most_workers < workers)) ↔ (result ≡ Err Workers) }

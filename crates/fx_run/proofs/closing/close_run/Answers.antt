@@ -3,21 +3,19 @@ use Rattle.std.proofs.lemmas.List.{length-map}
 use Rattle.fx_term.proofs.CoreTerms.{code_is_core}
 use Rattle.fx_term.specs.declared.begin.Begin.{Begin}
 use Rattle.fx_term.specs.Script.{total}
-use Rattle.fx_model.proofs.HeadlineLaws.{lawful_report_holds}
 use Rattle.fx_model.proofs.ScopedCode.{code_is_scoped}
 use Rattle.fx_fiber.specs.Bare.{BareView}
 use Rattle.fx_text.specs.View.{meaning}
 use Rattle.fx_report.specs.Script.{script_of}
-use Rattle.fx_report.specs.Waits.{WaitsAtQueueBelow}
+use Rattle.fx_report.specs.Waits.{IsBlockedAtQueueBelow}
 use Rattle.fx_report.proofs.QueueNames.{names_declared}
 use Rattle.fx_report.proofs.WritableReports.{lawful_is_writable}
 use Rattle.fx_run.specs.Reported.{RanCode, NoneIsLost}
-use Rattle.fx_run.specs.RunWaits.{all_waits}
+use Rattle.fx_run.specs.RunWaits.{StandsAmong, all_waits}
 use Rattle.fx_run.specs.Closing.{AreMarked}
 use Rattle.fx_run.proofs.CloseFaults.{lost_so, reported_so}
-use Rattle.fx_run.proofs.RefusalLaws.{refusals_true}
-use Rattle.fx_run.proofs.StampLaws.{stamps_true}
-use Rattle.fx_run.proofs.EndLaws.{all_below, ran_so, seat_whole, passes_whole, waits_so, waits_named_so}
+use Rattle.fx_run.proofs.EndLaws.{all_below, ran_so, seat_whole, passes_whole}
+use Rattle.fx_run.proofs.LawfulRuns.{halts_lawfully, blocked_below}
 use Rattle.fx_run.proofs.closing.close_run.Goals as goal
 
 pub test_for_lost-requires-clause-below : goal.test_for_lost-requires-clause-below
@@ -44,8 +42,8 @@ report-requires-clause-below g c =
     let n = total (script_of (meaning c.args.script.now)) in
     all_below c.args.script.now.code.nodes c.args.words c.args.queues.items c.args.gathered c.requires.gathered n c.requires.fibers
 
-pub waits_of-requires : goal.waits_of-requires
-waits_of-requires g c =
+pub all_blocked-requires : goal.all_blocked-requires
+all_blocked-requires g c =
     subst (RanCode c.args.script.now.code.nodes) (sym c.deref-2.ensures.value)
     (ran_so c.args.script.now.code.nodes c.args.words c.args.queues.items c.args.gathered c.requires.gathered)
 
@@ -66,49 +64,29 @@ pub returns-clause-halted : goal.returns-clause-halted
 returns-clause-halted g c may allowed =
     let s = script_of (meaning c.args.script.now) in
     let nodes = c.args.script.now.code.nodes in
+    let code = c.main_begin-numbers.ensures.code in
     let lost = subst NoneIsLost c.deref.ensures.value c.in_ok-test_for_lost.ensures.whole in
-    waits_so nodes c.args.words c.args.queues.items c.args.gathered c.requires.gathered lost c.requires.ascending s refl c.requires.fibers c.requires.capacities
-    may allowed c.close.ensures.settled c.args.late _ (returns-clause-report g c) (code_is_scoped (λ f. true) nodes c.main_begin-numbers.ensures.code) _
-    (c.in_ok-waits.ensures ∙ ap all_waits c.deref-2.ensures.value)
-
-pub returns-clause-promised : goal.returns-clause-promised
-returns-clause-promised g c may allowed =
-    let s = script_of (meaning c.args.script.now) in
-    let core = code_is_core c.args.script.now.code.nodes c.main_begin-numbers.ensures.code in
-    let lawful = (returns-clause-halted g c may allowed).lawful in
-    record { lawful = lawful; promised = lawful_report_holds s may _ core lawful }
-
-pub returns-clause-refusals : goal.returns-clause-refusals
-returns-clause-refusals g c may allowed =
-    let s = script_of (meaning c.args.script.now) in
-    let nodes = c.args.script.now.code.nodes in
-    let lost = subst NoneIsLost c.deref.ensures.value c.in_ok-test_for_lost.ensures.whole in
-    refusals_true nodes c.args.words c.args.queues.items c.args.gathered c.requires.gathered lost c.requires.ascending s refl c.requires.fibers
-    c.requires.capacities may allowed c.close.ensures.settled c.args.late _ (returns-clause-report g c)
-
-pub returns-clause-stamped : goal.returns-clause-stamped
-returns-clause-stamped g c may allowed =
-    let s = script_of (meaning c.args.script.now) in
-    let nodes = c.args.script.now.code.nodes in
-    let lost = subst NoneIsLost c.deref.ensures.value c.in_ok-test_for_lost.ensures.whole in
-    stamps_true nodes c.args.words c.args.queues.items c.args.gathered c.requires.gathered lost c.requires.ascending s refl c.requires.fibers
-    c.requires.capacities may allowed c.close.ensures.settled c.args.late _ (returns-clause-report g c)
+    halts_lawfully nodes c.args.words c.args.queues.items c.args.gathered c.requires.gathered lost c.requires.ascending s refl c.requires.fibers
+    c.requires.capacities may allowed c.close.ensures.settled c.args.late _ (returns-clause-report g c) (code_is_scoped (λ f. true) nodes code)
+    c.in_ok-blocked.blocked.items (c.in_ok-blocked.ensures.waits ∙ ap all_waits c.deref-2.ensures.value) (code_is_core nodes code)
+    (subst (λ (bares : List BareView). All (StandsAmong bares) c.in_ok-blocked.blocked.items) c.deref-2.ensures.value c.in_ok-blocked.ensures.nodes)
 
 pub returns-clause-writable : goal.returns-clause-writable
 returns-clause-writable g c le =
     let named = names_declared c.args.script.now c.main_begin-numbers.ensures.code le in
-    lawful_is_writable (meaning c.args.script.now) (λ f. true) _ named (returns-clause-halted g c (λ f. true) (λ f marked. refl)).lawful
+    lawful_is_writable (meaning c.args.script.now) (λ f. true) _ named (returns-clause-halted g c (λ f. true) (λ f marked. refl)).run.lawful
 
 pub returns-clause-named : goal.returns-clause-named
 returns-clause-named g c le =
     let m = meaning c.args.script.now in
     let nodes = c.args.script.now.code.nodes in
+    let code = c.main_begin-numbers.ensures.code in
     let lost = subst NoneIsLost c.deref.ensures.value c.in_ok-test_for_lost.ensures.whole in
-    subst (λ (n : ℕ). All (WaitsAtQueueBelow n) c.in_ok-waits.waits.items) (sym (length-map m.queues (λ (q : List ℕ × ℕ). q.0)))
-    (waits_named_so nodes c.args.words c.args.queues.items c.args.gathered c.requires.gathered lost c.requires.ascending (script_of m) refl c.requires.fibers
+    subst (λ (n : ℕ). All (IsBlockedAtQueueBelow n) c.in_ok-blocked.blocked.items) (sym (length-map m.queues (λ (q : List ℕ × ℕ). q.0)))
+    (blocked_below nodes c.args.words c.args.queues.items c.args.gathered c.requires.gathered lost c.requires.ascending (script_of m) refl c.requires.fibers
     c.requires.capacities (λ f. true) (λ f marked. refl) c.close.ensures.settled c.args.late _ (returns-clause-report g c)
-    (code_is_scoped (λ f. true) nodes c.main_begin-numbers.ensures.code) _ (c.in_ok-waits.ensures ∙ ap all_waits c.deref-2.ensures.value) (length m.queues)
-    (names_declared c.args.script.now c.main_begin-numbers.ensures.code le))
+    (code_is_scoped (λ f. true) nodes code) c.in_ok-blocked.blocked.items (c.in_ok-blocked.ensures.waits ∙ ap all_waits c.deref-2.ensures.value)
+    (length m.queues) (names_declared c.args.script.now code le))
 
 pub returns-in_err-test_for_lost-clause-fault : goal.returns-in_err-test_for_lost-clause-fault
 returns-in_err-test_for_lost-clause-fault g c =
