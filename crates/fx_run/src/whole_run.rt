@@ -1,6 +1,7 @@
 //! Runs a script's fibers on threads.
 ghost use Rattle.std.specs.Prelude.{◌≡◌, ◌≢◌, ◌<◌, ◌≤◌, ◌↔◌, ◌⊎◌, ℕ, true, Err, All, IfOk, IfErr, length, map};
 ghost use Rattle.fx_term.specs.Script.{total};
+ghost use Rattle.fx_model.specs.Headline.{KeepsWhatIsPromised};
 ghost use Rattle.fx_text.specs.View.{meaning};
 ghost use Rattle.fx_report.specs.Script.{script_of};
 ghost use Rattle.fx_report.specs.Text.{queue_names, IsWritable};
@@ -158,6 +159,8 @@ pub fn run<R: Wait + Threads + Sync + RandomSource + AllocGlobal, G: Gate + Sync
     workers: u32,
     gate: &G,
 ) -> Result<Report, RunFault>
+    ensures promised { IfOk result
+        (λ r. KeepsWhatIsPromised (script_of (meaning script.now)) (G.may gate.now) r) }
     ensures lawful { IfOk result
         (λ r. IsLawfulRun (script_of (meaning script.now)) (G.may gate.now) r) }
     ensures writable { script.now.code.queues ≤ length script.now.queues.items
