@@ -98,7 +98,7 @@ static OF_TWO: [Line; 2] = [
 ];
 
 /// Those of each worked script.
-static OF_WORKED: [Line; 16] = [
+static OF_WORKED: [Line; 18] = [
     ("parse", "", Row::Text(texts::Of::Parse)),
     (
         "PlainWorld::new",
@@ -109,6 +109,16 @@ static OF_WORKED: [Line; 16] = [
         "replay",
         "",
         Row::OnScript(OnScript::Text(plain::Of::Replay)),
+    ),
+    (
+        "tell_run",
+        "",
+        Row::OnScript(OnScript::Text(plain::Of::Tell)),
+    ),
+    (
+        "compare",
+        "",
+        Row::OnScript(OnScript::Text(plain::Of::Compare)),
     ),
     (
         "write_report",

@@ -1,4 +1,4 @@
-//! The calls of one thread that go from a script that was read to a text.
+//! The calls of one thread that go from a script that was read to a text, or to what is told of its runs.
 ghost use Rattle.fx_text.specs.View.{meaning};
 ghost use Rattle.fx_report.specs.Text.{queue_names, IsWritable};
 
@@ -8,7 +8,8 @@ use crate::refuser::Refuser;
 use crate::scripts::{Printed, Worked};
 use crate::shown::{is_written, room};
 use fx_fiber::Report;
-use fx_plain::{OutFault, replay, write_report, write_trace};
+use fx_findings::{Compared, compare, explore};
+use fx_plain::{ENDED, OutFault, Told, replay, tell_run, write_report, write_trace};
 use fx_term::Memory;
 use fx_text::Script;
 use std::alloc::Global;
@@ -17,6 +18,10 @@ use std::alloc::Global;
 #[derive(Clone, Copy)]
 pub enum Of {
     Replay,
+    /// The run of a replay is told step by step.
+    Tell,
+    /// What a search of all runs has found is compared with the report.
+    Compare,
     /// The writer of this.
     Write(Printed),
 }
@@ -29,6 +34,53 @@ fn replays(alloc: Global, given: &Given, text: &str, refuser: &Refuser) -> Answe
     match replayed {
         Ok(report) => whole_where(is_written(alloc, &given.script, &report, text)),
         Err(Memory) => Answer::Memory,
+    }
+}
+
+/// How many events these steps have shown.
+fn events_told(told: &[Told]) -> usize {
+    let mut count = 0usize;
+    for it in told {
+        if let Told::Step(made) = it
+            && made.event.is_some()
+        {
+            count = count.saturating_add(1);
+        }
+    }
+    count
+}
+
+/// How many events the report has.
+fn events_reported(report: &Report) -> usize {
+    let mut count = 0usize;
+    for fiber in &report.fibers {
+        count = count.saturating_add(fiber.trace.len());
+    }
+    count
+}
+
+/// What the telling of a replay answers.
+fn tells(alloc: Global, given: &Given, refuser: &Refuser) -> Answer {
+    refuser.go_on();
+    let told = tell_run(alloc, &given.script, &[]);
+    refuser.hold();
+    match told {
+        Ok(told) => whole_where(events_told(&told) == events_reported(&given.report)),
+        Err(Memory) => Answer::Memory,
+    }
+}
+
+/// What the comparison with this text answers, which has the one report that a search finds.
+fn compares(alloc: Global, given: &Given, text: &str, refuser: &Refuser) -> Answer {
+    let Ok(explored) = explore(alloc, &given.script, None, 10_000) else {
+        return UNSET;
+    };
+    refuser.go_on();
+    let compared = compare(alloc, &given.script, &explored, text.as_bytes());
+    refuser.hold();
+    match compared {
+        Ok(Compared { status, .. }) => whole_where(status == ENDED),
+        Err(_) => Answer::Memory,
     }
 }
 
@@ -61,11 +113,14 @@ fn writes(
     answer
 }
 
-/// What the call answers.
-pub fn made(alloc: Global, given: &Given, on: &Worked, of: Of, refuser: &Refuser) -> Answer {
-    let Of::Write(printed) = of else {
-        return replays(alloc, given, on.report, refuser);
-    };
+/// What a writer answers that is given the report of the replay.
+fn written(
+    alloc: Global,
+    given: &Given,
+    on: &Worked,
+    printed: Printed,
+    refuser: &Refuser,
+) -> Answer {
     let (Ok(report), Ok(mut written)) = (replay(alloc, &given.script, &[]), room(alloc)) else {
         return UNSET;
     };
@@ -78,4 +133,14 @@ pub fn made(alloc: Global, given: &Given, on: &Worked, of: Of, refuser: &Refuser
         refuser,
     );
     came_to(answer, &written, on.printed(printed))
+}
+
+/// What the call answers.
+pub fn made(alloc: Global, given: &Given, on: &Worked, of: Of, refuser: &Refuser) -> Answer {
+    match of {
+        Of::Replay => replays(alloc, given, on.report, refuser),
+        Of::Tell => tells(alloc, given, refuser),
+        Of::Compare => compares(alloc, given, on.report, refuser),
+        Of::Write(printed) => written(alloc, given, on, printed, refuser),
+    }
 }
