@@ -69,8 +69,8 @@ static OF_NONE: [Line; 19] = [
     ("Owner::next", "a steal, which does without", Row::Steal),
 ];
 
-/// Those of a main fiber.
-static OF_ONE: [Line; 2] = [
+/// Those of a main fiber, and of its report.
+static OF_ONE: [Line; 3] = [
     (
         "Fiber::new",
         "a main fiber",
@@ -80,6 +80,11 @@ static OF_ONE: [Line; 2] = [
         "ThreadPort::new",
         "a main fiber",
         Row::OnScript(OnScript::Threads(fibers::Of::Port)),
+    ),
+    (
+        "compare",
+        "a report, which does without",
+        Row::OnScript(OnScript::Text(plain::Of::Compare)),
     ),
 ];
 
@@ -98,7 +103,7 @@ static OF_TWO: [Line; 2] = [
 ];
 
 /// Those of each worked script.
-static OF_WORKED: [Line; 18] = [
+static OF_WORKED: [Line; 17] = [
     ("parse", "", Row::Text(texts::Of::Parse)),
     (
         "PlainWorld::new",
@@ -114,11 +119,6 @@ static OF_WORKED: [Line; 18] = [
         "tell_run",
         "",
         Row::OnScript(OnScript::Text(plain::Of::Tell)),
-    ),
-    (
-        "compare",
-        "",
-        Row::OnScript(OnScript::Text(plain::Of::Compare)),
     ),
     (
         "write_report",

@@ -42,7 +42,7 @@ pub static ONE: Worked = Worked {
     name: "a main fiber",
     text: "(main (pure 5))",
     counts: "",
-    report: "",
+    report: "fiber 0 succeeded 5\n",
     traces: "",
 };
 

@@ -46,9 +46,13 @@ pub enum OnScript {
 }
 
 impl Row {
-    /// Whether it is a call of the kit that does without the memory that it is refused, and so cannot tell.
+    /// Whether it is a call of the kit that does without the memory that it is refused, and so cannot tell; or makes one:
+    /// what is collected has as much room as it is likely to take, or else what it takes.
     fn does_without(self) -> bool {
-        matches!(self, Row::Steal)
+        matches!(
+            self,
+            Row::Steal | Row::OnScript(OnScript::Text(plain::Of::Compare))
+        )
     }
 }
 
