@@ -1,0 +1,5 @@
+pub mod Position
+pub mod Form
+pub mod Makes
+pub mod Places
+pub mod Walk

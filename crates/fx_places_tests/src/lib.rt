@@ -1,0 +1,5 @@
+//! Which place each node of a script has.
+#![tactic(auto)]
+
+#[cfg(test)]
+mod forms;
