@@ -1,6 +1,6 @@
 -- Where the bytes after one stand.
 use Rattle.std.proofs.Common.{◌≡◌, ◌==◌, ℕ, ◌+◌, Bool, true, false, List, [], ◌∷◌, ◌++◌, if◌then◌else◌, refl, sym, ◌∙◌, ap, length, ◌≤◌, arith, append_assoc}
-use Rattle.fx_places.specs.declared.position.Position.{Position}
+use Rattle.fx_text.specs.declared.position.Position.{Position}
 use Rattle.fx_places.specs.Position.{line_after, column_after}
 use Rattle.fx_places.specs.Places.{StandsAt}
 

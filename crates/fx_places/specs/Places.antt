@@ -1,8 +1,8 @@
 -- Where a form stands in a text, and the places of the nodes of a code.
-use Rattle.std.specs.Prelude.{◌≡◌, ℕ, ◌+◌, true, IfSome, All, List, [], ◌∷◌, ◌++◌, length, slice_get}
+use Rattle.std.specs.Prelude.{◌≡◌, ℕ, ◌+◌, true, IfSome, All, List, [], ◌∷◌, ◌++◌, length, map, slice_get}
 use Rattle.fx_term.specs.declared.node.Node.{Node}
 use Rattle.fx_text.specs.Token.{Name, next}
-use Rattle.fx_places.specs.declared.position.Position.{Position}
+use Rattle.fx_text.specs.declared.position.Position.{Position}
 use Rattle.fx_places.specs.declared.place.FormPlace.{FormPlace}
 use Rattle.fx_places.specs.Position.{line_after, column_after}
 use Rattle.fx_places.specs.Form.{word_of}
@@ -35,3 +35,7 @@ pub record ArePlaces (text : List ℕ) (nodes : List Node) (places : List FormPl
   pub all : length places ≡ length nodes
   pub forms : All (IsFormPlace text) places
   pub made : AreMadeFrom nodes 0 places
+
+-- where they stand
+abbrev pub positions_of : List FormPlace → List Position
+positions_of places = map (λ (place : FormPlace). place.position) places

@@ -27,5 +27,4 @@ mod walk;
 mod word;
 
 pub use form::Form;
-pub use place::{FormPlace, PlaceFault, places};
-pub use position::Position;
+pub use place::{FormPlace, PlaceFault, places, positions};

@@ -1,12 +1,13 @@
 //! The places of the nodes of a code.
-ghost use Rattle.std.specs.Prelude.{◌≡◌, IfOk};
+ghost use Rattle.std.specs.Prelude.{◌≡◌, ◌+◌, ◌<◌, ◌^◌, IfOk, length};
 ghost use Rattle.fx_places.specs.declared.place.PlaceFault.TheVariants as faults;
-ghost use Rattle.fx_places.specs.Places.{ArePlaces};
+ghost use Rattle.fx_places.specs.Places.{ArePlaces, positions_of};
 
 use crate::form::Form;
-use crate::position::Position;
+use crate::position::{START, past};
 use crate::walk::Walk;
 use fx_term::Code;
+use fx_text::Position;
 use std::alloc::{AllocError, AllocFailed, Global};
 use thiserror::Error;
 
@@ -46,15 +47,29 @@ impl<T: Drop> From<AllocFailed<T>> for PlaceFault {
 /// The places of the nodes of a code, in their order: that of the first node is the first. The text is the one that the
 /// code was read from.
 pub fn places(alloc: Global, text: &[u8], code: &Code) -> Result<Vec<FormPlace>, PlaceFault>
+    requires { length text.now + 2 < 2 ^ 32 }
     ensures { IfOk result (λ places. ArePlaces text.now code.now.nodes places.items) }
 {
     let mut walk = Walk::new(alloc);
-    let mut position = Position::START;
+    let mut position = START;
     let mut rest = text;
     while let Some((byte, inside)) = rest.split_first() {
         walk.step(code, position, *byte, inside)?;
-        position = position.past(*byte);
+        position = past(position, *byte);
         rest = inside;
     }
     walk.end(code)
+}
+
+/// The positions of these places.
+pub fn positions(alloc: Global, places: &[FormPlace]) -> Result<Vec<Position>, AllocError>
+    ensures { IfOk result (λ positions. positions.items ≡ positions_of places.now) }
+{
+    let mut positions = Vec::new(alloc);
+    let mut rest = places;
+    while let Some((place, more)) = rest.split_first() {
+        positions.push(place.position)?;
+        rest = more;
+    }
+    Ok(positions)
 }

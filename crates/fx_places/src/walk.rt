@@ -8,9 +8,9 @@ use crate::form::Form;
 use crate::group::{Group, GroupKind};
 use crate::makes::makes;
 use crate::place::{FormPlace, PlaceFault};
-use crate::position::Position;
 use crate::word::next_word;
 use fx_term::{Code, NodeId};
+use fx_text::Position;
 use std::alloc::Global;
 
 /// The groups that are open, the outermost first, and the places of the nodes so far.
