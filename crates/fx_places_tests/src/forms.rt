@@ -208,6 +208,9 @@ static UNFIT: [(&[u8], &[u8]); 5] = [
 
 /// Whether the text is answered as one that does not fit the code of the other.
 fn is_unfit(alloc: Global, text: &[u8], other: &[u8]) -> bool {
+    if text.len() > 65_536 {
+        return false;
+    }
     match parse(alloc, other) {
         Ok(script) => matches!(places(alloc, text, &script.code), Err(PlaceFault::Unfit)),
         Err(_) => false,

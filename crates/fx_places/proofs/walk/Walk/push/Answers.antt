@@ -9,9 +9,10 @@ returns c text form walk =
     let places = c.args.self.now.places.items in
     let nodes = c.args.code.now.nodes in
     let makes = sym c.makes.ensures ∙ c.if-not-makes.false in
-    let made = subst (λ (n : ℕ). IsMadeAt nodes n c.args.place) (omega (arith, c.len-next.ensures)) (made_at nodes _ _ c.args.place c.node.ensures.node makes) in
+    let made = made_at nodes _ _ c.args.place c.node.ensures.node makes in
+    let next = subst (λ (n : ℕ). IsMadeAt nodes n c.args.place) (omega (arith, c.len-next.ensures)) made in
     record {
       groups = walk.groups;
       forms = rw c.in_ok-push.ensures.items (All-push (IsFormPlace text) places c.args.place walk.forms form);
-      made = rw c.in_ok-push.ensures.items (made_push nodes 0 places c.args.place walk.made made);
+      made = rw c.in_ok-push.ensures.items (made_push nodes 0 places c.args.place walk.made next);
     }
