@@ -1,4 +1,5 @@
 pub mod Joined
+pub mod Counted
 pub mod TooLarge
 pub mod WellFormed
 pub mod ArrowsDrawn

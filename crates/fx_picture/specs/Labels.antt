@@ -1,8 +1,11 @@
 -- The words of a picture.
-use Rattle.std.specs.Prelude.{ℕ, List, ◌++◌, codes, decimal}
+use Rattle.std.specs.Prelude.{ℕ, ◌==◌, Option, Some, None, List, [], ◌∷◌, ◌++◌, codes, decimal, if◌then◌else◌}
+use Rattle.fx_model.specs.declared.source.Source.{Source}
+use Rattle.fx_model.specs.declared.source.Source.TheVariants.{Nothing, Outcome, Either, Room, Element}
 use Rattle.fx_model.specs.Report.{FiberReportView}
 use Rattle.fx_order.specs.declared.occurrence.Occurrence.{Occurrence}
-use Rattle.fx_report.specs.Text.{number, event_text}
+use Rattle.fx_report.specs.declared.wait.Wait.{Wait}
+use Rattle.fx_report.specs.Text.{number, queue_name, event_text}
 
 -- the line of a trace that has the event, without its end
 abbrev pub mark_words : List (List ℕ) → Occurrence → List ℕ
@@ -10,3 +13,19 @@ mark_words names o = decimal o.fiber ++ number o.stamp ++ codes " " ++ event_tex
 
 abbrev pub fiber_words : FiberReportView → List ℕ
 fiber_words x = codes "fiber " ++ decimal x.id
+
+-- what fiber f waits for, where these wait
+abbrev pub wait_of : List Wait → ℕ → Option Source
+wait_of [] f = None
+wait_of (w ∷ ws) f = if w.fiber == f then Some w.source else wait_of ws f
+
+-- few words for what is waited for, since they stand in a lane
+abbrev pub wait_words : List (List ℕ) → Source → List ℕ
+wait_words names Nothing = codes "nothing"
+wait_words names (Outcome f) = codes "fiber" ++ number f
+wait_words names (Either f g) = codes "fiber" ++ number f ++ codes " or" ++ number g
+wait_words names (Room q) = codes "room in" ++ queue_name names q
+wait_words names (Element q) = codes "one of" ++ queue_name names q
+
+abbrev pub count_words : ℕ → ℕ → List ℕ
+count_words fibers events = decimal fibers ++ codes " fibers and " ++ decimal events ++ codes " events. "

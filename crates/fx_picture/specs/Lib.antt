@@ -1,7 +1,11 @@
 pub mod Causes
+pub mod Bars
+pub mod Visits
 pub mod Layout
 pub mod Labels
 pub mod Look
+pub mod Elements
+pub mod Legend
 pub mod Picture
 pub mod Has
 pub mod IsDrawn

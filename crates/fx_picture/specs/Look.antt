@@ -24,10 +24,6 @@ event_class (event.Ended Canceled) = codes "gone"
 event_class (event.Ended o) = codes "end"
 
 -- of a fiber that has ended, or not
-abbrev pub lane_class : Bool → List ℕ
-lane_class true = codes "lane"
-lane_class false = codes "open"
-
 abbrev pub end_class : Bool → List ℕ
 end_class true = codes "ended"
 end_class false = codes "waits"

@@ -1,13 +1,14 @@
 //! The arrows from causes to what they caused.
 ghost use Rattle.std.specs.Prelude.{◌≡◌, ◌≤◌, ◌<◌, ◌++◌, length, take, OnOk, string_bytes};
 ghost use Rattle.fx_svg.specs.Content.{rendering};
+ghost use Rattle.fx_picture.specs.Layout.{lane_of, lane_x, row_y};
 ghost use Rattle.fx_picture.specs.Picture.{arrow, arrow_by, arrows_to, arrows_from};
 
 use crate::cause::{Cause, cause_of};
+use crate::elements::{Point, push_line};
 use crate::layout::{MOST_EVENTS, lane_of, lane_x, row_y};
 use fx_model::FiberReport;
 use fx_order::Occurrence;
-use fx_svg::{Attribute, Key, Tag, Value, push_empty_element};
 use std::alloc::AllocError;
 
 /// An event, and the row where it is drawn.
@@ -15,6 +16,19 @@ use std::alloc::AllocError;
 pub(crate) struct Drawn {
     pub row: usize,
     pub event: Occurrence,
+}
+
+/// Where the mark of an event stands.
+pub(crate) fn place_of(fibers: &[FiberReport], it: Drawn) -> Point
+    requires fibers { length fibers.now ≤ MOST_EVENTS }
+    requires row { it.row ≤ MOST_EVENTS }
+    ensures x { result.x ≡ lane_x (lane_of fibers.now it.event.fiber) }
+    ensures y { result.y ≡ row_y it.row }
+{
+    Point {
+        x: lane_x(lane_of(fibers, it.event.fiber)),
+        y: row_y(it.row),
+    }
 }
 
 /// Appends an arrow from the one mark to the other.
@@ -31,29 +45,9 @@ fn push_arrow(
     ensures { OnOk result (string_bytes text.new ≡ string_bytes text.old
         ++ rendering (arrow fibers.now from to cause)) }
 {
-    let ends = [
-        Attribute {
-            key: Key::Class,
-            value: Value::Words(cause.class()),
-        },
-        Attribute {
-            key: Key::X1,
-            value: Value::Number(lane_x(lane_of(fibers, from.event.fiber))),
-        },
-        Attribute {
-            key: Key::Y1,
-            value: Value::Number(row_y(from.row)),
-        },
-        Attribute {
-            key: Key::X2,
-            value: Value::Number(lane_x(lane_of(fibers, to.event.fiber))),
-        },
-        Attribute {
-            key: Key::Y2,
-            value: Value::Number(row_y(to.row)),
-        },
-    ];
-    push_empty_element(text, Tag::Line, &ends)
+    let begins = place_of(fibers, from);
+    let ends = place_of(fibers, to);
+    push_line(text, cause.class(), begins, ends)
 }
 
 /// Appends an arrow from the one mark to the other, if that stands on it.

@@ -1,10 +1,11 @@
 //! The words of a picture.
 ghost use Rattle.std.specs.Prelude.{◌≡◌, ◌++◌, ◌∷◌, [], OnOk, IfOk, string_bytes};
 ghost use Rattle.fx_report.specs.Text.{names_of, outcome_text, queue_name, event_text, state_text, number, end_text};
-ghost use Rattle.fx_picture.specs.Labels.{mark_words, fiber_words};
+ghost use Rattle.fx_picture.specs.Labels.{mark_words, fiber_words, wait_of, wait_words, count_words};
 
-use fx_model::{FiberReport, State};
+use fx_model::{FiberReport, Source, State};
 use fx_order::Occurrence;
+use fx_report::Wait;
 use fx_term::{Event, Outcome};
 use fx_text::QueueDecl;
 use std::alloc::{AllocError, Global};
@@ -139,4 +140,51 @@ pub(crate) fn fiber_words(alloc: Global, fiber: &FiberReport) -> Result<String, 
 {
     let id = fiber.id;
     format!(in alloc; "fiber {id}")
+}
+
+/// What the fiber of that number waits for, where these wait.
+pub(crate) fn wait_of(waits: &[Wait], fiber: u32) -> Option<Source>
+    ensures { result ≡ wait_of waits.now fiber }
+{
+    let mut rest = waits;
+    while let Some((it, more)) = rest.split_first() {
+        if it.fiber == fiber {
+            return Some(it.source);
+        }
+        rest = more;
+    }
+    None
+}
+
+fn push_wait(text: &mut String, queues: &[QueueDecl], source: Source) -> Result<(), AllocError>
+    ensures { OnOk result (string_bytes text.new
+        ≡ string_bytes text.old ++ wait_words (names_of queues.now) source) }
+{
+    match source {
+        Source::Nothing => text.push_str("nothing"),
+        Source::Outcome(fiber) => write!(text, "fiber {fiber}"),
+        Source::Either(left, right) => write!(text, "fiber {left} or {right}"),
+        Source::Room(queue) => push_named(text, "room in", queues, queue),
+        Source::Element(queue) => push_named(text, "one of", queues, queue),
+    }
+}
+
+/// Few words for what is waited for, since they stand in a lane.
+pub(crate) fn wait_words(
+    alloc: Global,
+    queues: &[QueueDecl],
+    source: Source,
+) -> Result<String, AllocError>
+    ensures { IfOk result (λ text. string_bytes text ≡ wait_words (names_of queues.now) source) }
+{
+    let mut text = String::new(alloc);
+    push_wait(&mut text, queues, source)?;
+    Ok(text)
+}
+
+/// How many fibers and events a picture has.
+pub(crate) fn count_words(alloc: Global, fibers: usize, events: usize) -> Result<String, AllocError>
+    ensures { IfOk result (λ text. string_bytes text ≡ count_words fibers events) }
+{
+    format!(in alloc; "{fibers} fibers and {events} events. ")
 }

@@ -1,121 +1,174 @@
 //! The lanes of fibers.
-ghost use Rattle.std.specs.Prelude.{◌≡◌, ◌≤◌, ◌<◌, ◌++◌, length, OnOk, string_bytes};
+ghost use Rattle.std.specs.Prelude.{◌≡◌, ◌≤◌, ◌<◌, ◌++◌, codes, length, OnOk, string_bytes};
+ghost use Rattle.fx_report.specs.Text.{names_of};
 ghost use Rattle.fx_svg.specs.Content.{rendering};
-ghost use Rattle.fx_picture.specs.Picture.{label, upright, lane_content, lanes_from};
+ghost use Rattle.fx_picture.specs.Layout.{lane_x};
+ghost use Rattle.fx_picture.specs.Labels.{fiber_words, wait_of};
+ghost use Rattle.fx_picture.specs.Elements.{label};
+ghost use Rattle.fx_picture.specs.Picture.{upright, state_label, wait_labels, foot, lane_content, lanes_from};
 
-use crate::labels::{end_words, fiber_words};
-use crate::layout::{MOST_EVENTS, lane_x, row_y};
-use crate::look::{end_class, lane_class};
-use fx_model::FiberReport;
-use fx_svg::{Attribute, Key, Tag, Value, push_element, push_empty_element};
+use crate::elements::{Point, push_label, push_line};
+use crate::labels::{end_words, fiber_words, wait_of, wait_words};
+use crate::layout::{
+    ABOVE, BELOW, BOTTOM, MOST_EVENTS, MOST_LANES, NEXT_ABOVE, NEXT_BELOW, TOP, lane_x, row_y,
+};
+use crate::look::end_class;
+use fx_model::{FiberReport, Source};
+use fx_report::Wait;
+use fx_text::QueueDecl;
 use std::alloc::{AllocError, Global};
 
-/// Where lanes begin, and the words above them.
-pub(crate) const TOP: u64 = 44;
-
-pub(crate) const ABOVE: u64 = 32;
-
-/// How far below the last row lanes end, and the words below them stand.
-pub(crate) const BOTTOM: u64 = 10;
-
-pub(crate) const BELOW: u64 = 28;
-
-/// Appends words in the picture.
-fn push_label(text: &mut String, class: &str, x: u64, y: u64, words: &str) -> Result<(), AllocError>
-    ensures { OnOk result (string_bytes text.new ≡ string_bytes text.old
-        ++ rendering (label class.now x y words.now)) }
-{
-    let place = [
-        Attribute {
-            key: Key::Class,
-            value: Value::Words(class),
-        },
-        Attribute {
-            key: Key::X,
-            value: Value::Number(x),
-        },
-        Attribute {
-            key: Key::Y,
-            value: Value::Number(y),
-        },
-    ];
-    push_element(text, Tag::Text, &place, words)
-}
-
-/// Appends a line from top to bottom.
-fn push_upright(
+/// Appends a line from top to bottom, beside so many rows.
+pub(crate) fn push_upright(
     text: &mut String,
     class: &str,
-    x: u64,
-    top: u64,
-    bottom: u64,
+    rows: usize,
+    lane: usize,
 ) -> Result<(), AllocError>
+    requires rows { rows ≤ MOST_EVENTS }
+    requires lane { lane ≤ MOST_LANES }
     ensures { OnOk result (string_bytes text.new ≡ string_bytes text.old
-        ++ rendering (upright class.now x top bottom)) }
+        ++ rendering (upright class.now rows lane)) }
 {
-    let ends = [
-        Attribute {
-            key: Key::Class,
-            value: Value::Words(class),
-        },
-        Attribute {
-            key: Key::X1,
-            value: Value::Number(x),
-        },
-        Attribute {
-            key: Key::Y1,
-            value: Value::Number(top),
-        },
-        Attribute {
-            key: Key::X2,
-            value: Value::Number(x),
-        },
-        Attribute {
-            key: Key::Y2,
-            value: Value::Number(bottom),
-        },
-    ];
-    push_empty_element(text, Tag::Line, &ends)
+    let x = lane_x(lane);
+    let bottom = row_y(rows) + BOTTOM;
+    push_line(text, class, Point { x, y: TOP }, Point { x, y: bottom })
+}
+
+/// Appends at that height how a fiber is at the end.
+fn push_state(
+    alloc: Global,
+    text: &mut String,
+    lane: usize,
+    y: u64,
+    fiber: &FiberReport,
+) -> Result<(), AllocError>
+    requires { lane ≤ MOST_LANES }
+    ensures { OnOk result (string_bytes text.new ≡ string_bytes text.old
+        ++ rendering (state_label lane y fiber.now)) }
+{
+    let words = end_words(alloc, fiber)?;
+    let x = lane_x(lane);
+    push_label(text, end_class(fiber.state), Point { x, y }, &words)
+}
+
+/// Appends what a fiber is called.
+fn push_name(
+    alloc: Global,
+    text: &mut String,
+    lane: usize,
+    fiber: &FiberReport,
+) -> Result<(), AllocError>
+    requires { lane ≤ MOST_LANES }
+    ensures { OnOk result (string_bytes text.new ≡ string_bytes text.old
+        ++ rendering (label (codes "name") (lane_x lane) ABOVE (fiber_words fiber.now))) }
+{
+    let words = fiber_words(alloc, fiber)?;
+    let x = lane_x(lane);
+    push_label(text, "name", Point { x, y: ABOVE }, &words)
+}
+
+/// Appends what a fiber waits for.
+fn push_wait(
+    alloc: Global,
+    text: &mut String,
+    queues: &[QueueDecl],
+    rows: usize,
+    lane: usize,
+    source: Source,
+) -> Result<(), AllocError>
+    requires rows { rows ≤ MOST_EVENTS }
+    requires lane { lane ≤ MOST_LANES }
+    ensures { OnOk result (string_bytes text.new ≡ string_bytes text.old
+        ++ rendering (wait_labels (names_of queues.now) rows lane source)) }
+{
+    let words = wait_words(alloc, queues, source)?;
+    let x = lane_x(lane);
+    let y = row_y(rows) + BELOW;
+    let next = row_y(rows) + NEXT_BELOW;
+    push_label(text, "waits", Point { x, y }, "waits for")?;
+    push_label(text, "waits", Point { x, y: next }, &words)
+}
+
+/// Appends what stands below the lane of a fiber, which waits for this or for nothing.
+fn push_foot_of(
+    alloc: Global,
+    text: &mut String,
+    queues: &[QueueDecl],
+    rows: usize,
+    lane: usize,
+    fiber: &FiberReport,
+    source: Option<Source>,
+) -> Result<(), AllocError>
+    requires rows { rows ≤ MOST_EVENTS }
+    requires lane { lane ≤ MOST_LANES }
+    ensures { OnOk result (string_bytes text.new ≡ string_bytes text.old
+        ++ rendering (foot (names_of queues.now) rows lane fiber.now source)) }
+{
+    match source {
+        Some(source) => push_wait(alloc, text, queues, rows, lane, source),
+        None => push_state(alloc, text, lane, row_y(rows) + BELOW, fiber),
+    }
+}
+
+/// Appends what stands below the lane of a fiber.
+fn push_foot(
+    alloc: Global,
+    text: &mut String,
+    queues: &[QueueDecl],
+    waits: &[Wait],
+    rows: usize,
+    lane: usize,
+    fiber: &FiberReport,
+) -> Result<(), AllocError>
+    requires rows { rows ≤ MOST_EVENTS }
+    requires lane { lane ≤ MOST_LANES }
+    ensures { OnOk result (string_bytes text.new ≡ string_bytes text.old ++ rendering
+        (foot (names_of queues.now) rows lane fiber.now (wait_of waits.now fiber.now.id))) }
+{
+    let source = wait_of(waits, fiber.id);
+    push_foot_of(alloc, text, queues, rows, lane, fiber, source)
 }
 
 /// Appends the lane of a fiber, beside so many rows.
 fn push_lane(
     alloc: Global,
     text: &mut String,
+    queues: &[QueueDecl],
+    waits: &[Wait],
     rows: usize,
     lane: usize,
     fiber: &FiberReport,
 ) -> Result<(), AllocError>
     requires rows { rows ≤ MOST_EVENTS }
-    requires lane { lane ≤ MOST_EVENTS }
+    requires lane { lane ≤ MOST_LANES }
     ensures { OnOk result (string_bytes text.new ≡ string_bytes text.old
-        ++ rendering (lane_content rows lane fiber.now)) }
+        ++ rendering (lane_content (names_of queues.now) rows lane waits.now fiber.now)) }
 {
-    let x = lane_x(lane);
-    let end = row_y(rows);
-    let name = fiber_words(alloc, fiber)?;
-    let last = end_words(alloc, fiber)?;
-    push_upright(text, lane_class(fiber.state), x, TOP, end + BOTTOM)?;
-    push_label(text, "name", x, ABOVE, &name)?;
-    push_label(text, end_class(fiber.state), x, end + BELOW, &last)
+    push_upright(text, "lane", rows, lane)?;
+    push_name(alloc, text, lane, fiber)?;
+    push_state(alloc, text, lane, NEXT_ABOVE, fiber)?;
+    push_foot(alloc, text, queues, waits, rows, lane, fiber)
 }
 
 /// Appends the lanes of these fibers, beside so many rows.
 pub(crate) fn push_lanes(
     alloc: Global,
     text: &mut String,
+    queues: &[QueueDecl],
+    waits: &[Wait],
     rows: usize,
     fibers: &[FiberReport],
 ) -> Result<(), AllocError>
     requires rows { rows ≤ MOST_EVENTS }
     requires fibers { length fibers.now ≤ MOST_EVENTS }
     ensures { OnOk result (string_bytes text.new ≡ string_bytes text.old
-        ++ rendering (lanes_from rows 0 fibers.now)) }
+        ++ rendering (lanes_from (names_of queues.now) rows waits.now 0 fibers.now)) }
 {
     let mut lane = 0;
     let mut rest = fibers;
     while let Some((fiber, more)) = rest.split_first() {
-        push_lane(alloc, text, rows, lane, fiber)?;
+        push_lane(alloc, text, queues, waits, rows, lane, fiber)?;
         lane += 1;
         rest = more;
     }

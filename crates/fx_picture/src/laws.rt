@@ -8,6 +8,7 @@ ghost use Rattle.fx_model.specs.LawfulReport.{IsLawfulReport};
 ghost use Rattle.fx_model.specs.Causes.{Needs, LeavesQueue};
 ghost use Rattle.fx_order.specs.declared.occurrence.Occurrence.{Occurrence};
 ghost use Rattle.fx_order.specs.CausalOrder.{IsCausalOrder};
+ghost use Rattle.fx_report.specs.declared.wait.Wait.{Wait};
 ghost use Rattle.fx_svg.specs.Content.{Content};
 ghost use Rattle.fx_svg.specs.WellFormed.{is_well_formed};
 ghost use Rattle.fx_picture.specs.declared.cause.Cause.{Cause};
@@ -18,8 +19,8 @@ ghost use Rattle.fx_picture.specs.Picture.{arrow, arrows_from, picture, picture_
 
 /// The text of a picture is a well-formed document.
 pub fn picture_is_well_formed()
-    ensures { (names : List (List ℕ)) (fibers : List FiberReportView) (list : List Occurrence)
-        → is_well_formed (picture_text names fibers list) ≡ true }
+    ensures { (names : List (List ℕ)) (waits : List Wait) (fibers : List FiberReportView)
+        (list : List Occurrence) → is_well_formed (picture_text names waits fibers list) ≡ true }
 {}
 
 /// What stands among the arrows of a picture is an arrow from an event to one below it that stands on it.
@@ -30,10 +31,10 @@ pub fn arrows_join_causes()
 
 /// From each event to each one below it that stands on it there is an arrow.
 pub fn no_arrow_is_missing()
-    ensures { (names : List (List ℕ)) (fibers : List FiberReportView) (list : List Occurrence)
-        (above below : ℕ) (first second : Occurrence) (cause : Cause) → above < below
+    ensures { (names : List (List ℕ)) (waits : List Wait) (fibers : List FiberReportView)
+        (list : List Occurrence) (above below : ℕ) (first second : Occurrence) (cause : Cause) → above < below
         → slice_get list above ≡ Some first → slice_get list below ≡ Some second
-        → cause_of first second ≡ Some cause → Has (picture names fibers list)
+        → cause_of first second ≡ Some cause → Has (picture names waits fibers list)
         (arrow fibers (record { row = above; event = first })
         (record { row = below; event = second }) cause) }
 {}
@@ -44,13 +45,13 @@ pub fn no_arrow_is_missing()
 pub fn causes_are_drawn()
     ensures needed { (s : ScriptView) (may : ℕ → Bool) (r : ReportView)
         (lawful : IsLawfulReport s may r) (list : List Occurrence)
-        → IsCausalOrder s may r lawful list → (names : List (List ℕ))
+        → IsCausalOrder s may r lawful list → (names : List (List ℕ)) (waits : List Wait)
         (f i g j : ℕ) (e : Event) → slice_get (trace_in r f) i ≡ Some e → SaysItsCause e
         → Needs (trace_in r) lawful.runs.labels (LeavesQueue s may r lawful) f i g j
-        → IsDrawn names r list f i g j }
+        → IsDrawn names waits r list f i g j }
     ensures requested { (s : ScriptView) (may : ℕ → Bool) (r : ReportView)
         (lawful : IsLawfulReport s may r) (list : List Occurrence)
-        → IsCausalOrder s may r lawful list → (names : List (List ℕ))
+        → IsCausalOrder s may r lawful list → (names : List (List ℕ)) (waits : List Wait)
         (f i : ℕ) → slice_get (trace_in r f) i ≡ Some Seen → (Contains r.outside f → ⊥)
-        → HasArrow names r list f i }
+        → HasArrow names waits r list f i }
 {}

@@ -1,11 +1,11 @@
 //! Where what is drawn stands, in pixels.
 ghost use Rattle.std.specs.Prelude.{◌≡◌, ◌≤◌, length};
-ghost use Rattle.fx_picture.specs.Layout.{lane_of, lane_x, row_y};
+ghost use Rattle.fx_picture.specs.Layout.{lane_of, lane_x, row_y, height};
 
 use fx_model::FiberReport;
 
-/// The middle of the first lane, and from one to the next.
-pub(crate) const FIRST_LANE: u64 = 64;
+/// The middle of the first lane, and from one to the next. The legend stands left of them.
+pub(crate) const FIRST_LANE: u64 = 260;
 
 pub(crate) const LANE: u64 = 96;
 
@@ -14,8 +14,33 @@ pub(crate) const FIRST_ROW: u64 = 64;
 
 pub(crate) const ROW: u64 = 18;
 
-/// How many events and fibers a picture has at most.
+/// Where lanes begin, and the two lines of words above them.
+pub(crate) const TOP: u64 = 44;
+
+pub(crate) const ABOVE: u64 = 20;
+
+pub(crate) const NEXT_ABOVE: u64 = 36;
+
+/// How far below the last row lanes end, the two lines of words below them stand, and the picture ends.
+pub(crate) const BOTTOM: u64 = 10;
+
+pub(crate) const BELOW: u64 = 28;
+
+pub(crate) const NEXT_BELOW: u64 = 44;
+
+pub(crate) const FOOT: u64 = 60;
+
+/// How far below the middle of a row its words have their base line.
+pub(crate) const BASE: u64 = 4;
+
+/// Where the legend ends.
+pub(crate) const LEGEND_BOTTOM: u64 = 360;
+
+/// How many events, fibers and queues a picture has at most, of each.
 pub const MOST_EVENTS: usize = 20_000;
+
+/// How many lanes that can be.
+pub(crate) const MOST_LANES: usize = 40_000;
 
 /// The lane of the fiber of that number: how many fibers stand before it.
 pub(crate) fn lane_of(fibers: &[FiberReport], fiber: u32) -> usize
@@ -35,7 +60,7 @@ pub(crate) fn lane_of(fibers: &[FiberReport], fiber: u32) -> usize
 }
 
 pub(crate) fn lane_x(lane: usize) -> u64
-    requires { lane ≤ MOST_EVENTS }
+    requires { lane ≤ MOST_LANES }
     ensures { result ≡ lane_x lane }
 {
     FIRST_LANE + lane as u64 * LANE
@@ -46,4 +71,12 @@ pub(crate) fn row_y(row: usize) -> u64
     ensures { result ≡ row_y row }
 {
     FIRST_ROW + row as u64 * ROW
+}
+
+/// How high a picture with so many rows is.
+pub(crate) fn height(rows: usize) -> u64
+    requires { rows ≤ MOST_EVENTS }
+    ensures { result ≡ height rows }
+{
+    (row_y(rows) + FOOT).max(LEGEND_BOTTOM)
 }

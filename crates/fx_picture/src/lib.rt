@@ -2,9 +2,14 @@
 //!
 //! | what is drawn | how |
 //! |---|---|
-//! | a fiber | a lane from top to bottom, with its number above and how it is at the end below |
+//! | a fiber | a lane from top to bottom, with its number and how it is at the end above, and what it waits for below |
+//! | a queue | a lane right of these |
 //! | an event | a mark in its fiber's lane, with the line of its trace as a title |
+//! | an event at a queue | a line to that queue's lane, with what was put or taken |
 //! | a cause | an arrow from its mark to that of the event that it caused |
+//! | a life, clean-ups, a resource that is held | a bar from the event that begins it to that which ends it |
+//!
+//! Left of them stands a legend.
 //!
 //! Its rules:
 //!
@@ -15,22 +20,32 @@
 //!    above it.
 //! 3. No arrow goes to a `got` or a `first`: which put the one took, and which of two fibers the other found,
 //!    the events of a report do not say.
-//! 4. The text is exactly the rendering of one tree of elements, so it is a well-formed document: that is a
+//! 4. A bar goes to the first event of its fiber that ends it, and to the foot of the picture where there is
+//!    none.
+//! 5. How many elements a queue holds is not drawn: the order of the list need not be that in which it was
+//!    used.
+//! 6. The text is exactly the rendering of one tree of elements, so it is a well-formed document: that is a
 //!    law, in [`laws`].
 //!
 //! What never happens: an arrow that goes up; a text where memory ran out.
 #![tactic(auto)]
 
 mod arrows;
+mod bar;
+mod bars;
 mod cause;
+mod elements;
 mod fault;
 mod labels;
 mod lanes;
 pub mod laws;
 mod layout;
+mod legend;
 mod look;
 mod marks;
 mod picture;
+mod queues;
+mod visit;
 
 pub use cause::Cause;
 pub use fault::PictureFault;

@@ -6,17 +6,22 @@ ghost use Rattle.fx_svg.specs.Content.{start_tag, rendering};
 ghost use Rattle.fx_svg.specs.declared.tag.Tag.TheVariants.{Svg};
 ghost use Rattle.fx_order.specs.Occurrences.{occurrences};
 ghost use Rattle.fx_picture.specs.declared.fault.PictureFault.TheVariants.{TooLarge};
-ghost use Rattle.fx_picture.specs.Picture.{arrow_head, size, head, picture_text};
+ghost use Rattle.fx_picture.specs.Picture.{arrow_head, size, head, ground_of, figures_of, picture_text};
 ghost use Rattle.fx_picture.specs.IsPicture.{IsPicture, IsTooLarge};
 
 use crate::arrows::push_arrows;
+use crate::bars::push_bars;
 use crate::fault::PictureFault;
+use crate::labels::count_words;
 use crate::lanes::push_lanes;
-use crate::layout::{MOST_EVENTS, lane_x, row_y};
+use crate::layout::{MOST_EVENTS, MOST_LANES, height, lane_x};
+use crate::legend::push_legend;
 use crate::look::STYLE;
 use crate::marks::push_marks;
+use crate::queues::{push_queue_lanes, push_visits};
 use fx_model::{FiberReport, Report};
 use fx_order::{Occurrence, order_by_stamp};
+use fx_report::Wait;
 use fx_svg::{
     Attribute, Key, Tag, Value, push_element, push_empty_element, push_end_tag, push_start_tag,
 };
@@ -26,12 +31,9 @@ use std::alloc::{AllocError, Global};
 /// What a picture is called, and what it shows, for who does not see it.
 pub(crate) const TITLE: &str = "A run of fibers";
 
-pub(crate) const DESCRIPTION: &str = "Each fiber has a lane and time goes down. \
+pub(crate) const DESCRIPTION: &str = "Each fiber and each queue has a lane, and time goes down. \
     A mark is an event, an arrow goes from a cause to what it caused. \
     A lane that is dashed is that of a fiber that waits for good.";
-
-/// How far below the last row the picture ends.
-pub(crate) const FOOT: u64 = 48;
 
 /// Appends the head of an arrow, as the style means it.
 fn push_arrow_head(text: &mut String) -> Result<(), AllocError>
@@ -64,7 +66,7 @@ fn push_arrow_head(text: &mut String) -> Result<(), AllocError>
         },
         Attribute {
             key: Key::Orient,
-            value: Value::Words("auto"),
+            value: Value::Words("auto-start-reverse"),
         },
     ];
     let way = [Attribute {
@@ -78,7 +80,7 @@ fn push_arrow_head(text: &mut String) -> Result<(), AllocError>
 
 /// Appends the start tag of a picture with so many lanes and rows.
 fn push_start(text: &mut String, lanes: usize, rows: usize) -> Result<(), AllocError>
-    requires lanes { lanes ≤ MOST_EVENTS }
+    requires lanes { lanes ≤ MOST_LANES }
     requires rows { rows ≤ MOST_EVENTS }
     ensures { OnOk result (string_bytes text.new ≡ string_bytes text.old
         ++ start_tag Svg (size lanes rows)) }
@@ -98,24 +100,52 @@ fn push_start(text: &mut String, lanes: usize, rows: usize) -> Result<(), AllocE
         },
         Attribute {
             key: Key::Height,
-            value: Value::Number(row_y(rows) + FOOT),
+            value: Value::Number(height(rows)),
         },
     ];
     push_start_tag(text, Tag::Svg, &size)
 }
 
-/// Appends what a picture has beside what is drawn.
-fn push_head(text: &mut String) -> Result<(), AllocError>
-    ensures { OnOk result (string_bytes text.new ≡ string_bytes text.old ++ rendering head) }
+/// Appends what a picture of so many fibers and events has beside what is drawn.
+fn push_head(
+    alloc: Global,
+    text: &mut String,
+    fibers: usize,
+    events: usize,
+) -> Result<(), AllocError>
+    ensures { OnOk result
+        (string_bytes text.new ≡ string_bytes text.old ++ rendering (head fibers events)) }
 {
+    let mut words = count_words(alloc, fibers, events)?;
+    words.push_str(DESCRIPTION)?;
     push_element(text, Tag::Title, &[], TITLE)?;
-    push_element(text, Tag::Description, &[], DESCRIPTION)?;
+    push_element(text, Tag::Description, &[], &words)?;
     push_element(text, Tag::Style, &[], STYLE)?;
     push_arrow_head(text)
 }
 
-/// Appends the picture of these events of these fibers.
-fn push_picture(
+/// Appends the lanes of these fibers and queues, and the bars beside them.
+fn push_ground(
+    alloc: Global,
+    text: &mut String,
+    queues: &[QueueDecl],
+    waits: &[Wait],
+    fibers: &[FiberReport],
+    list: &[Occurrence],
+) -> Result<(), AllocError>
+    requires fibers { length fibers.now ≤ MOST_EVENTS }
+    requires rows { length list.now ≤ MOST_EVENTS }
+    requires queues { length queues.now ≤ MOST_EVENTS }
+    ensures { OnOk result (string_bytes text.new ≡ string_bytes text.old
+        ++ rendering (ground_of (names_of queues.now) waits.now fibers.now list.now)) }
+{
+    push_lanes(alloc, text, queues, waits, list.len(), fibers)?;
+    push_queue_lanes(alloc, text, list.len(), fibers.len(), queues)?;
+    push_bars(alloc, text, fibers, list)
+}
+
+/// Appends what happens on the lanes of these fibers and queues.
+fn push_figures(
     alloc: Global,
     text: &mut String,
     queues: &[QueueDecl],
@@ -125,13 +155,33 @@ fn push_picture(
     requires fibers { length fibers.now ≤ MOST_EVENTS }
     requires rows { length list.now ≤ MOST_EVENTS }
     ensures { OnOk result (string_bytes text.new ≡ string_bytes text.old
-        ++ picture_text (names_of queues.now) fibers.now list.now) }
+        ++ rendering (figures_of (names_of queues.now) fibers.now list.now)) }
 {
-    push_start(text, fibers.len(), list.len())?;
-    push_head(text)?;
-    push_lanes(alloc, text, list.len(), fibers)?;
+    push_visits(alloc, text, fibers, list)?;
     push_arrows(text, fibers, list)?;
-    push_marks(alloc, text, queues, fibers, list)?;
+    push_marks(alloc, text, queues, fibers, list)
+}
+
+/// Appends the picture of these events of these fibers, of which these wait.
+fn push_picture(
+    alloc: Global,
+    text: &mut String,
+    queues: &[QueueDecl],
+    waits: &[Wait],
+    fibers: &[FiberReport],
+    list: &[Occurrence],
+) -> Result<(), AllocError>
+    requires fibers { length fibers.now ≤ MOST_EVENTS }
+    requires rows { length list.now ≤ MOST_EVENTS }
+    requires queues { length queues.now ≤ MOST_EVENTS }
+    ensures { OnOk result (string_bytes text.new ≡ string_bytes text.old
+        ++ picture_text (names_of queues.now) waits.now fibers.now list.now) }
+{
+    push_start(text, fibers.len() + queues.len(), list.len())?;
+    push_head(alloc, text, fibers.len(), list.len())?;
+    push_legend(text)?;
+    push_ground(alloc, text, queues, waits, fibers, list)?;
+    push_figures(alloc, text, queues, fibers, list)?;
     push_end_tag(text, Tag::Svg)
 }
 
@@ -140,35 +190,50 @@ fn draw(
     alloc: Global,
     script: &Script,
     report: &Report,
+    waits: &[Wait],
     list: &[Occurrence],
 ) -> Result<String, AllocError>
     requires fibers { length report.now.fibers ≤ MOST_EVENTS }
     requires rows { length list.now ≤ MOST_EVENTS }
+    requires queues { length script.now.queues.items ≤ MOST_EVENTS }
     ensures { IfOk result (λ text. string_bytes text
-        ≡ picture_text (queue_names (meaning script.now)) report.now.fibers list.now) }
+        ≡ picture_text (queue_names (meaning script.now)) waits.now report.now.fibers list.now) }
 {
     let mut text = String::new(alloc);
-    push_picture(alloc, &mut text, &script.queues, &report.fibers, list)?;
+    push_picture(
+        alloc,
+        &mut text,
+        &script.queues,
+        waits,
+        &report.fibers,
+        list,
+    )?;
     Ok(text)
 }
 
-/// The picture of a report. It fails only where memory runs out, or where it would be too large.
+/// The picture of a report, whose blocked fibers wait for this. It fails only where memory runs out, or where it would
+/// be too large.
 pub fn format_picture(
     alloc: Global,
     script: &Script,
     report: &Report,
+    waits: &[Wait],
 ) -> Result<String, PictureFault>
-    ensures picture { IfOk result (λ text.
-        IsPicture (queue_names (meaning script.now)) report.now (string_bytes text)) }
-    ensures fault { IfErr result (λ fault. fault ≡ TooLarge → IsTooLarge report.now) }
+    ensures picture { IfOk result (λ text. IsPicture (queue_names (meaning script.now)) report.now
+        waits.now (string_bytes text)) }
+    ensures fault { IfErr result (λ fault. fault ≡ TooLarge
+        → IsTooLarge (queue_names (meaning script.now)) report.now) }
 {
     let list = order_by_stamp(alloc, report)?;
+    if script.queues.len() > MOST_EVENTS {
+        return Err(PictureFault::TooLarge);
+    }
     if report.fibers.len() > MOST_EVENTS {
         return Err(PictureFault::TooLarge);
     }
     if list.len() > MOST_EVENTS {
         return Err(PictureFault::TooLarge);
     }
-    let text = draw(alloc, script, report, &list)?;
+    let text = draw(alloc, script, report, waits, &list)?;
     Ok(text)
 }

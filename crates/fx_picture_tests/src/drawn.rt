@@ -1,52 +1,83 @@
-//! The picture of a fiber that is canceled while the main fiber waits, and of too many events.
-use fx_model::{FiberReport, Report, State};
+//! The picture of a fiber that is canceled while the main fiber waits, of one that waits for good, and of too many events.
+use fx_model::{FiberReport, Report, Source, State};
 use fx_picture::{MOST_EVENTS, PictureFault, format_picture};
-use fx_term::Event::{Awaited, Cancelled, Ended, Request, Seen, Start};
+use fx_report::Wait;
+use fx_term::Event::{Acquired, Awaited, Cancelled, Ended, Put, Request, Seen, Start};
 use fx_term::Outcome::{Canceled, Succeeded};
 use fx_term::{Event, Stamped};
 use fx_text::parse;
 use std::alloc::{AllocError, Global};
 use std::test::Fail;
 
-/// What stands in the picture: rows are 18 apart from 64 on, and lanes 96 from 64 on.
-static DRAWN: [&str; 12] = [
-    "<svg xmlns=\"http://www.w3.org/2000/svg\" role=\"img\" width=\"256\" height=\"238\"><title>",
-    "<line class=\"lane\" x1=\"64\" y1=\"44\" x2=\"64\" y2=\"200\"></line>",
-    "<text class=\"name\" x=\"160\" y=\"32\">fiber 1</text>",
-    "<text class=\"ended\" x=\"64\" y=\"218\">succeeded 6</text>",
-    "<text class=\"ended\" x=\"160\" y=\"218\">canceled</text>",
-    "<line class=\"arrow start\" x1=\"64\" y1=\"64\" x2=\"160\" y2=\"100\"></line>",
-    "<line class=\"arrow cancel dashed\" x1=\"64\" y1=\"82\" x2=\"160\" y2=\"100\"></line>",
-    "<line class=\"arrow end\" x1=\"160\" y1=\"136\" x2=\"64\" y2=\"154\"></line>",
-    "<circle class=\"start\" cx=\"64\" cy=\"64\" r=\"5\"><title>0 1 start 1</title>\n</circle>",
-    "<circle class=\"seen\" cx=\"160\" cy=\"100\" r=\"5\"><title>1 3 seen</title>\n</circle>",
-    "<circle class=\"gone\" cx=\"160\" cy=\"136\" r=\"5\"><title>1 5 ended canceled</title>\n</circle>",
-    "<circle class=\"end\" cx=\"64\" cy=\"172\" r=\"5\"><title>0 7 ended succeeded 6</title>\n</circle>\n</svg>\n",
+/// What stands in the picture: rows are 18 apart from 64 on, and lanes 96 from 260 on.
+static DRAWN: [&str; 14] = [
+    "<svg xmlns=\"http://www.w3.org/2000/svg\" role=\"img\" width=\"452\" height=\"360\"><title>",
+    "<desc>2 fibers and 7 events. Each fiber",
+    "<line class=\"lane\" x1=\"260\" y1=\"44\" x2=\"260\" y2=\"200\"></line>",
+    "<text class=\"name\" x=\"356\" y=\"20\">fiber 1</text>",
+    "<text class=\"ended\" x=\"260\" y=\"36\">succeeded 6</text>",
+    "<text class=\"ended\" x=\"356\" y=\"218\">canceled</text>",
+    "<line class=\"life\" x1=\"260\" y1=\"64\" x2=\"260\" y2=\"172\"><title>",
+    "<line class=\"unwinding\" x1=\"356\" y1=\"118\" x2=\"356\" y2=\"136\"><title>",
+    "<line class=\"arrow start\" x1=\"260\" y1=\"64\" x2=\"356\" y2=\"100\"></line>",
+    "<line class=\"arrow cancel dashed\" x1=\"260\" y1=\"82\" x2=\"356\" y2=\"100\"></line>",
+    "<line class=\"arrow end\" x1=\"356\" y1=\"136\" x2=\"260\" y2=\"154\"></line>",
+    "<circle class=\"start\" cx=\"260\" cy=\"64\" r=\"5\"><title>0 1 start 1</title>\n</circle>",
+    "<circle class=\"gone\" cx=\"356\" cy=\"136\" r=\"5\"><title>1 5 ended canceled</title>\n</circle>",
+    "<circle class=\"end\" cx=\"260\" cy=\"172\" r=\"5\"><title>0 7 ended succeeded 6</title>\n</circle>\n</svg>\n",
+];
+
+/// What stands in that of a fiber which waits, holds a resource and has put an element.
+static HELD: [&str; 7] = [
+    "width=\"452\" height=\"360\"><title>",
+    "<text class=\"name\" x=\"356\" y=\"20\">queue jobs</text>",
+    "<text class=\"waits\" x=\"260\" y=\"36\">blocked</text>",
+    "<text class=\"waits\" x=\"260\" y=\"144\">room in jobs</text>",
+    "<line class=\"holding open\" x1=\"268\" y1=\"64\" x2=\"268\" y2=\"110\"><title>holds its resource 0<",
+    "<line class=\"visit put\" x1=\"260\" y1=\"82\" x2=\"356\" y2=\"82\"></line>",
+    "<text class=\"visited\" x=\"364\" y=\"86\">+3</text>",
 ];
 
 fn stamped(stamp: u64, event: Event) -> Stamped {
     Stamped { event, stamp }
 }
 
-fn fiber(alloc: Global, id: u32, trace: &[Stamped]) -> Result<FiberReport, AllocError> {
+fn fiber(
+    alloc: Global,
+    id: u32,
+    state: State,
+    trace: &[Stamped],
+) -> Result<FiberReport, AllocError> {
     Ok(FiberReport {
         id,
         parent: None,
-        state: State::Ended,
+        state,
         trace: Vec::from_slice(alloc, trace)?,
     })
 }
 
-fn report_of(alloc: Global, main: &[Stamped], child: &[Stamped]) -> Result<Report, AllocError> {
-    let mut fibers = Vec::new(alloc);
-    fibers.push(fiber(alloc, 0, main)?)?;
-    fibers.push(fiber(alloc, 1, child)?)?;
-    Ok(Report {
+fn report_with(alloc: Global, fibers: Vec<FiberReport>) -> Report {
+    Report {
         fibers,
         left: Vec::new(alloc),
         outside: Vec::new(alloc),
         late: 0,
-    })
+    }
+}
+
+fn report_of(alloc: Global, main: &[Stamped], child: &[Stamped]) -> Result<Report, AllocError> {
+    let mut fibers = Vec::new(alloc);
+    fibers.push(fiber(alloc, 0, State::Ended, main)?)?;
+    fibers.push(fiber(alloc, 1, State::Ended, child)?)?;
+    Ok(report_with(alloc, fibers))
+}
+
+/// The main fiber holds a resource, has put an element, and waits.
+fn waiting(alloc: Global) -> Result<Report, AllocError> {
+    let main = [stamped(1, Acquired(0)), stamped(2, Put(0, 3))];
+    let mut fibers = Vec::new(alloc);
+    fibers.push(fiber(alloc, 0, State::Blocked, &main)?)?;
+    Ok(report_with(alloc, fibers))
 }
 
 fn canceled(alloc: Global) -> Result<Report, AllocError> {
@@ -67,8 +98,22 @@ fn canceled(alloc: Global) -> Result<Report, AllocError> {
 #[test]
 fn draws_marks_and_arrows(rt: HostRuntime) -> Result<(), Fail> {
     let script = parse(rt.alloc(), b"(main (pure 6))")?;
-    let text = format_picture(rt.alloc(), &script, &canceled(rt.alloc())?)?;
+    let text = format_picture(rt.alloc(), &script, &canceled(rt.alloc())?, &[])?;
     for drawn in &DRAWN {
+        assert!(rt; text.contains(*drawn));
+    }
+    Ok(())
+}
+
+#[test]
+fn draws_what_is_held_and_waited_for(rt: HostRuntime) -> Result<(), Fail> {
+    let script = parse(rt.alloc(), b"(queue jobs 1) (main (pure 6))")?;
+    let waits = [Wait {
+        fiber: 0,
+        source: Source::Room(0),
+    }];
+    let text = format_picture(rt.alloc(), &script, &waiting(rt.alloc())?, &waits)?;
+    for drawn in &HELD {
         assert!(rt; text.contains(*drawn));
     }
     Ok(())
@@ -83,7 +128,7 @@ fn refuses_too_many_events(rt: HostRuntime) -> Result<(), Fail> {
     }
     let report = report_of(rt.alloc(), &events, &[])?;
     let refused = matches!(
-        format_picture(rt.alloc(), &script, &report),
+        format_picture(rt.alloc(), &script, &report, &[]),
         Err(PictureFault::TooLarge)
     );
     assert!(rt; refused);

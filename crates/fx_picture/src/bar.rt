@@ -1,0 +1,130 @@
+//! Bars: what goes on in a fiber from one of its events to another.
+ghost use Rattle.std.specs.Prelude.{◌≡◌};
+ghost use Rattle.fx_picture.specs.Bars.{life_at, bar_at, is_end, is_release};
+
+use fx_order::Occurrence;
+use fx_term::Event;
+use std::alloc::{AllocError, Global};
+
+/// What goes on in a fiber.
+#[derive(Clone, Copy, PartialEq, Eq, Debug)]
+pub(crate) enum Bar {
+    /// It lives, from its first event to its end.
+    Life,
+    /// Its clean-ups run, from where it is canceled to its end.
+    Unwinding,
+    /// It holds its resource of this number, until the release of that has ended.
+    Holding(u64),
+}
+
+/// How far right of its lane the bar of a first resource stands, and how far from one to the next.
+pub(crate) const ASIDE: u64 = 8;
+
+pub(crate) const ASUNDER: u64 = 5;
+
+/// How many resources have bars abreast.
+pub(crate) const ABREAST: u64 = 4;
+
+/// The life that begins at an event in this place of its fiber.
+pub(crate) fn life_at(place: usize) -> Option<Bar>
+    ensures { result ≡ life_at place }
+{
+    if place == 0 { Some(Bar::Life) } else { None }
+}
+
+/// What else begins at such an event.
+pub(crate) fn bar_at(event: Event) -> Option<Bar>
+    ensures { result ≡ bar_at event }
+{
+    match event {
+        Event::Cancelled => Some(Bar::Unwinding),
+        Event::Acquired(resource) => Some(Bar::Holding(resource)),
+        _ => None,
+    }
+}
+
+fn is_end(event: Event) -> bool
+    ensures { result ≡ is_end event }
+{
+    matches!(event, Event::Ended(_))
+}
+
+/// Whether the event is the end of the release of that resource.
+fn is_release(resource: u64, event: Event) -> bool
+    ensures { result ≡ is_release resource event }
+{
+    match event {
+        Event::End(released) => released == resource,
+        _ => false,
+    }
+}
+
+impl Bar {
+    ghost use Rattle.std.specs.Prelude.{◌≡◌, ◌≤◌, ◌<◌, ◌+◌, ◌*◌, ◌^◌, IfOk, IfSome, length, string_bytes};
+    ghost use Rattle.fx_picture.specs.Bars.{closes, closing_row, aside, bar_class, bar_words};
+
+    /// Whether it ends at such an event of its fiber.
+    fn closes(self, event: Event) -> bool
+        ensures { result ≡ closes self event }
+    {
+        match self {
+            Bar::Life | Bar::Unwinding => is_end(event),
+            Bar::Holding(resource) => is_release(resource, event),
+        }
+    }
+
+    /// Where it ends, if it does: the first row, from this one on, in which an event of that fiber closes it. These are
+    /// the events from that row on.
+    pub(crate) fn closing_row(self, fiber: u32, first: usize, list: &[Occurrence]) -> Option<usize>
+        requires { first + length list.now < 2 ^ 64 }
+        ensures row { result ≡ closing_row fiber self first list.now }
+        ensures within { IfSome result (λ row. row ≤ first + length list.now) }
+    {
+        let mut row = first;
+        let mut rest = list;
+        while let Some((it, more)) = rest.split_first() {
+            if it.fiber == fiber && self.closes(it.event) {
+                return Some(row);
+            }
+            row += 1;
+            rest = more;
+        }
+        None
+    }
+
+    /// How far right of the middle of its lane it stands.
+    pub(crate) fn aside(self) -> u64
+        ensures is { result ≡ aside self }
+        ensures few { result ≤ ASIDE + ABREAST * ASUNDER }
+    {
+        match self {
+            Bar::Life | Bar::Unwinding => 0,
+            Bar::Holding(resource) => ASIDE + resource % ABREAST * ASUNDER,
+        }
+    }
+
+    /// The name by which the style means one that ends in that row, or does not end.
+    pub(crate) fn class(self, closing: Option<usize>) -> &'static str
+        ensures { result.now ≡ bar_class self closing }
+    {
+        match (self, closing) {
+            (Bar::Life, Some(_)) => "life",
+            (Bar::Life, None) => "life open",
+            (Bar::Unwinding, Some(_)) => "unwinding",
+            (Bar::Unwinding, None) => "unwinding open",
+            (Bar::Holding(_), Some(_)) => "holding",
+            (Bar::Holding(_), None) => "holding open",
+        }
+    }
+
+    /// What it says where the pointer rests on it.
+    pub(crate) fn words(self, alloc: Global) -> Result<String, AllocError>
+        ensures { IfOk result (λ text. string_bytes text ≡ bar_words self) }
+    {
+        match self {
+            Bar::Life => String::from_str(alloc, "from its first event to its end"),
+            Bar::Unwinding => String::from_str(alloc, "canceled: its clean-ups run"),
+            Bar::Holding(resource) => format!(in alloc; "holds its resource {resource}"),
+        }
+    }
+}
