@@ -2,7 +2,7 @@
 use Rattle.std.proofs.Common.{◌≡◌, ℕ, zero, suc, ◌+◌, ◌<◌, Option, Some, None, List, [], ◌∷◌, refl, sym, ap, subst, ◌∙◌, take, arith, inl, inr, slice_get}
 use Rattle.fx_model.specs.Report.{FiberReportView}
 use Rattle.fx_order.specs.declared.occurrence.Occurrence.{Occurrence}
-use Rattle.fx_report.specs.declared.wait.Wait.{Wait}
+use Rattle.fx_report.specs.declared.blocked.Blocked.{Blocked}
 use Rattle.fx_svg.specs.Content.{Content}
 use Rattle.fx_picture.specs.declared.cause.Cause.{Cause}
 use Rattle.fx_picture.specs.declared.arrows.Drawn.{Drawn}
@@ -55,10 +55,11 @@ module _ (fibers : List FiberReportView) where
       let next : row + suc k ≡ suc row + k = omega arith in
       inr (has_from list ys (suc row) k y e is (subst (λ (n : ℕ). Has (arrows_to fibers (at n y) 0 (take n list)) e) next has))
 
-  pub none_missing : (names : List (List ℕ)) (waits : List Wait) (list : List Occurrence) (above below : ℕ) (first second : Occurrence) (cause : Cause) → above < below
+  pub none_missing : (names : List (List ℕ)) (blocked : List Blocked) (list : List Occurrence) (above below : ℕ) (first second : Occurrence)
+      (cause : Cause) → above < below
       → slice_get list above ≡ Some first → slice_get list below ≡ Some second → cause_of first second ≡ Some cause
-      → Has (picture names waits fibers list) (arrow fibers (at above first) (at below second) cause)
-  none_missing names waits list above below first second cause lt is_first is_second stands =
+      → Has (picture names blocked fibers list) (arrow fibers (at above first) (at below second) cause)
+  none_missing names blocked list above below first second cause lt is_first is_second stands =
       let zero_above : 0 + above ≡ above = omega arith in
       let zero_below : below ≡ 0 + below = omega arith in
       let one = subst (λ (n : ℕ). Has (arrows_to fibers (at below second) 0 (take below list)) (arrow fibers (at n first) (at below second) cause)) zero_above

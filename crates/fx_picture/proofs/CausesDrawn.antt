@@ -17,7 +17,7 @@ use Rattle.fx_model.proofs.EventLabels.{run_is_proper}
 use Rattle.fx_model.proofs.ShownLabels.{shown_holds}
 use Rattle.fx_order.specs.declared.occurrence.Occurrence.{Occurrence}
 use Rattle.fx_order.specs.CausalOrder.{IsCausalOrder}
-use Rattle.fx_report.specs.declared.wait.Wait.{Wait}
+use Rattle.fx_report.specs.declared.blocked.Blocked.{Blocked}
 use Rattle.fx_picture.specs.declared.cause.Cause.{Cause}
 use Rattle.fx_picture.specs.declared.cause.Cause.TheVariants.{Start, End, Request}
 use Rattle.fx_picture.specs.Causes.{is_told_by, cause_of}
@@ -33,20 +33,20 @@ told_by g o (event.First n) proper named says = absurd says
 told_by g o _ proper named says = absurd proper
 
 module _ (s : ScriptView) (may : ℕ → Bool) (r : ReportView) (lawful : IsLawfulReport s may r) (list : List Occurrence)
-    (order : IsCausalOrder s may r lawful list) (names : List (List ℕ)) (waits : List Wait) where
+    (order : IsCausalOrder s may r lawful list) (names : List (List ℕ)) (blocked : List Blocked) where
   abbrev event_of : ℕ → ℕ → Event → Occurrence
   event_of f i e = record { fiber = f; place = i; event = e; stamp = stamp_in r f i }
 
   -- an event that stands on one above it is drawn with an arrow
   is_drawn : (f i g j : ℕ) (e d : Event) (cause : Cause) → slice_get (trace_in r f) i ≡ Some e → slice_get (trace_in r g) j ≡ Some d
-      → order.moment g j < order.moment f i → cause_of (event_of g j d) (event_of f i e) ≡ Some cause → IsDrawn names waits r list f i g j
+      → order.moment g j < order.moment f i → cause_of (event_of g j d) (event_of f i e) ≡ Some cause → IsDrawn names blocked r list f i g j
   is_drawn f i g j e d cause at by above stands = record {
     from = record { row = order.moment g j; event = event_of g j d };
     to = record { row = order.moment f i; event = event_of f i e };
     cause = cause;
     begins = record { fiber = refl; place = refl };
     ends = record { fiber = refl; place = refl };
-    has = none_missing r.fibers names waits list (order.moment g j) (order.moment f i) (event_of g j d) (event_of f i e) cause above
+    has = none_missing r.fibers names blocked list (order.moment g j) (order.moment f i) (event_of g j d) (event_of f i e) cause above
         (order.stands g j d by) (order.stands f i e at) stands;
   }
 
@@ -63,7 +63,7 @@ module _ (s : ScriptView) (may : ℕ → Bool) (r : ReportView) (lawful : IsLawf
           (shown_holds Names labels i _ (run_names _ _ _ _ labels run) l.learns) says
 
   pub cause_is_drawn : (f i g j : ℕ) (e : Event) → slice_get (trace_in r f) i ≡ Some e → SaysItsCause e
-      → Needs (trace_in r) lawful.runs.labels (LeavesQueue s may r lawful) f i g j → IsDrawn names waits r list f i g j
+      → Needs (trace_in r) lawful.runs.labels (LeavesQueue s may r lawful) f i g j → IsDrawn names blocked r list f i g j
   cause_is_drawn f i g j e at says (needs.taken_element t) = absurd (subst SaysItsCause (same_Some e _ (sym at ∙ t.got)) says)
   cause_is_drawn f i g j e at says (needs.end_of_other l) =
       let same : e ≡ l.learning = same_Some e l.learning (sym at ∙ l.tells) in
@@ -74,7 +74,7 @@ module _ (s : ScriptView) (may : ℕ → Bool) (r : ReportView) (lawful : IsLawf
       let above = order.in_order.needed f i g j (slice_get_within _ i e at) (slice_get_within _ j _ started) (needs.start first started) in
       is_drawn f i g j e (event.Start f) Start at started above (rw (eq-eqb i 0 first, eq-eqb f f refl))
 
-  pub seen_is_drawn : (f i : ℕ) → slice_get (trace_in r f) i ≡ Some event.Seen → (Contains r.outside f → ⊥) → HasArrow names waits r list f i
+  pub seen_is_drawn : (f i : ℕ) → slice_get (trace_in r f) i ≡ Some event.Seen → (Contains r.outside f → ⊥) → HasArrow names blocked r list f i
   seen_is_drawn f i at inside =
       let asked = order.in_order.requested f i at inside in
       record {

@@ -5,3 +5,5 @@ pub mod WellFormed
 pub mod ArrowsDrawn
 pub mod NamedEnds
 pub mod CausesDrawn
+pub mod Releases
+pub mod BarsClosed

@@ -3,7 +3,7 @@ use Rattle.std.proofs.Common.{◌≡◌, ℕ, suc, ◌+◌, Bool, true, ◌&&◌
 use Rattle.fx_model.specs.declared.source.Source.{Source}
 use Rattle.fx_model.specs.Report.{FiberReportView}
 use Rattle.fx_order.specs.declared.occurrence.Occurrence.{Occurrence}
-use Rattle.fx_report.specs.declared.wait.Wait.{Wait}
+use Rattle.fx_report.specs.declared.blocked.Blocked.{Blocked}
 use Rattle.fx_svg.specs.declared.tag.Tag.TheVariants as tag
 use Rattle.fx_svg.specs.Content.{both}
 use Rattle.fx_svg.specs.WellFormed.{has_distinct_keys, is_well_formed}
@@ -16,8 +16,8 @@ use Rattle.fx_picture.specs.Bars.{life_at, bar_at}
 use Rattle.fx_picture.specs.Visits.{queue_at}
 use Rattle.fx_picture.specs.Labels.{wait_of}
 use Rattle.fx_picture.specs.Legend.{legend}
-use Rattle.fx_picture.specs.Picture.{foot, lanes_from, queue_lanes_from, bar_of, bars_from, visit_for, visits_from, arrow_for, arrows_to, arrows_from, marks_from}
-use Rattle.fx_picture.specs.Picture.{head, size, ground_of, figures_of, picture_text}
+use Rattle.fx_picture.specs.Picture.{foot, lanes_from, queue_lanes_from, bar_of, bars_from, visit_for, visits_from}
+use Rattle.fx_picture.specs.Picture.{arrow_for, arrows_to, arrows_from, marks_from, head, size, ground_of, figures_of, picture_text}
 
 all_true : (x y : Bool) → x ≡ true → y ≡ true → x && y ≡ true
 all_true x y p q = rw (p, q)
@@ -26,9 +26,10 @@ foot_is : (names : List (List ℕ)) (rows lane : ℕ) (x : FiberReportView) (sou
 foot_is names rows lane x None = refl
 foot_is names rows lane x (Some source) = refl
 
-lanes : (names : List (List ℕ)) (rows : ℕ) (waits : List Wait) (lane : ℕ) (xs : List FiberReportView) → has_distinct_keys (lanes_from names rows waits lane xs) ≡ true
-lanes names rows waits lane [] = refl
-lanes names rows waits lane (x ∷ xs) = all_true _ _ (foot_is names rows lane x (wait_of waits x.id)) (lanes names rows waits (suc lane) xs)
+lanes : (names : List (List ℕ)) (rows : ℕ) (blocked : List Blocked) (lane : ℕ) (xs : List FiberReportView)
+    → has_distinct_keys (lanes_from names rows blocked lane xs) ≡ true
+lanes names rows blocked lane [] = refl
+lanes names rows blocked lane (x ∷ xs) = all_true _ _ (foot_is names rows lane x (wait_of blocked x.id)) (lanes names rows blocked (suc lane) xs)
 
 queue_lanes : (rows lane : ℕ) (names : List (List ℕ)) → has_distinct_keys (queue_lanes_from rows lane names) ≡ true
 queue_lanes rows lane [] = refl
@@ -73,13 +74,13 @@ marks : (names : List (List ℕ)) (fibers : List FiberReportView) (row : ℕ) (o
 marks names fibers row [] = refl
 marks names fibers row (o ∷ os) = marks names fibers (suc row) os
 
-pub is_document : (names : List (List ℕ)) (waits : List Wait) (fibers : List FiberReportView) (list : List Occurrence)
-    → is_well_formed (picture_text names waits fibers list) ≡ true
+pub is_document : (names : List (List ℕ)) (blocked : List Blocked) (fibers : List FiberReportView) (list : List Occurrence)
+    → is_well_formed (picture_text names blocked fibers list) ≡ true
 unfolding picture_text
-is_document names waits fibers list =
-    let ground = all_true _ _ (lanes names (length list) waits 0 fibers)
+is_document names blocked fibers list =
+    let ground = all_true _ _ (lanes names (length list) blocked 0 fibers)
     (all_true _ _ (queue_lanes (length list) (length fibers) names) (bars fibers (length list) 0 list)) in
     let figures = all_true _ _ (visits fibers 0 list) (all_true _ _ (all_arrows fibers list 0 list) (marks names fibers 0 list)) in
     well_formed tag.Svg (size (length fibers + length names) (length list))
-    (both (head (length fibers) (length list)) (both legend (both (ground_of names waits fibers list) (figures_of names fibers list))))
+    (both (head (length fibers) (length list)) (both legend (both (ground_of names blocked fibers list) (figures_of names fibers list))))
     (all_true _ _ ground figures)

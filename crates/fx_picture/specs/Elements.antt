@@ -1,5 +1,5 @@
 -- What a picture is made of.
-use Rattle.std.specs.Prelude.{ℕ, List, [], ◌∷◌, codes, decimal}
+use Rattle.std.specs.Prelude.{ℕ, List, [], ◌∷◌, decimal}
 use Rattle.fx_svg.specs.declared.tag.Tag.TheVariants as tag
 use Rattle.fx_svg.specs.declared.key.Key.{Key}
 use Rattle.fx_svg.specs.declared.key.Key.TheVariants as key

@@ -5,18 +5,18 @@ use Rattle.fx_model.specs.Report.{ReportView}
 use Rattle.fx_order.specs.declared.occurrence.Occurrence.{Occurrence}
 use Rattle.fx_order.specs.Occurrences.{occurrences, IsInOrder}
 use Rattle.fx_order.specs.CausalOrder.{PutsCausesFirst}
-use Rattle.fx_report.specs.declared.wait.Wait.{Wait}
+use Rattle.fx_report.specs.declared.blocked.Blocked.{Blocked}
 use Rattle.fx_picture.specs.declared.layout.TheConstants.{MOST_EVENTS}
 use Rattle.fx_picture.specs.Picture.{picture_text}
 
 -- The text is that of a picture in which each event of the report is drawn once, in the order of the stamps, so that causes stand above what they
 -- caused; blocked fibers wait for what these say
-pub record IsPicture (names : List (List ℕ)) (r : ReportView) (waits : List Wait) (text : List ℕ) : Type 0 where
+pub record IsPicture (names : List (List ℕ)) (r : ReportView) (blocked : List Blocked) (text : List ℕ) : Type 0 where
   pub list : List Occurrence
   pub each_once : IsPermutation (occurrences r) list
   pub in_order : IsInOrder list
   pub causes_first : PutsCausesFirst r list
-  pub rendered : text ≡ picture_text names waits r.fibers list
+  pub rendered : text ≡ picture_text names blocked r.fibers list
 
 -- the report has too many fibers or events for a picture, or its script has too many queues, which have these names
 abbrev pub IsTooLarge : List (List ℕ) → ReportView → Type 0

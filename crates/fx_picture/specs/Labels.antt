@@ -4,7 +4,7 @@ use Rattle.fx_model.specs.declared.source.Source.{Source}
 use Rattle.fx_model.specs.declared.source.Source.TheVariants.{Nothing, Outcome, Either, Room, Element}
 use Rattle.fx_model.specs.Report.{FiberReportView}
 use Rattle.fx_order.specs.declared.occurrence.Occurrence.{Occurrence}
-use Rattle.fx_report.specs.declared.wait.Wait.{Wait}
+use Rattle.fx_report.specs.declared.blocked.Blocked.{Blocked}
 use Rattle.fx_report.specs.Text.{number, queue_name, event_text}
 
 -- the line of a trace that has the event, without its end
@@ -14,10 +14,10 @@ mark_words names o = decimal o.fiber ++ number o.stamp ++ codes " " ++ event_tex
 abbrev pub fiber_words : FiberReportView → List ℕ
 fiber_words x = codes "fiber " ++ decimal x.id
 
--- what fiber f waits for, where these wait
-abbrev pub wait_of : List Wait → ℕ → Option Source
+-- what fiber f waits for, where these are blocked
+abbrev pub wait_of : List Blocked → ℕ → Option Source
 wait_of [] f = None
-wait_of (w ∷ ws) f = if w.fiber == f then Some w.source else wait_of ws f
+wait_of (b ∷ bs) f = if b.wait.fiber == f then Some b.wait.source else wait_of bs f
 
 -- few words for what is waited for, since they stand in a lane
 abbrev pub wait_words : List (List ℕ) → Source → List ℕ

@@ -27,7 +27,8 @@ said y ws = label (codes "said") WORDS (y + BASE) ws
 abbrev pub mark_entry : ℕ → EntryView → Content
 mark_entry row e =
     both (element tag.Circle
-    (set_to key.Class e.class ∷ number_of key.CenterX MARK ∷ number_of key.CenterY (legend_y row) ∷ number_of key.Radius RADIUS ∷ []) nothing) (said (legend_y row) e.words)
+    (set_to key.Class e.class ∷ number_of key.CenterX MARK ∷ number_of key.CenterY (legend_y row) ∷ number_of key.Radius RADIUS ∷ []) nothing)
+    (said (legend_y row) e.words)
 
 abbrev pub mark_entries : ℕ → List EntryView → Content
 mark_entries row [] = nothing
@@ -50,8 +51,8 @@ entry class ws = record { class = class; words = ws }
 abbrev pub marks_of_fibers : List EntryView
 marks_of_fibers =
     entry (codes "start") (codes "starts a fiber") ∷ entry (codes "learn") (codes "learns how one ended") ∷ entry (codes "end") (codes "ends")
-    ∷ entry (codes "gone") (codes "ends as canceled") ∷ entry (codes "cancel") (codes "requests, or is canceled") ∷ entry (codes "seen") (codes "sees a request")
-    ∷ []
+    ∷ entry (codes "gone") (codes "ends as canceled") ∷ entry (codes "cancel") (codes "requests, or is canceled")
+    ∷ entry (codes "seen") (codes "sees a request") ∷ []
 
 abbrev pub marks_of_queues : List EntryView
 marks_of_queues =

@@ -10,3 +10,4 @@ pub mod Picture
 pub mod Has
 pub mod IsDrawn
 pub mod IsPicture
+pub mod IsClosed

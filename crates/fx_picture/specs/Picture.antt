@@ -1,9 +1,9 @@
 -- The picture of a report as a tree of elements.
-use Rattle.std.specs.Prelude.{ℕ, suc, ◌+◌, ◌++◌, Option, Some, None, List, [], ◌∷◌, codes, decimal, length, take}
+use Rattle.std.specs.Prelude.{ℕ, suc, ◌+◌, ◌++◌, Option, Some, None, List, [], ◌∷◌, codes, length, take}
 use Rattle.fx_model.specs.declared.source.Source.{Source}
 use Rattle.fx_model.specs.Report.{FiberReportView}
 use Rattle.fx_order.specs.declared.occurrence.Occurrence.{Occurrence}
-use Rattle.fx_report.specs.declared.wait.Wait.{Wait}
+use Rattle.fx_report.specs.declared.blocked.Blocked.{Blocked}
 use Rattle.fx_report.specs.Text.{state_text}
 use Rattle.fx_svg.specs.declared.tag.Tag.TheVariants as tag
 use Rattle.fx_svg.specs.declared.key.Key.TheVariants as key
@@ -45,20 +45,20 @@ foot names rows lane x None = state_label lane (row_y rows + BELOW) x
 foot names rows lane x (Some source) = wait_labels names rows lane source
 
 -- the lane of a fiber, with its name and how it is at the end above it
-abbrev pub lane_content : List (List ℕ) → ℕ → ℕ → List Wait → FiberReportView → Content
-lane_content names rows lane waits x =
+abbrev pub lane_content : List (List ℕ) → ℕ → ℕ → List Blocked → FiberReportView → Content
+lane_content names rows lane blocked x =
     both (upright (codes "lane") rows lane)
     (both (label (codes "name") (lane_x lane) ABOVE (fiber_words x))
-    (both (state_label lane NEXT_ABOVE x) (foot names rows lane x (wait_of waits x.id))))
+    (both (state_label lane NEXT_ABOVE x) (foot names rows lane x (wait_of blocked x.id))))
 
 -- that of a queue of this name
 abbrev pub queue_lane : ℕ → ℕ → List ℕ → Content
 queue_lane rows lane name = both (upright (codes "queue") rows lane) (label (codes "name") (lane_x lane) ABOVE (codes "queue " ++ name))
 
-module _ (names : List (List ℕ)) (rows : ℕ) (waits : List Wait) where
+module _ (names : List (List ℕ)) (rows : ℕ) (blocked : List Blocked) where
   abbrev pub lanes_from : ℕ → List FiberReportView → Content
   lanes_from lane [] = nothing
-  lanes_from lane (x ∷ xs) = both (lane_content names rows lane waits x) (lanes_from (suc lane) xs)
+  lanes_from lane (x ∷ xs) = both (lane_content names rows lane blocked x) (lanes_from (suc lane) xs)
 
 abbrev pub queue_lanes_from : ℕ → ℕ → List (List ℕ) → Content
 queue_lanes_from rows lane [] = nothing
@@ -149,7 +149,8 @@ module _ (names : List (List ℕ)) (fibers : List FiberReportView) where
 abbrev pub arrow_head : Content
 arrow_head = element tag.Marker
     (set_to key.Id (codes "head") ∷ set_to key.ViewBox (codes "0 0 8 8") ∷ number_of key.PointX 12 ∷ number_of key.PointY 4 ∷ number_of key.MarkerWidth 8
-    ∷ number_of key.MarkerHeight 8 ∷ set_to key.Orient (codes "auto-start-reverse") ∷ []) (element tag.Path (set_to key.Way (codes "M0 0L8 4L0 8Z") ∷ []) nothing)
+    ∷ number_of key.MarkerHeight 8 ∷ set_to key.Orient (codes "auto-start-reverse") ∷ [])
+    (element tag.Path (set_to key.Way (codes "M0 0L8 4L0 8Z") ∷ []) nothing)
 
 -- what a picture of so many fibers and events has beside what is drawn
 abbrev pub head : ℕ → ℕ → Content
@@ -164,9 +165,9 @@ size lanes rows =
     ∷ number_of key.Height (height rows) ∷ []
 
 -- the lanes of fibers and queues, and the bars beside them
-abbrev pub ground_of : List (List ℕ) → List Wait → List FiberReportView → List Occurrence → Content
-ground_of names waits fibers list =
-    both (lanes_from names (length list) waits 0 fibers)
+abbrev pub ground_of : List (List ℕ) → List Blocked → List FiberReportView → List Occurrence → Content
+ground_of names blocked fibers list =
+    both (lanes_from names (length list) blocked 0 fibers)
     (both (queue_lanes_from (length list) (length fibers) names) (bars_from fibers (length list) 0 list))
 
 -- what happens on them
@@ -174,10 +175,10 @@ abbrev pub figures_of : List (List ℕ) → List FiberReportView → List Occurr
 figures_of names fibers list = both (visits_from fibers 0 list) (both (arrows_from fibers list 0 list) (marks_from names fibers 0 list))
 
 -- the picture of these fibers, with these events from top to bottom, where the script's queues have these names and blocked fibers wait for this
-abbrev pub picture : List (List ℕ) → List Wait → List FiberReportView → List Occurrence → Content
-picture names waits fibers list = element tag.Svg (size (length fibers + length names) (length list))
-    (both (head (length fibers) (length list)) (both legend (both (ground_of names waits fibers list) (figures_of names fibers list))))
+abbrev pub picture : List (List ℕ) → List Blocked → List FiberReportView → List Occurrence → Content
+picture names blocked fibers list = element tag.Svg (size (length fibers + length names) (length list))
+    (both (head (length fibers) (length list)) (both legend (both (ground_of names blocked fibers list) (figures_of names fibers list))))
 
 -- its text
-unfoldable pub picture_text : List (List ℕ) → List Wait → List FiberReportView → List Occurrence → List ℕ
-picture_text names waits fibers list = rendering (picture names waits fibers list)
+unfoldable pub picture_text : List (List ℕ) → List Blocked → List FiberReportView → List Occurrence → List ℕ
+picture_text names blocked fibers list = rendering (picture names blocked fibers list)

@@ -5,7 +5,7 @@ ghost use Rattle.fx_picture.specs.Labels.{mark_words, fiber_words, wait_of, wait
 
 use fx_model::{FiberReport, Source, State};
 use fx_order::Occurrence;
-use fx_report::Wait;
+use fx_report::Blocked;
 use fx_term::{Event, Outcome};
 use fx_text::QueueDecl;
 use std::alloc::{AllocError, Global};
@@ -142,14 +142,14 @@ pub(crate) fn fiber_words(alloc: Global, fiber: &FiberReport) -> Result<String, 
     format!(in alloc; "fiber {id}")
 }
 
-/// What the fiber of that number waits for, where these wait.
-pub(crate) fn wait_of(waits: &[Wait], fiber: u32) -> Option<Source>
-    ensures { result ≡ wait_of waits.now fiber }
+/// What the fiber of that number waits for, where these are blocked.
+pub(crate) fn wait_of(blocked: &[Blocked], fiber: u32) -> Option<Source>
+    ensures { result ≡ wait_of blocked.now fiber }
 {
-    let mut rest = waits;
+    let mut rest = blocked;
     while let Some((it, more)) = rest.split_first() {
-        if it.fiber == fiber {
-            return Some(it.source);
+        if it.wait.fiber == fiber {
+            return Some(it.wait.source);
         }
         rest = more;
     }

@@ -14,7 +14,7 @@ use crate::layout::{
 };
 use crate::look::end_class;
 use fx_model::{FiberReport, Source};
-use fx_report::Wait;
+use fx_report::Blocked;
 use fx_text::QueueDecl;
 use std::alloc::{AllocError, Global};
 
@@ -116,7 +116,7 @@ fn push_foot(
     alloc: Global,
     text: &mut String,
     queues: &[QueueDecl],
-    waits: &[Wait],
+    blocked: &[Blocked],
     rows: usize,
     lane: usize,
     fiber: &FiberReport,
@@ -124,9 +124,9 @@ fn push_foot(
     requires rows { rows ≤ MOST_EVENTS }
     requires lane { lane ≤ MOST_LANES }
     ensures { OnOk result (string_bytes text.new ≡ string_bytes text.old ++ rendering
-        (foot (names_of queues.now) rows lane fiber.now (wait_of waits.now fiber.now.id))) }
+        (foot (names_of queues.now) rows lane fiber.now (wait_of blocked.now fiber.now.id))) }
 {
-    let source = wait_of(waits, fiber.id);
+    let source = wait_of(blocked, fiber.id);
     push_foot_of(alloc, text, queues, rows, lane, fiber, source)
 }
 
@@ -135,7 +135,7 @@ fn push_lane(
     alloc: Global,
     text: &mut String,
     queues: &[QueueDecl],
-    waits: &[Wait],
+    blocked: &[Blocked],
     rows: usize,
     lane: usize,
     fiber: &FiberReport,
@@ -143,12 +143,12 @@ fn push_lane(
     requires rows { rows ≤ MOST_EVENTS }
     requires lane { lane ≤ MOST_LANES }
     ensures { OnOk result (string_bytes text.new ≡ string_bytes text.old
-        ++ rendering (lane_content (names_of queues.now) rows lane waits.now fiber.now)) }
+        ++ rendering (lane_content (names_of queues.now) rows lane blocked.now fiber.now)) }
 {
     push_upright(text, "lane", rows, lane)?;
     push_name(alloc, text, lane, fiber)?;
     push_state(alloc, text, lane, NEXT_ABOVE, fiber)?;
-    push_foot(alloc, text, queues, waits, rows, lane, fiber)
+    push_foot(alloc, text, queues, blocked, rows, lane, fiber)
 }
 
 /// Appends the lanes of these fibers, beside so many rows.
@@ -156,19 +156,19 @@ pub(crate) fn push_lanes(
     alloc: Global,
     text: &mut String,
     queues: &[QueueDecl],
-    waits: &[Wait],
+    blocked: &[Blocked],
     rows: usize,
     fibers: &[FiberReport],
 ) -> Result<(), AllocError>
     requires rows { rows ≤ MOST_EVENTS }
     requires fibers { length fibers.now ≤ MOST_EVENTS }
     ensures { OnOk result (string_bytes text.new ≡ string_bytes text.old
-        ++ rendering (lanes_from (names_of queues.now) rows waits.now 0 fibers.now)) }
+        ++ rendering (lanes_from (names_of queues.now) rows blocked.now 0 fibers.now)) }
 {
     let mut lane = 0;
     let mut rest = fibers;
     while let Some((fiber, more)) = rest.split_first() {
-        push_lane(alloc, text, queues, waits, rows, lane, fiber)?;
+        push_lane(alloc, text, queues, blocked, rows, lane, fiber)?;
         lane += 1;
         rest = more;
     }

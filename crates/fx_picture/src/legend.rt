@@ -1,7 +1,8 @@
 //! The legend.
 ghost use Rattle.std.specs.Prelude.{◌≡◌, ◌≤◌, ◌+◌, ◌++◌, length, map, OnOk, string_bytes};
 ghost use Rattle.fx_svg.specs.Content.{rendering};
-ghost use Rattle.fx_picture.specs.Legend.{view_entry, legend_y, said, mark_entry, mark_entries, line_sample, line_entry, line_entries, marks_of_fibers, marks_of_queues, lines, legend};
+ghost use Rattle.fx_picture.specs.Legend.{view_entry, legend_y, said, mark_entry, mark_entries};
+ghost use Rattle.fx_picture.specs.Legend.{line_sample, line_entry, line_entries, marks_of_fibers, marks_of_queues, lines, legend};
 
 use crate::elements::{Point, push_label, push_line};
 use crate::layout::{BASE, LEGEND_BOTTOM, ROW};

@@ -21,7 +21,7 @@ use crate::marks::push_marks;
 use crate::queues::{push_queue_lanes, push_visits};
 use fx_model::{FiberReport, Report};
 use fx_order::{Occurrence, order_by_stamp};
-use fx_report::Wait;
+use fx_report::Blocked;
 use fx_svg::{
     Attribute, Key, Tag, Value, push_element, push_empty_element, push_end_tag, push_start_tag,
 };
@@ -129,7 +129,7 @@ fn push_ground(
     alloc: Global,
     text: &mut String,
     queues: &[QueueDecl],
-    waits: &[Wait],
+    blocked: &[Blocked],
     fibers: &[FiberReport],
     list: &[Occurrence],
 ) -> Result<(), AllocError>
@@ -137,9 +137,9 @@ fn push_ground(
     requires rows { length list.now ≤ MOST_EVENTS }
     requires queues { length queues.now ≤ MOST_EVENTS }
     ensures { OnOk result (string_bytes text.new ≡ string_bytes text.old
-        ++ rendering (ground_of (names_of queues.now) waits.now fibers.now list.now)) }
+        ++ rendering (ground_of (names_of queues.now) blocked.now fibers.now list.now)) }
 {
-    push_lanes(alloc, text, queues, waits, list.len(), fibers)?;
+    push_lanes(alloc, text, queues, blocked, list.len(), fibers)?;
     push_queue_lanes(alloc, text, list.len(), fibers.len(), queues)?;
     push_bars(alloc, text, fibers, list)
 }
@@ -162,12 +162,12 @@ fn push_figures(
     push_marks(alloc, text, queues, fibers, list)
 }
 
-/// Appends the picture of these events of these fibers, of which these wait.
+/// Appends the picture of these events of these fibers, of which these are blocked.
 fn push_picture(
     alloc: Global,
     text: &mut String,
     queues: &[QueueDecl],
-    waits: &[Wait],
+    blocked: &[Blocked],
     fibers: &[FiberReport],
     list: &[Occurrence],
 ) -> Result<(), AllocError>
@@ -175,12 +175,12 @@ fn push_picture(
     requires rows { length list.now ≤ MOST_EVENTS }
     requires queues { length queues.now ≤ MOST_EVENTS }
     ensures { OnOk result (string_bytes text.new ≡ string_bytes text.old
-        ++ picture_text (names_of queues.now) waits.now fibers.now list.now) }
+        ++ picture_text (names_of queues.now) blocked.now fibers.now list.now) }
 {
     push_start(text, fibers.len() + queues.len(), list.len())?;
     push_head(alloc, text, fibers.len(), list.len())?;
     push_legend(text)?;
-    push_ground(alloc, text, queues, waits, fibers, list)?;
+    push_ground(alloc, text, queues, blocked, fibers, list)?;
     push_figures(alloc, text, queues, fibers, list)?;
     push_end_tag(text, Tag::Svg)
 }
@@ -190,37 +190,37 @@ fn draw(
     alloc: Global,
     script: &Script,
     report: &Report,
-    waits: &[Wait],
+    blocked: &[Blocked],
     list: &[Occurrence],
 ) -> Result<String, AllocError>
     requires fibers { length report.now.fibers ≤ MOST_EVENTS }
     requires rows { length list.now ≤ MOST_EVENTS }
     requires queues { length script.now.queues.items ≤ MOST_EVENTS }
     ensures { IfOk result (λ text. string_bytes text
-        ≡ picture_text (queue_names (meaning script.now)) waits.now report.now.fibers list.now) }
+        ≡ picture_text (queue_names (meaning script.now)) blocked.now report.now.fibers list.now) }
 {
     let mut text = String::new(alloc);
     push_picture(
         alloc,
         &mut text,
         &script.queues,
-        waits,
+        blocked,
         &report.fibers,
         list,
     )?;
     Ok(text)
 }
 
-/// The picture of a report, whose blocked fibers wait for this. It fails only where memory runs out, or where it would
+/// The picture of a report, of which these fibers are blocked. It fails only where memory runs out, or where it would
 /// be too large.
 pub fn format_picture(
     alloc: Global,
     script: &Script,
     report: &Report,
-    waits: &[Wait],
+    blocked: &[Blocked],
 ) -> Result<String, PictureFault>
     ensures picture { IfOk result (λ text. IsPicture (queue_names (meaning script.now)) report.now
-        waits.now (string_bytes text)) }
+        blocked.now (string_bytes text)) }
     ensures fault { IfErr result (λ fault. fault ≡ TooLarge
         → IsTooLarge (queue_names (meaning script.now)) report.now) }
 {
@@ -234,6 +234,6 @@ pub fn format_picture(
     if list.len() > MOST_EVENTS {
         return Err(PictureFault::TooLarge);
     }
-    let text = draw(alloc, script, report, waits, &list)?;
+    let text = draw(alloc, script, report, blocked, &list)?;
     Ok(text)
 }

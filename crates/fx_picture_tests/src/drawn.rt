@@ -1,7 +1,7 @@
 //! The picture of a fiber that is canceled while the main fiber waits, of one that waits for good, and of too many events.
 use fx_model::{FiberReport, Report, Source, State};
 use fx_picture::{MOST_EVENTS, PictureFault, format_picture};
-use fx_report::Wait;
+use fx_report::{Blocked, Wait};
 use fx_term::Event::{Acquired, Awaited, Cancelled, Ended, Put, Request, Seen, Start};
 use fx_term::Outcome::{Canceled, Succeeded};
 use fx_term::{Event, Stamped};
@@ -108,11 +108,14 @@ fn draws_marks_and_arrows(rt: HostRuntime) -> Result<(), Fail> {
 #[test]
 fn draws_what_is_held_and_waited_for(rt: HostRuntime) -> Result<(), Fail> {
     let script = parse(rt.alloc(), b"(queue jobs 1) (main (pure 6))")?;
-    let waits = [Wait {
-        fiber: 0,
-        source: Source::Room(0),
+    let blocked = [Blocked {
+        wait: Wait {
+            fiber: 0,
+            source: Source::Room(0),
+        },
+        node: None,
     }];
-    let text = format_picture(rt.alloc(), &script, &waiting(rt.alloc())?, &waits)?;
+    let text = format_picture(rt.alloc(), &script, &waiting(rt.alloc())?, &blocked)?;
     for drawn in &HELD {
         assert!(rt; text.contains(*drawn));
     }

@@ -8,8 +8,8 @@ use Rattle.fx_picture.proofs.lanes.push_lanes.Given as goal
 abbrev pub invariant-loop-fiber : goal.invariant-loop-fiber
 invariant-loop-fiber l = record {
   lanes : l.lane + length l.rest ≡ length l.fibers;
-  written : string_bytes l.text ++ rendering (lanes_from (names_of l.queues) l.rows l.waits l.lane l.rest)
-      ≡ string_bytes l.fn.text ++ rendering (lanes_from (names_of l.queues) l.rows l.waits 0 l.fibers);
+  written : string_bytes l.text ++ rendering (lanes_from (names_of l.queues) l.rows l.blocked l.lane l.rest)
+      ≡ string_bytes l.fn.text ++ rendering (lanes_from (names_of l.queues) l.rows l.blocked 0 l.fibers);
 }
 
 abbrev pub decreases-loop-fiber : goal.decreases-loop-fiber
