@@ -1,4 +1,4 @@
--- Two laws, written out for scripts.
+-- Some laws, written out for scripts.
 use Rattle.std.proofs.Common.{◌≡◌, ◌≢◌, ℕ, ◌==◌, if◌then◌else◌, Bool, true, false, Option, Some, None, List, [], refl, sym, ◌∙◌}
 use Rattle.std.proofs.lemmas.Bool.{eqb-true, ne_eqb}
 use Rattle.std.specs.Prelude.{◌↔◌}
@@ -6,20 +6,23 @@ use Rattle.fx_term.specs.declared.node.Arg.TheVariants.{Number, Slot}
 use Rattle.fx_term.specs.declared.name_kind.NameKind.{NameKind}
 use Rattle.fx_term.specs.declared.name_kind.NameKind.TheVariants as kind
 use Rattle.fx_term.specs.Scope.{with_name, IsScoped}
+use Rattle.fx_term.specs.Need.{need}
 use Rattle.fx_term.specs.Term.{Term, Start, OnCancel, For, Mask, Let, Pure, Bracket, BracketCase}
 use Rattle.fx_model.specs.MaskLaws.{forced_after}
 use Rattle.fx_model.specs.Report.{ReportView}
 use Rattle.fx_model.specs.LawfulReport.{IsLawfulReport}
 use Rattle.fx_laws.specs.Names.{without_names}
+use Rattle.fx_script_laws.specs.Cover.{Cover, is_closed, is_sealed}
 use Rattle.fx_script_laws.specs.Filled.{none_bound, and_bound, IsFilled}
 use Rattle.fx_script_laws.specs.Filled as filled
-use Rattle.fx_script_laws.specs.Interchange.{EitherWay, AreTheTwo, as_is, with_numbers}
-use Rattle.fx_script_laws.proofs.SameReports.{same_reports}
+use Rattle.fx_script_laws.specs.Interchange.{Where, EitherWay, AreTheTwo, as_is, with_numbers}
+use Rattle.fx_script_laws.proofs.SameReports.{same_reports, reports_where}
+use Rattle.fx_script_laws.proofs.ClosedLaws.{pure_before, finalizer_of_sealed}
 use Rattle.fx_script_laws.proofs.OwnNames.{value_given_again}
 use Rattle.fx_script_laws.proofs.LawsInScripts.{forced_in_order, guarantee_of_one_release}
 
 -- the two terms themselves
-here : {bound : ℕ → Bool} (t u : Term) → IsFilled (EitherWay (AreTheTwo none_bound t u)) bound t u
+here : {s : Cover} {bound : ℕ → Bool} (t u : Term) → IsFilled (EitherWay (AreTheTwo none_bound t u)) s bound t u
 here t u = filled.pair (as_is (with_numbers [] tt (λ x h. refl)))
 
 pub either_order : (i n : ℕ) (a b f d : Term) (capacities : List ℕ) (may : ℕ → Bool) (r : ReportView)
@@ -66,3 +69,24 @@ given_again i n x a b capacities may r other =
     same_reports (and_bound x none_bound) t a (value_given_again x a).waits (record { term = Let None (For i n t) b; capacities = capacities })
     (record { term = Let None (For i n a) b; capacities = capacities }) may r
     (filled.let_ (filled.for_ (filled.pair (as_is (with_numbers [] tt (apart_in i x other))))) filled.same) refl
+
+-- the two terms themselves, at a place that is closed so
+closed_here : {there : Cover → Bool} {s : Cover} {bound : ℕ → Bool} (t u : Term) → there s ≡ true
+    → IsFilled (EitherWay (Where there (AreTheTwo none_bound t u))) s bound t u
+closed_here t u is = filled.pair (as_is (is, with_numbers [] tt (λ x h. refl)))
+
+pub discarded_in_mask : (p n : ℕ) (a b : Term) (capacities : List ℕ) (may : ℕ → Bool) (r : ReportView)
+    → IsLawfulReport (record { term = Mask p (Let None b (forced_after (Pure (Number n)) a)); capacities = capacities }) may r
+    ↔ IsLawfulReport (record { term = Mask p (Let None b a); capacities = capacities }) may r
+discarded_in_mask p n a b capacities may r =
+    let t = forced_after (Pure (Number n)) a in
+    reports_where is_closed none_bound t a (pure_before n a) (record { term = Mask p (Let None b t); capacities = capacities })
+    (record { term = Mask p (Let None b a); capacities = capacities }) may r (filled.mask (filled.let_ filled.same (closed_here t a refl))) refl
+
+pub nested_finalizer : (a b f : Term) (capacities : List ℕ) (may : ℕ → Bool) (r : ReportView) → need f ≡ 0
+    → IsLawfulReport (record { term = OnCancel b (OnCancel a f); capacities = capacities }) may r
+    ↔ IsLawfulReport (record { term = OnCancel b a; capacities = capacities }) may r
+nested_finalizer a b f capacities may r none =
+    let t = OnCancel a f in
+    reports_where is_sealed none_bound t a (finalizer_of_sealed a f none) (record { term = OnCancel b t; capacities = capacities })
+    (record { term = OnCancel b a; capacities = capacities }) may r (filled.oncancel filled.same (closed_here t a refl)) refl

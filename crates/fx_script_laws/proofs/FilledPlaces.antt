@@ -3,17 +3,20 @@ use Rattle.std.proofs.Common.{◌≡◌, ℕ, suc, ◌+◌, ◌≤◌, Bool, Lis
 use Rattle.fx_term.specs.Term.{Term}
 use Rattle.fx_mask.specs.Closing.{Closing, Seal, Region, without_region, is_none_closed}
 use Rattle.fx_model.specs.Path.{Context, LetIn, HandleIn, OnCancelIn, AcquireIn, AcquireCaseIn, MaskedIn, OpenedIn, InUseIn, InUseCaseIn, InReleaseIn, plug}
-use Rattle.fx_model.specs.Path.{CleanupTerm, Finalizer, Release, leaf, closed_regions, cleanup_terms, is_canceled_form, is_open, must_cancel}
+use Rattle.fx_model.specs.Path.{CleanupTerm, Finalizer, Release, leaf, closed_under, closed_along, closed_regions}
+use Rattle.fx_model.specs.Path.{cleanup_terms, is_canceled_form, is_open, must_cancel}
 use Rattle.fx_model.specs.Outside.{Outside, leaf_can_step}
 use Rattle.fx_laws.specs.Everywhere.{placed}
+use Rattle.fx_script_laws.specs.Cover.{Cover, Sealed, AreClosedBy}
 use Rattle.fx_script_laws.specs.Filled.{none_bound, IsFilled}
 use Rattle.fx_script_laws.specs.Filled as filled
 use Rattle.fx_script_laws.proofs.Holes.{holes, AreAlong, holes_along}
 use Rattle.fx_script_laws.proofs.Holes as along
+use Rattle.fx_script_laws.proofs.Covers.{cover_in, covered_in}
 
-module _ {Pair : (ℕ → Bool) → Term → Term → Type 0} where
+module _ {Pair : Cover → (ℕ → Bool) → Term → Term → Type 0} where
   -- such terms are such terms
-  abbrev pub forget : {t u : Term} → AreAlong Pair t u → IsFilled Pair none_bound t u
+  abbrev pub forget : {s : Cover} {t u : Term} → AreAlong Pair s t u → IsFilled Pair s none_bound t u
   forget along.same = filled.same
   forget (along.let_ p q) = filled.let_ (forget p) q
   forget (along.handle p q) = filled.handle (forget p) q
@@ -34,7 +37,7 @@ module _ {Pair : (ℕ → Bool) → Term → Term → Type 0} where
   forget (along.in_release p) = filled.in_release (forget p)
   forget (along.loop p) = filled.loop p
 
-  pub forget_holes : {t u : Term} (p : AreAlong Pair t u) → holes (forget p) ≡ holes_along p
+  pub forget_holes : {s : Cover} {t u : Term} (p : AreAlong Pair s t u) → holes (forget p) ≡ holes_along p
   forget_holes along.same = refl
   forget_holes (along.let_ p q) = let e = forget_holes p in omega arith
   forget_holes (along.handle p q) = let e = forget_holes p in omega arith
@@ -55,7 +58,7 @@ module _ {Pair : (ℕ → Bool) → Term → Term → Type 0} where
   forget_holes (along.in_release p) = forget_holes p
   forget_holes (along.loop p) = refl
 
-  canceled_along : {t u : Term} → AreAlong Pair t u → is_canceled_form (leaf t) ≡ is_canceled_form (leaf u)
+  canceled_along : {s : Cover} {t u : Term} → AreAlong Pair s t u → is_canceled_form (leaf t) ≡ is_canceled_form (leaf u)
   canceled_along (along.let_ p q) = canceled_along p
   canceled_along (along.handle p q) = canceled_along p
   canceled_along (along.oncancel p q) = canceled_along p
@@ -68,7 +71,7 @@ module _ {Pair : (ℕ → Bool) → Term → Term → Type 0} where
   canceled_along (along.in_release p) = canceled_along p
   canceled_along _ = refl
 
-  pub can_along : (o : Outside) {t u : Term} → AreAlong Pair t u → leaf_can_step o (leaf t) ≡ leaf_can_step o (leaf u)
+  pub can_along : (o : Outside) {s : Cover} {t u : Term} → AreAlong Pair s t u → leaf_can_step o (leaf t) ≡ leaf_can_step o (leaf u)
   can_along o (along.let_ p q) = can_along o p
   can_along o (along.handle p q) = can_along o p
   can_along o (along.oncancel p q) = can_along o p
@@ -81,7 +84,7 @@ module _ {Pair : (ℕ → Bool) → Term → Term → Type 0} where
   can_along o (along.in_release p) = can_along o p
   can_along o _ = refl
 
-  closed_along_too : (outer : List Closing) {t u : Term} → AreAlong Pair t u → closed_regions outer t ≡ closed_regions outer u
+  closed_along_too : (outer : List Closing) {s : Cover} {t u : Term} → AreAlong Pair s t u → closed_regions outer t ≡ closed_regions outer u
   closed_along_too outer (along.let_ p q) = closed_along_too outer p
   closed_along_too outer (along.handle p q) = closed_along_too outer p
   closed_along_too outer (along.oncancel p q) = closed_along_too outer p
@@ -94,27 +97,27 @@ module _ {Pair : (ℕ → Bool) → Term → Term → Type 0} where
   closed_along_too outer (along.in_release p) = closed_along_too (Seal ∷ outer) p
   closed_along_too outer _ = refl
 
-  pub open_along : {t u : Term} → AreAlong Pair t u → is_open t ≡ is_open u
+  pub open_along : {s : Cover} {t u : Term} → AreAlong Pair s t u → is_open t ≡ is_open u
   open_along p = ap is_none_closed (closed_along_too [] p)
 
-  pub must_along : (known : Bool) {t u : Term} → AreAlong Pair t u → must_cancel known t ≡ must_cancel known u
+  pub must_along : (known : Bool) {s : Cover} {t u : Term} → AreAlong Pair s t u → must_cancel known t ≡ must_cancel known u
   must_along known p = let e = open_along p in let f = canceled_along p in cc
 
 -- clean-ups that differ at such places
-pub data AreFilledCleanups (Pair : (ℕ → Bool) → Term → Term → Type 0) : List CleanupTerm → List CleanupTerm → Type 0 where
+pub data AreFilledCleanups (Pair : Cover → (ℕ → Bool) → Term → Term → Type 0) : List CleanupTerm → List CleanupTerm → Type 0 where
   none : AreFilledCleanups Pair [] []
-  finalizer : {f f' : Term} {xs ys : List CleanupTerm} → IsFilled Pair none_bound f f' → AreFilledCleanups Pair xs ys
+  finalizer : {f f' : Term} {xs ys : List CleanupTerm} → IsFilled Pair Sealed none_bound f f' → AreFilledCleanups Pair xs ys
       → AreFilledCleanups Pair (Finalizer f ∷ xs) (Finalizer f' ∷ ys)
-  release : {k : ℕ} {r r' : Term} {xs ys : List CleanupTerm} → IsFilled Pair none_bound r r' → AreFilledCleanups Pair xs ys
+  release : {k : ℕ} {r r' : Term} {xs ys : List CleanupTerm} → IsFilled Pair Sealed none_bound r r' → AreFilledCleanups Pair xs ys
       → AreFilledCleanups Pair (Release k r ∷ xs) (Release k r' ∷ ys)
 
-module _ {Pair : (ℕ → Bool) → Term → Term → Type 0} where
+module _ {Pair : Cover → (ℕ → Bool) → Term → Term → Type 0} where
   abbrev pub holes_left : {xs ys : List CleanupTerm} → AreFilledCleanups Pair xs ys → ℕ
   holes_left none = 0
   holes_left (finalizer p q) = holes p + holes_left q
   holes_left (release p q) = holes p + holes_left q
 
-module _ (Pair : (ℕ → Bool) → Term → Term → Type 0) where
+module _ (Pair : Cover → (ℕ → Bool) → Term → Term → Type 0) where
   -- the same clean-ups, and no place at which they differ
   record AreSame (xs : List CleanupTerm) : Type 0 where
     pub filled : AreFilledCleanups Pair xs xs
@@ -125,23 +128,25 @@ module _ (Pair : (ℕ → Bool) → Term → Term → Type 0) where
     pub few : holes_left filled ≤ most
 
   -- a pair stands where the leaf is, in contexts that differ at fewer places
-  pub record IsAtPair (t u : Term) (n : ℕ) : Type 0 where
+  pub record IsAtPair (s : Cover) (t u : Term) (n : ℕ) : Type 0 where
+    pub cover : Cover
     pub outer : List Context
     pub outer' : List Context
     pub first : Term
     pub second : Term
-    pub pair : Pair none_bound first second
+    pub pair : Pair cover none_bound first second
+    pub covered : (cs : List Closing) → AreClosedBy s cs → AreClosedBy cover (closed_along cs outer)
     pub is : t ≡ placed outer first
     pub is' : u ≡ placed outer' second
-    pub whole : (z : Term) → IsFilled Pair none_bound (placed outer z) (placed outer' z)
+    pub whole : (z : Term) → IsFilled Pair s none_bound (placed outer z) (placed outer' z)
     pub fewer : (z : Term) → suc (holes (whole z)) ≤ n
 
   -- in one context more
-  record Wraps (f g : Context) (a a' : Term) (n m : ℕ) : Type 0 where
-    pub whole : (b b' : Term) → IsFilled Pair none_bound b b' → IsFilled Pair none_bound (plug f b) (plug g b')
-    pub fewer : (b b' : Term) (h : IsFilled Pair none_bound b b') → suc (holes h) ≤ n → suc (holes (whole b b' h)) ≤ m
+  record Wraps (f g : Context) (s : Cover) (a a' : Term) (n m : ℕ) : Type 0 where
+    pub whole : (b b' : Term) → IsFilled Pair (cover_in f s) none_bound b b' → IsFilled Pair s none_bound (plug f b) (plug g b')
+    pub fewer : (b b' : Term) (h : IsFilled Pair (cover_in f s) none_bound b b') → suc (holes h) ≤ n → suc (holes (whole b b' h)) ≤ m
 
-module _ {Pair : (ℕ → Bool) → Term → Term → Type 0} where
+module _ {Pair : Cover → (ℕ → Bool) → Term → Term → Type 0} where
   abbrev one_more : {xs ys us vs : List CleanupTerm} → AreFilledCleanups Pair xs ys → AreFilledCleanups Pair us vs
       → AreFilledCleanups Pair (xs ++ us) (ys ++ vs)
   one_more none q = q
@@ -159,12 +164,12 @@ module _ {Pair : (ℕ → Bool) → Term → Term → Type 0} where
   same_cleanups (Finalizer f ∷ xs) = let s = same_cleanups xs in record { filled = finalizer filled.same s.filled; none_is = let e = s.none_is in omega arith }
   same_cleanups (Release k r ∷ xs) = let s = same_cleanups xs in record { filled = release filled.same s.filled; none_is = let e = s.none_is in omega arith }
 
-  with_finalizer : {xs ys : List CleanupTerm} {f f' : Term} {n : ℕ} → AreCleanups Pair xs ys n → (q : IsFilled Pair none_bound f f')
+  with_finalizer : {xs ys : List CleanupTerm} {f f' : Term} {n : ℕ} → AreCleanups Pair xs ys n → (q : IsFilled Pair Sealed none_bound f f')
       → AreCleanups Pair (xs ++ Finalizer f ∷ []) (ys ++ Finalizer f' ∷ []) (n + holes q)
   with_finalizer s q =
       record { filled = one_more s.filled (finalizer q none); few = let e = one_more_holes s.filled (finalizer q none) in let h = s.few in omega arith }
 
-  with_release : (k : ℕ) {xs ys : List CleanupTerm} {f f' : Term} {n : ℕ} → AreCleanups Pair xs ys n → (q : IsFilled Pair none_bound f f')
+  with_release : (k : ℕ) {xs ys : List CleanupTerm} {f f' : Term} {n : ℕ} → AreCleanups Pair xs ys n → (q : IsFilled Pair Sealed none_bound f f')
       → AreCleanups Pair (xs ++ Release k f ∷ []) (ys ++ Release k f' ∷ []) (n + holes q)
   with_release k s q =
       let last : AreFilledCleanups Pair (Release k _ ∷ []) (Release k _ ∷ []) = release {k = k} q none in
@@ -176,7 +181,7 @@ module _ {Pair : (ℕ → Bool) → Term → Term → Type 0} where
   no_cleanups : (n : ℕ) → AreCleanups Pair [] [] n
   no_cleanups n = record { filled = none; few = omega arith }
 
-  pub cleanups_along_too : {t u : Term} (p : AreAlong Pair t u) → AreCleanups Pair (cleanup_terms t) (cleanup_terms u) (holes_along p)
+  pub cleanups_along_too : {s : Cover} {t u : Term} (p : AreAlong Pair s t u) → AreCleanups Pair (cleanup_terms t) (cleanup_terms u) (holes_along p)
   cleanups_along_too (along.same {t = t}) =
       let s = same_cleanups (cleanup_terms t) in record { filled = s.filled; few = let e = s.none_is in omega arith }
   cleanups_along_too (along.let_ p q) = more_room (omega arith) (cleanups_along_too p)
@@ -198,13 +203,16 @@ module _ {Pair : (ℕ → Bool) → Term → Term → Type 0} where
   cleanups_along_too (along.try_take p q) = no_cleanups _
   cleanups_along_too (along.loop p) = no_cleanups _
 
-  pub data Split {t u : Term} (p : IsFilled Pair none_bound t u) : Type 0 where
-    clear : (q : AreAlong Pair t u) → holes_along q ≡ holes p → Split p
-    at_pair : IsAtPair Pair t u (holes p) → Split p
+  pub data Split {s : Cover} {t u : Term} (p : IsFilled Pair s none_bound t u) : Type 0 where
+    clear : (q : AreAlong Pair s t u) → holes_along q ≡ holes p → Split p
+    at_pair : IsAtPair Pair s t u (holes p) → Split p
 
-  wrap : (f g : Context) {a a' : Term} {n m : ℕ} → Wraps Pair f g a a' n m → IsAtPair Pair a a' n → IsAtPair Pair (plug f a) (plug g a') m
-  wrap f g w i =
+  wrap : (f g : Context) {s : Cover} {a a' : Term} {n m : ℕ} → Wraps Pair f g s a a' n m → IsAtPair Pair (cover_in f s) a a' n
+      → IsAtPair Pair s (plug f a) (plug g a') m
+  wrap f g {s} w i =
       record {
+        cover = i.cover;
+        covered = λ cs h. i.covered (closed_under cs f) (covered_in f s cs h);
         outer = f ∷ i.outer;
         outer' = g ∷ i.outer';
         first = i.first;
@@ -216,14 +224,27 @@ module _ {Pair : (ℕ → Bool) → Term → Term → Type 0} where
         fewer = λ z. w.fewer (placed i.outer z) (placed i.outer' z) (i.whole z) (i.fewer z);
       }
 
-  split_more : (f g : Context) {a a' : Term} {p : IsFilled Pair none_bound a a'} {w : IsFilled Pair none_bound (plug f a) (plug g a')} → Split p
-      → ((q : AreAlong Pair a a') → holes_along q ≡ holes p → Split w) → Wraps Pair f g a a' (holes p) (holes w) → Split w
+  split_more : (f g : Context) {s : Cover} {a a' : Term} {p : IsFilled Pair (cover_in f s) none_bound a a'}
+      {w : IsFilled Pair s none_bound (plug f a) (plug g a')}
+      → Split p → ((q : AreAlong Pair (cover_in f s) a a') → holes_along q ≡ holes p → Split w) → Wraps Pair f g s a a' (holes p) (holes w) → Split w
   split_more f g (clear q e) next r = next q e
   split_more f g (at_pair i) next r = at_pair (wrap f g r i)
 
-  pub split : {t u : Term} (p : IsFilled Pair none_bound t u) → Split p
-  split (filled.pair {t = t} {u = u} s) =
-      at_pair (record { outer = []; outer' = []; first = t; second = u; pair = s; is = refl; is' = refl; whole = λ z. filled.same; fewer = λ z. omega arith })
+  pub split : {s : Cover} {t u : Term} (p : IsFilled Pair s none_bound t u) → Split p
+  split (filled.pair {s = c} {t = t} {u = u} s) =
+      at_pair (record {
+        cover = c;
+        outer = [];
+        outer' = [];
+        first = t;
+        second = u;
+        pair = s;
+        covered = λ cs h. h;
+        is = refl;
+        is' = refl;
+        whole = λ z. filled.same;
+        fewer = λ z. omega arith;
+      })
   split filled.same = clear along.same refl
   split (filled.let_ {x = x} {b = b} {b' = b'} p q) =
       split_more (LetIn x b) (LetIn x b') (split p) (λ s e. clear (along.let_ s q) (omega arith))

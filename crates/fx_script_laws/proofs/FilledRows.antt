@@ -10,36 +10,39 @@ use Rattle.fx_model.specs.Row.{Counts, Label, Starts, Row, part_after, numbers_t
 use Rattle.fx_model.specs.Row as row
 use Rattle.fx_model.proofs.Paths.{row_plug}
 use Rattle.fx_model.proofs.Measures.{one_turn}
+use Rattle.fx_script_laws.specs.Cover.{Cover, uncovered}
 use Rattle.fx_script_laws.specs.Filled.{none_bound, and_bound, IsFilled}
 use Rattle.fx_script_laws.specs.Filled as filled
 use Rattle.fx_script_laws.specs.Interchange.{AreFilledLabels, itself, starts}
 use Rattle.fx_script_laws.proofs.Holes.{ArePut, holes, AreAlong, holes_along, filled_need, deeper, first, put_filled}
 use Rattle.fx_script_laws.proofs.Holes.{put_first, put_holes, put_named_filled, put_named_holes}
 use Rattle.fx_script_laws.proofs.Holes as along
+use Rattle.fx_script_laws.proofs.Covers.{cover_in}
 
-module _ (Pair : (ℕ → Bool) → Term → Term → Type 0) (puts : ArePut Pair)
-    (needs : (v : ℕ → Bool) (t u : Term) → Pair v t u → need t ≡ need u) where
+module _ (Pair : Cover → (ℕ → Bool) → Term → Term → Type 0) (puts : ArePut Pair)
+    (needs : (s : Cover) (v : ℕ → Bool) (t u : Term) → Pair s v t u → need t ≡ need u) where
   -- the other term makes the same row, to a term that differs at no more places
-  pub record RowIsFilled (closed : Bool) (c : Counts) (u : Term) (l : Label) (d : Counts) (t' : Term) (most : ℕ) : Type 0 where
+  pub record RowIsFilled (s : Cover) (closed : Bool) (c : Counts) (u : Term) (l : Label) (d : Counts) (t' : Term) (most : ℕ) : Type 0 where
     pub label : Label
     pub term : Term
     pub row : Row closed c u label d term
     pub like : AreFilledLabels Pair l label
-    pub is_filled : IsFilled Pair none_bound t' term
+    pub is_filled : IsFilled Pair s none_bound t' term
     pub few : holes is_filled ≤ most
 
   -- the contexts differ at such places, and so do their parts
-  record IsInside (f : Context) (a u : Term) (n : ℕ) : Type 0 where
+  record IsInside (f : Context) (s : Cover) (a u : Term) (n : ℕ) : Type 0 where
     pub context : Context
     pub part : Term
     pub is : u ≡ plug context part
-    pub parts : AreAlong Pair a part
+    pub parts : AreAlong Pair (cover_in f s) a part
     pub rest : ℕ
     pub count_is : holes_along parts + rest ≡ n
-    pub whole : (b b' : Term) → IsFilled Pair none_bound b b' → IsFilled Pair none_bound (plug f b) (plug context b')
-    pub whole_is : (b b' : Term) (h : IsFilled Pair none_bound b b') → holes (whole b b' h) ≡ holes h + rest
+    pub whole : (b b' : Term) → IsFilled Pair (cover_in f s) none_bound b b' → IsFilled Pair s none_bound (plug f b) (plug context b')
+    pub whole_is : (b b' : Term) (h : IsFilled Pair (cover_in f s) none_bound b b') → holes (whole b b' h) ≡ holes h + rest
 
-  abbrev plug_filled : (f : Context) (b b' : Term) → IsFilled Pair none_bound b b' → IsFilled Pair none_bound (plug f b) (plug f b')
+  abbrev plug_filled : (f : Context) {s : Cover} (b b' : Term) → IsFilled Pair (cover_in f s) none_bound b b'
+      → IsFilled Pair s none_bound (plug f b) (plug f b')
   plug_filled (LetIn x a) b b' h = filled.let_ h filled.same
   plug_filled (HandleIn x a) b b' h = filled.handle h filled.same
   plug_filled (OnCancelIn f) b b' h = filled.oncancel h filled.same
@@ -51,23 +54,23 @@ module _ (Pair : (ℕ → Bool) → Term → Term → Type 0) (puts : ArePut Pai
   plug_filled (InUseCaseIn k y s z e d) b b' h = filled.in_use_case h filled.same filled.same filled.same
   plug_filled (InReleaseIn k v) b b' h = filled.in_release h
 
-  plug_holes : (f : Context) (b b' : Term) (h : IsFilled Pair none_bound b b') → holes (plug_filled f b b' h) ≡ holes h + 0
-  plug_holes (LetIn x a) b b' h = omega arith
-  plug_holes (HandleIn x a) b b' h = omega arith
-  plug_holes (OnCancelIn f) b b' h = omega arith
-  plug_holes (AcquireIn x u r) b b' h = omega arith
-  plug_holes (AcquireCaseIn x u y s z e d) b b' h = omega arith
-  plug_holes (MaskedIn r) b b' h = omega arith
-  plug_holes (OpenedIn r) b b' h = omega arith
-  plug_holes (InUseIn k r) b b' h = omega arith
-  plug_holes (InUseCaseIn k y s z e d) b b' h = omega arith
-  plug_holes (InReleaseIn k v) b b' h = omega arith
+  plug_holes : (f : Context) (s : Cover) (b b' : Term) (h : IsFilled Pair (cover_in f s) none_bound b b') → holes (plug_filled f {s = s} b b' h) ≡ holes h + 0
+  plug_holes (LetIn x a) o b b' h = omega arith
+  plug_holes (HandleIn x a) o b b' h = omega arith
+  plug_holes (OnCancelIn f) o b b' h = omega arith
+  plug_holes (AcquireIn x u r) o b b' h = omega arith
+  plug_holes (AcquireCaseIn x u y s z e d) o b b' h = omega arith
+  plug_holes (MaskedIn r) o b b' h = omega arith
+  plug_holes (OpenedIn r) o b b' h = omega arith
+  plug_holes (InUseIn k r) o b b' h = omega arith
+  plug_holes (InUseCaseIn k y s z e d) o b b' h = omega arith
+  plug_holes (InReleaseIn k v) o b b' h = omega arith
 
-  inside_same : (f : Context) (a : Term) → IsInside f a (plug f a) 0
-  inside_same f a =
-      record { context = f; part = a; is = refl; parts = along.same; rest = 0; count_is = refl; whole = plug_filled f; whole_is = plug_holes f }
+  inside_same : (f : Context) {s : Cover} (a : Term) → IsInside f s a (plug f a) 0
+  inside_same f {s} a =
+      record { context = f; part = a; is = refl; parts = along.same; rest = 0; count_is = refl; whole = plug_filled f; whole_is = plug_holes f s }
 
-  inside : (f : Context) {a u : Term} (p : AreAlong Pair (plug f a) u) → IsInside f a u (holes_along p)
+  inside : (f : Context) {s : Cover} {a u : Term} (p : AreAlong Pair s (plug f a) u) → IsInside f s a u (holes_along p)
   inside (LetIn x b) {a} along.same = inside_same (LetIn x b) a
   inside (LetIn x b) (along.let_ {b' = b'} p q) =
       record {
@@ -189,16 +192,17 @@ module _ (Pair : (ℕ → Bool) → Term → Term → Type 0) (puts : ArePut Pai
         whole_is = λ b b' h. omega arith;
       }
 
-  inside_at : (f : Context) {a t u : Term} → t ≡ plug f a → (p : AreAlong Pair t u) → IsInside f a u (holes_along p)
-  inside_at f {a} {u = u} e = subst (λ (t : Term). (p : AreAlong Pair t u) → IsInside f a u (holes_along p)) (sym e) (λ p. inside f p)
+  inside_at : (f : Context) {s : Cover} {a t u : Term} → t ≡ plug f a → (p : AreAlong Pair s t u) → IsInside f s a u (holes_along p)
+  inside_at f {s} {a} {u = u} e = subst (λ (t : Term). (p : AreAlong Pair s t u) → IsInside f s a u (holes_along p)) (sym e) (λ p. inside f p)
 
   module _ {k : Bool} {c d : Counts} {l : Label} where
     -- a row that is the same in both
-    by_row : {u t' u' : Term} {n : ℕ} → Row k c u l d u' → (p : IsFilled Pair none_bound t' u') → holes p ≤ n → RowIsFilled k c u l d t' n
+    by_row : {s : Cover} {u t' u' : Term} {n : ℕ} → Row k c u l d u' → (p : IsFilled Pair s none_bound t' u') → holes p ≤ n → RowIsFilled s k c u l d t' n
     by_row {u' = u'} r p few = record { label = l; term = u'; row = r; like = itself; is_filled = p; few = few }
 
-  starts_too : {k : Bool} {c : Counts} {h : ℕ} {a a' b b' : Term} (p : IsFilled Pair none_bound a a') (q : IsFilled Pair (and_bound h none_bound) b b')
-      → RowIsFilled k c (term.Start h a' b') (Starts c.next (child_origin c.next a)) (numbers_taken (1 + need a) c) (put h c.next b) (holes p + holes q)
+  starts_too : {s : Cover} {k : Bool} {c : Counts} {h : ℕ} {a a' b b' : Term} (p : IsFilled Pair uncovered none_bound a a')
+      (q : IsFilled Pair s (and_bound h none_bound) b b')
+      → RowIsFilled s k c (term.Start h a' b') (Starts c.next (child_origin c.next a)) (numbers_taken (1 + need a) c) (put h c.next b) (holes p + holes q)
   starts_too {c = c} {h = h} {a = a} {a' = a'} {b' = b'} p q =
       let same : need a ≡ need a' = filled_need needs p in
       let e = put_holes puts (first h) c.next q in
@@ -211,7 +215,8 @@ module _ (Pair : (ℕ → Bool) → Term → Term → Type 0) (puts : ArePut Pai
         few = omega arith;
       }
 
-  pub row_filled : {k : Bool} {c d : Counts} {l : Label} {t t' u : Term} → Row k c t l d t' → (p : AreAlong Pair t u) → RowIsFilled k c u l d t' (holes_along p)
+  pub row_filled : {k : Bool} {c d : Counts} {l : Label} {s : Cover} {t t' u : Term} → Row k c t l d t' → (p : AreAlong Pair s t u)
+      → RowIsFilled s k c u l d t' (holes_along p)
   row_filled r along.same = by_row r filled.same (omega arith)
   row_filled row.if_not_zero (along.if_ p q) = by_row row.if_not_zero p (omega arith)
   row_filled row.if_zero (along.if_ p q) = by_row row.if_zero q (omega arith)
@@ -262,18 +267,18 @@ module _ (Pair : (ℕ → Bool) → Term → Term → Type 0) (puts : ArePut Pai
   row_filled (row.tried_take {n = n} {x = x}) (along.try_take p q) =
       let e = put_holes puts (first x) n p in by_row row.tried_take (put_first puts x n p) (omega arith)
   row_filled row.found_empty (along.try_take p q) = by_row row.found_empty q (omega arith)
-  row_filled (row.inside f {t' = w} {a = a} {a' = a'} e g r) p =
+  row_filled {s} (row.inside f {t' = w} {a = a} {a' = a'} e g r) p =
       let i = inside_at f e p in
-      let s = row_filled r i.parts in
+      let v = row_filled {s = cover_in f s} r i.parts in
       let m = i.count_is in
-      let h = i.whole_is a' s.term s.is_filled in
-      let few = s.few in
+      let h = i.whole_is a' v.term v.is_filled in
+      let few = v.few in
       rw (i.is, g)
       (record {
-        label = s.label;
-        term = plug i.context s.term;
-        row = row_plug i.context s.row;
-        like = s.like;
-        is_filled = i.whole a' s.term s.is_filled;
+        label = v.label;
+        term = plug i.context v.term;
+        row = row_plug i.context v.row;
+        like = v.like;
+        is_filled = i.whole a' v.term v.is_filled;
         few = omega arith;
       })

@@ -6,40 +6,44 @@ use Rattle.fx_term.specs.declared.node.Arg.{Arg}
 use Rattle.fx_term.specs.Term.{Term, put, put_named}
 use Rattle.fx_term.specs.Term as term
 use Rattle.fx_term.specs.Need.{need}
+use Rattle.fx_script_laws.specs.Cover.{Cover, Sealed, uncovered, in_mask, in_poll}
 use Rattle.fx_script_laws.specs.Filled.{none_bound, and_bound, and_named, IsFilled}
 use Rattle.fx_script_laws.specs.Filled as filled
 
 -- the same but for such pairs, none of which is round the leaf, nor is a name bound there
-pub data AreAlong (Pair : (ℕ → Bool) → Term → Term → Type 0) : Term → Term → Type 0 where
-  same : {t : Term} → AreAlong Pair t t
-  let_ : {x : Option ℕ} {a a' b b' : Term} → AreAlong Pair a a' → IsFilled Pair (and_named x none_bound) b b'
-      → AreAlong Pair (term.Let x a b) (term.Let x a' b')
-  handle : {x : Option ℕ} {a a' b b' : Term} → AreAlong Pair a a' → IsFilled Pair (and_named x none_bound) b b'
-      → AreAlong Pair (term.Handle a x b) (term.Handle a' x b')
-  if_ : {w : Arg} {a a' b b' : Term} → IsFilled Pair none_bound a a' → IsFilled Pair none_bound b b' → AreAlong Pair (term.If w a b) (term.If w a' b')
-  for_ : {i n : ℕ} {a a' : Term} → IsFilled Pair (and_bound i none_bound) a a' → AreAlong Pair (term.For i n a) (term.For i n a')
-  mask : {p : ℕ} {a a' : Term} → IsFilled Pair (and_bound p none_bound) a a' → AreAlong Pair (term.Mask p a) (term.Mask p a')
-  poll : {p : Arg} {a a' : Term} → IsFilled Pair none_bound a a' → AreAlong Pair (term.Poll p a) (term.Poll p a')
-  oncancel : {a a' f f' : Term} → AreAlong Pair a a' → IsFilled Pair none_bound f f' → AreAlong Pair (term.OnCancel a f) (term.OnCancel a' f')
-  bracket : {x : Option ℕ} {a a' u u' r r' : Term} → AreAlong Pair a a' → IsFilled Pair (and_named x none_bound) u u'
-      → IsFilled Pair (and_named x none_bound) r r' → AreAlong Pair (term.Bracket x a u r) (term.Bracket x a' u' r')
-  bracket_case : {x y z : ℕ} {a a' u u' s s' e e' d d' : Term} → AreAlong Pair a a' → IsFilled Pair (and_bound x none_bound) u u'
-      → IsFilled Pair (and_bound y (and_bound x none_bound)) s s' → IsFilled Pair (and_bound z (and_bound x none_bound)) e e'
-      → IsFilled Pair (and_bound x none_bound) d d' → AreAlong Pair (term.BracketCase x a u y s z e d) (term.BracketCase x a' u' y s' z e' d')
-  start : {h : ℕ} {a a' b b' : Term} → IsFilled Pair none_bound a a' → IsFilled Pair (and_bound h none_bound) b b'
-      → AreAlong Pair (term.Start h a b) (term.Start h a' b')
-  join : {f : Arg} {x e : ℕ} {a a' b b' d d' : Term} → IsFilled Pair (and_bound x none_bound) a a' → IsFilled Pair (and_bound e none_bound) b b'
-      → IsFilled Pair none_bound d d' → AreAlong Pair (term.Join f x a e b d) (term.Join f x a' e b' d')
-  try_take : {q x : ℕ} {a a' b b' : Term} → IsFilled Pair (and_bound x none_bound) a a' → IsFilled Pair none_bound b b'
-      → AreAlong Pair (term.TryTake q x a b) (term.TryTake q x a' b')
-  masked : {r : ℕ} {a a' : Term} → AreAlong Pair a a' → AreAlong Pair (term.Masked r a) (term.Masked r a')
-  opened : {r : ℕ} {a a' : Term} → AreAlong Pair a a' → AreAlong Pair (term.Opened r a) (term.Opened r a')
-  in_use : {k : ℕ} {a a' r r' : Term} → AreAlong Pair a a' → IsFilled Pair none_bound r r' → AreAlong Pair (term.InUse k a r) (term.InUse k a' r')
-  in_use_case : {k y z : ℕ} {a a' s s' e e' d d' : Term} → AreAlong Pair a a' → IsFilled Pair (and_bound y none_bound) s s'
-      → IsFilled Pair (and_bound z none_bound) e e' → IsFilled Pair none_bound d d'
-      → AreAlong Pair (term.InUseCase k a y s z e d) (term.InUseCase k a' y s' z e' d')
-  in_release : {k : ℕ} {a a' : Term} {w : Done} → AreAlong Pair a a' → AreAlong Pair (term.InRelease k a w) (term.InRelease k a' w)
-  loop : {i k n : ℕ} {a a' : Term} → IsFilled Pair (and_bound i none_bound) a a' → AreAlong Pair (term.Loop i k n a) (term.Loop i k n a')
+pub data AreAlong (Pair : Cover → (ℕ → Bool) → Term → Term → Type 0) : Cover → Term → Term → Type 0 where
+  same : {v : Cover} {t : Term} → AreAlong Pair v t t
+  let_ : {v : Cover} {x : Option ℕ} {a a' b b' : Term} → AreAlong Pair v a a' → IsFilled Pair v (and_named x none_bound) b b'
+      → AreAlong Pair v (term.Let x a b) (term.Let x a' b')
+  handle : {v : Cover} {x : Option ℕ} {a a' b b' : Term} → AreAlong Pair v a a' → IsFilled Pair v (and_named x none_bound) b b'
+      → AreAlong Pair v (term.Handle a x b) (term.Handle a' x b')
+  if_ : {v : Cover} {w : Arg} {a a' b b' : Term} → IsFilled Pair v none_bound a a' → IsFilled Pair v none_bound b b'
+      → AreAlong Pair v (term.If w a b) (term.If w a' b')
+  for_ : {v : Cover} {i n : ℕ} {a a' : Term} → IsFilled Pair v (and_bound i none_bound) a a' → AreAlong Pair v (term.For i n a) (term.For i n a')
+  mask : {v : Cover} {p : ℕ} {a a' : Term} → IsFilled Pair (in_mask v) (and_bound p none_bound) a a' → AreAlong Pair v (term.Mask p a) (term.Mask p a')
+  poll : {v : Cover} {p : Arg} {a a' : Term} → IsFilled Pair (in_poll v) none_bound a a' → AreAlong Pair v (term.Poll p a) (term.Poll p a')
+  oncancel : {v : Cover} {a a' f f' : Term} → AreAlong Pair v a a' → IsFilled Pair Sealed none_bound f f'
+      → AreAlong Pair v (term.OnCancel a f) (term.OnCancel a' f')
+  bracket : {v : Cover} {x : Option ℕ} {a a' u u' r r' : Term} → AreAlong Pair Sealed a a' → IsFilled Pair v (and_named x none_bound) u u'
+      → IsFilled Pair Sealed (and_named x none_bound) r r' → AreAlong Pair v (term.Bracket x a u r) (term.Bracket x a' u' r')
+  bracket_case : {v : Cover} {x y z : ℕ} {a a' u u' s s' e e' d d' : Term} → AreAlong Pair Sealed a a' → IsFilled Pair v (and_bound x none_bound) u u'
+      → IsFilled Pair Sealed (and_bound y (and_bound x none_bound)) s s' → IsFilled Pair Sealed (and_bound z (and_bound x none_bound)) e e'
+      → IsFilled Pair Sealed (and_bound x none_bound) d d' → AreAlong Pair v (term.BracketCase x a u y s z e d) (term.BracketCase x a' u' y s' z e' d')
+  start : {v : Cover} {h : ℕ} {a a' b b' : Term} → IsFilled Pair uncovered none_bound a a' → IsFilled Pair v (and_bound h none_bound) b b'
+      → AreAlong Pair v (term.Start h a b) (term.Start h a' b')
+  join : {v : Cover} {f : Arg} {x e : ℕ} {a a' b b' d d' : Term} → IsFilled Pair v (and_bound x none_bound) a a' → IsFilled Pair v (and_bound e none_bound) b b'
+      → IsFilled Pair v none_bound d d' → AreAlong Pair v (term.Join f x a e b d) (term.Join f x a' e b' d')
+  try_take : {v : Cover} {q x : ℕ} {a a' b b' : Term} → IsFilled Pair v (and_bound x none_bound) a a' → IsFilled Pair v none_bound b b'
+      → AreAlong Pair v (term.TryTake q x a b) (term.TryTake q x a' b')
+  masked : {v : Cover} {r : ℕ} {a a' : Term} → AreAlong Pair (in_mask v) a a' → AreAlong Pair v (term.Masked r a) (term.Masked r a')
+  opened : {v : Cover} {r : ℕ} {a a' : Term} → AreAlong Pair (in_poll v) a a' → AreAlong Pair v (term.Opened r a) (term.Opened r a')
+  in_use : {v : Cover} {k : ℕ} {a a' r r' : Term} → AreAlong Pair v a a' → IsFilled Pair Sealed none_bound r r'
+      → AreAlong Pair v (term.InUse k a r) (term.InUse k a' r')
+  in_use_case : {v : Cover} {k y z : ℕ} {a a' s s' e e' d d' : Term} → AreAlong Pair v a a' → IsFilled Pair Sealed (and_bound y none_bound) s s'
+      → IsFilled Pair Sealed (and_bound z none_bound) e e' → IsFilled Pair Sealed none_bound d d'
+      → AreAlong Pair v (term.InUseCase k a y s z e d) (term.InUseCase k a' y s' z e' d')
+  in_release : {v : Cover} {k : ℕ} {a a' : Term} {w : Done} → AreAlong Pair Sealed a a' → AreAlong Pair v (term.InRelease k a w) (term.InRelease k a' w)
+  loop : {v : Cover} {i k n : ℕ} {a a' : Term} → IsFilled Pair v (and_bound i none_bound) a a' → AreAlong Pair v (term.Loop i k n a) (term.Loop i k n a')
 
 -- a number is put for x, which is one of the names that are bound, and no more are bound then
 pub record IsPutUnder (v v' : ℕ → Bool) (x : ℕ) : Type 0 where
@@ -71,12 +75,12 @@ pub first : (x : ℕ) → IsPutUnder (and_bound x none_bound) none_bound x
 first x = record { has = rw (eq-eqb x x refl) refl; less = λ z k. absurd cc }
 
 -- pairs are pairs with such a number too
-abbrev pub ArePut : ((ℕ → Bool) → Term → Term → Type 0) → Type 0
+abbrev pub ArePut : (Cover → (ℕ → Bool) → Term → Term → Type 0) → Type 0
 ArePut Pair =
-    (v v' : ℕ → Bool) (x : ℕ) → IsPutUnder v v' x → (n : ℕ) (t u : Term) → Pair v t u → Pair v' (put x n t) (put x n u)
+    (s : Cover) (v v' : ℕ → Bool) (x : ℕ) → IsPutUnder v v' x → (n : ℕ) (t u : Term) → Pair s v t u → Pair s v' (put x n t) (put x n u)
 
-module _ {Pair : (ℕ → Bool) → Term → Term → Type 0} where
-  abbrev pub holes : {v : ℕ → Bool} {t u : Term} → IsFilled Pair v t u → ℕ
+module _ {Pair : Cover → (ℕ → Bool) → Term → Term → Type 0} where
+  abbrev pub holes : {s : Cover} {v : ℕ → Bool} {t u : Term} → IsFilled Pair s v t u → ℕ
   holes (filled.pair s) = 1
   holes filled.same = 0
   holes (filled.let_ p q) = holes p + holes q
@@ -98,7 +102,7 @@ module _ {Pair : (ℕ → Bool) → Term → Term → Type 0} where
   holes (filled.in_release p) = holes p
   holes (filled.loop {k = k} {n = n} p) = (n - k) * holes p
 
-  abbrev pub holes_along : {t u : Term} → AreAlong Pair t u → ℕ
+  abbrev pub holes_along : {s : Cover} {t u : Term} → AreAlong Pair s t u → ℕ
   holes_along same = 0
   holes_along (let_ p q) = holes_along p + holes q
   holes_along (handle p q) = holes_along p + holes q
@@ -120,8 +124,9 @@ module _ {Pair : (ℕ → Bool) → Term → Term → Type 0} where
   holes_along (loop {k = k} {n = n} p) = (n - k) * holes p
 
   -- the two use as many fiber numbers, where those of a pair do
-  pub filled_need : ((v : ℕ → Bool) (t u : Term) → Pair v t u → need t ≡ need u) → {v : ℕ → Bool} {t u : Term} → IsFilled Pair v t u → need t ≡ need u
-  filled_need n (filled.pair {bound = v} {t = t} {u = u} s) = n v t u s
+  pub filled_need : ((s : Cover) (v : ℕ → Bool) (t u : Term) → Pair s v t u → need t ≡ need u) → {s : Cover} {v : ℕ → Bool} {t u : Term} → IsFilled Pair s v t u
+      → need t ≡ need u
+  filled_need n (filled.pair {s = c} {bound = v} {t = t} {u = u} s) = n c v t u s
   filled_need n filled.same = refl
   filled_need n (filled.let_ p q) = let a = filled_need n p in let b = filled_need n q in cc
   filled_need n (filled.handle p q) = let a = filled_need n p in let b = filled_need n q in cc
@@ -146,9 +151,9 @@ module _ {Pair : (ℕ → Bool) → Term → Term → Type 0} where
 
   -- where pairs are pairs with a number for a name too
   module _ (puts : ArePut Pair) where
-    abbrev pub put_filled : {v v' : ℕ → Bool} {x : ℕ} → IsPutUnder v v' x → (n : ℕ) {t u : Term} → IsFilled Pair v t u
-        → IsFilled Pair v' (put x n t) (put x n u)
-    put_filled h n (filled.pair {bound = v} {t = t} {u = u} s) = filled.pair (puts v _ _ h n t u s)
+    abbrev pub put_filled : {v v' : ℕ → Bool} {x : ℕ} → IsPutUnder v v' x → (n : ℕ) {s : Cover} {t u : Term} → IsFilled Pair s v t u
+        → IsFilled Pair s v' (put x n t) (put x n u)
+    put_filled h n (filled.pair {s = c} {bound = v} {t = t} {u = u} s) = filled.pair (puts c v _ _ h n t u s)
     put_filled h n filled.same = filled.same
     put_filled h n (filled.let_ {x = y} p q) = filled.let_ (put_filled h n p) (put_filled (deeper_named y h) n q)
     put_filled h n (filled.handle {x = y} p q) = filled.handle (put_filled h n p) (put_filled (deeper_named y h) n q)
@@ -172,7 +177,8 @@ module _ {Pair : (ℕ → Bool) → Term → Term → Type 0} where
     put_filled h n (filled.in_release p) = filled.in_release (put_filled h n p)
     put_filled h n (filled.loop {i = i0} p) = filled.loop (put_filled (deeper i0 h) n p)
 
-    pub put_holes : {v v' : ℕ → Bool} {x : ℕ} (h : IsPutUnder v v' x) (n : ℕ) {t u : Term} (p : IsFilled Pair v t u) → holes (put_filled h n p) ≡ holes p
+    pub put_holes : {v v' : ℕ → Bool} {x : ℕ} (h : IsPutUnder v v' x) (n : ℕ) {s : Cover} {t u : Term} (p : IsFilled Pair s v t u)
+        → holes (put_filled h n p) ≡ holes p
     put_holes h n (filled.pair s) = refl
     put_holes h n filled.same = refl
     put_holes h n (filled.let_ {x = y} p q) = let a = put_holes h n p in let b = put_holes (deeper_named y h) n q in omega arith
@@ -214,14 +220,16 @@ module _ {Pair : (ℕ → Bool) → Term → Term → Type 0} where
     put_holes h n (filled.loop {i = i0} {k = k} {n = c} p) = ap (λ (m : ℕ). (c - k) * m) (put_holes (deeper i0 h) n p)
 
     -- a number for the one name that is bound
-    abbrev pub put_first : (x n : ℕ) {t u : Term} → IsFilled Pair (and_bound x none_bound) t u → IsFilled Pair none_bound (put x n t) (put x n u)
+    abbrev pub put_first : (x n : ℕ) {s : Cover} {t u : Term} → IsFilled Pair s (and_bound x none_bound) t u
+        → IsFilled Pair s none_bound (put x n t) (put x n u)
     put_first x n p = put_filled (first x) n p
 
-    abbrev pub put_named_filled : (x : Option ℕ) (n : ℕ) {t u : Term} → IsFilled Pair (and_named x none_bound) t u
-        → IsFilled Pair none_bound (put_named x n t) (put_named x n u)
+    abbrev pub put_named_filled : (x : Option ℕ) (n : ℕ) {s : Cover} {t u : Term} → IsFilled Pair s (and_named x none_bound) t u
+        → IsFilled Pair s none_bound (put_named x n t) (put_named x n u)
     put_named_filled None n p = p
     put_named_filled (Some x) n p = put_first x n p
 
-    pub put_named_holes : (x : Option ℕ) (n : ℕ) {t u : Term} (p : IsFilled Pair (and_named x none_bound) t u) → holes (put_named_filled x n p) ≡ holes p
+    pub put_named_holes : (x : Option ℕ) (n : ℕ) {s : Cover} {t u : Term} (p : IsFilled Pair s (and_named x none_bound) t u)
+        → holes (put_named_filled x n p) ≡ holes p
     put_named_holes None n p = refl
     put_named_holes (Some x) n p = put_holes (first x) n p

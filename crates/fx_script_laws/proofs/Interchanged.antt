@@ -7,13 +7,14 @@ use Rattle.fx_model.specs.Row.{Counts, Label, Silent, Shows, Learns, Starts}
 use Rattle.fx_model.specs.Step.{Progress, Runs, Unwinds, CleansUp, HasEnded, Step}
 use Rattle.fx_model.specs.Run.{Leads, shown}
 use Rattle.fx_laws.specs.Everywhere.{placed, Place, InTerm, InCleanup, come_to}
+use Rattle.fx_script_laws.specs.Cover.{Cover, Sealed, uncovered, IsCoveredBy}
 use Rattle.fx_script_laws.specs.Filled.{none_bound}
 use Rattle.fx_script_laws.specs.Interchange.{CanComeTo, CanComeLike, AreFilledLabels, itself, starts, AllFilled, none, more}
 use Rattle.fx_script_laws.proofs.Holes.{ArePut, holes, AreAlong}
 use Rattle.fx_script_laws.proofs.FilledPlaces.{AreFilledCleanups, holes_left, IsAtPair, Split, clear, at_pair, split}
 use Rattle.fx_script_laws.proofs.FilledSteps.{AreFilledProgress, runs, unwinds, cleans, ended, holes_in, StepIsFilled, run_step, unwind_step, clean_step}
 
-module _ {Pair : (ℕ → Bool) → Term → Term → Type 0} where
+module _ {Pair : Cover → (ℕ → Bool) → Term → Term → Type 0} where
   label_first : {l l' : Label} (ls ls' : List Label) → AreFilledLabels Pair l l' → AllFilled Pair (shown ls) (shown ls')
       → AllFilled Pair (shown (l ∷ ls)) (shown (l' ∷ ls'))
   label_first ls ms (itself {l = Silent}) h = h
@@ -22,17 +23,18 @@ module _ {Pair : (ℕ → Bool) → Term → Term → Type 0} where
   label_first ls ms (itself {l = Starts f b}) h = more itself h
   label_first ls ms (starts s) h = more (starts s) h
 
-module _ (Pair : (ℕ → Bool) → Term → Term → Type 0) (Ends : Counts → Progress → Type 0) where
+module _ (Pair : Cover → (ℕ → Bool) → Term → Term → Type 0) (Ends : Counts → Progress → Type 0) where
   -- an end of the one is an end of the other, where no pair is round the leaf
   pub record AreEndsKept : Type 0 where
-    pub running : (c : Counts) (t u : Term) → AreAlong Pair t u → Ends c (Runs t) → Ends c (Runs u)
+    pub running : (c : Counts) (t u : Term) → AreAlong Pair uncovered t u → Ends c (Runs t) → Ends c (Runs u)
     pub unwinding : (c : Counts) (xs ys : List CleanupTerm) → Ends c (Unwinds xs) → Ends c (Unwinds ys)
-    pub cleaning : (c : Counts) (k : Option ℕ) (t u : Term) (xs ys : List CleanupTerm) → AreAlong Pair t u → Ends c (CleansUp k t xs) → Ends c (CleansUp k u ys)
+    pub cleaning : (c : Counts) (k : Option ℕ) (t u : Term) (xs ys : List CleanupTerm) → AreAlong Pair Sealed t u → Ends c (CleansUp k t xs)
+        → Ends c (CleansUp k u ys)
 
   abbrev pub PairsCome : Type 0
   PairsCome =
-      (t u : Term) → Pair none_bound t u → (place : Place) (c : Counts) (ls : List Label) → CanComeTo Ends c (come_to place t) ls
-      → CanComeTo Ends c (come_to place u) ls
+      (s : Cover) (t u : Term) → Pair s none_bound t u → (place : Place) → IsCoveredBy s place → (c : Counts) (ls : List Label)
+      → CanComeTo Ends c (come_to place t) ls → CanComeTo Ends c (come_to place u) ls
 
   -- two fibers that differ at no more places
   abbrev pub FilledCome : ℕ → Type 0
@@ -40,8 +42,8 @@ module _ (Pair : (ℕ → Bool) → Term → Term → Type 0) (Ends : Counts →
       (c : Counts) (p q : Progress) (h : AreFilledProgress Pair p q) → holes_in h ≤ n → (ls : List Label) (d : Counts) (r : Progress) → Leads c p ls d r
       → Ends d r → CanComeLike Pair Ends c q (shown ls)
 
-module _ {Pair : (ℕ → Bool) → Term → Term → Type 0} {Ends : Counts → Progress → Type 0} (puts : ArePut Pair)
-    (needs : (v : ℕ → Bool) (t u : Term) → Pair v t u → need t ≡ need u) (kept : AreEndsKept Pair Ends) (pairs : PairsCome Pair Ends) where
+module _ {Pair : Cover → (ℕ → Bool) → Term → Term → Type 0} {Ends : Counts → Progress → Type 0} (puts : ArePut Pair)
+    (needs : (s : Cover) (v : ℕ → Bool) (t u : Term) → Pair s v t u → need t ≡ need u) (kept : AreEndsKept Pair Ends) (pairs : PairsCome Pair Ends) where
   -- no step more
   here : {c d : Counts} {p q r : Progress} → Leads c p [] d r → Ends d r → (Ends c p → Ends c q) → CanComeLike Pair Ends c q []
   here {c} {q = q} h e keep =
@@ -62,7 +64,8 @@ module _ {Pair : (ℕ → Bool) → Term → Term → Type 0} {Ends : Counts →
 
   module _ (n : ℕ) (fewer : (m : ℕ) → suc m ≤ n → FilledCome Pair Ends m) where
     -- the one of a pair, and then the rest, which differs at fewer places
-    pair_runs : (c : Counts) {t u : Term} {m : ℕ} → IsAtPair Pair t u m → m ≤ n → (ls : List Label) (d : Counts) (r : Progress) → Leads c (Runs t) ls d r
+    pair_runs : (c : Counts) {t u : Term} {m : ℕ} → IsAtPair Pair uncovered t u m → m ≤ n → (ls : List Label) (d : Counts) (r : Progress)
+        → Leads c (Runs t) ls d r
         → Ends d r → CanComeLike Pair Ends c (Runs u) (shown ls)
     pair_runs c {t} {u} i few ls d r h e =
         let first : CanComeTo Ends c (Runs (placed i.outer i.first)) (shown ls) =
@@ -74,7 +77,7 @@ module _ {Pair : (ℕ → Bool) → Term → Term → Type 0} {Ends : Counts →
           shown_is = refl;
           ends = e;
         } in
-        let k = pairs i.first i.second i.pair (InTerm i.outer) c (shown ls) first in
+        let k = pairs i.cover i.first i.second i.pair (InTerm i.outer) (i.covered [] (omega arith)) c (shown ls) first in
         let more = i.fewer i.second in
         let rest = fewer (holes (i.whole i.second)) (omega arith) c (Runs (placed i.outer i.second)) (Runs (placed i.outer' i.second))
         (runs (i.whole i.second)) (omega arith) k.labels k.counts k.progress k.run k.ends in
@@ -82,7 +85,7 @@ module _ {Pair : (ℕ → Bool) → Term → Term → Type 0} {Ends : Counts →
         subst (λ (ms : List Label). CanComeLike Pair Ends c (Runs (placed i.outer' i.second)) ms) k.shown_is rest in
         subst (λ (x : Term). CanComeLike Pair Ends c (Runs x) (shown ls)) (sym i.is') at
 
-    pair_cleans : (c : Counts) (k : Option ℕ) {t u : Term} {xs ys : List CleanupTerm} {m : ℕ} → IsAtPair Pair t u m → (q : AreFilledCleanups Pair xs ys)
+    pair_cleans : (c : Counts) (k : Option ℕ) {t u : Term} {xs ys : List CleanupTerm} {m : ℕ} → IsAtPair Pair Sealed t u m → (q : AreFilledCleanups Pair xs ys)
         → m + holes_left q ≤ n → (ls : List Label) (d : Counts) (r : Progress) → Leads c (CleansUp k t xs) ls d r → Ends d r
         → CanComeLike Pair Ends c (CleansUp k u ys) (shown ls)
     pair_cleans c k {t} {u} {xs} {ys} i q few ls d r h e =
@@ -95,7 +98,7 @@ module _ {Pair : (ℕ → Bool) → Term → Term → Type 0} {Ends : Counts →
           shown_is = refl;
           ends = e;
         } in
-        let s = pairs i.first i.second i.pair (InCleanup k xs i.outer) c (shown ls) first in
+        let s = pairs i.cover i.first i.second i.pair (InCleanup k xs i.outer) tt c (shown ls) first in
         let more = i.fewer i.second in
         let rest = fewer (holes (i.whole i.second) + holes_left q) (omega arith) c (CleansUp k (placed i.outer i.second) xs)
         (CleansUp k (placed i.outer' i.second) ys) (cleans (i.whole i.second) q) (omega arith) s.labels s.counts s.progress s.run s.ends in

@@ -26,7 +26,8 @@ use Rattle.fx_laws.proofs.CaseSteps.{acquired_leads, used_leads, case_fails_lead
 use Rattle.fx_laws.proofs.CaseLaws.{unused_put}
 use Rattle.fx_script_laws.specs.Filled.{none_bound}
 use Rattle.fx_script_laws.specs.Interchange.{AreInterchangeable}
-use Rattle.fx_script_laws.proofs.Followed.{IsSameSpot, IsFollowed, by_row}
+use Rattle.fx_script_laws.proofs.Followed.{IsFollowed, by_row}
+use Rattle.fx_script_laws.proofs.Spots.{IsSameSpot}
 use Rattle.fx_script_laws.proofs.EachFollows.{EachFollows, itself, turned_each, spot_by, one_leads, both_step, both_lead, both_inside, interchangeable}
 
 -- three terms, each forced after the one before
@@ -113,14 +114,14 @@ bound_in_order scope x y a b f scoped =
 
 -- `canceled` in contexts of which it goes on to the same
 module _ (gs hs : List Context) (spot : IsSameSpot (placed gs Canceled) (placed hs Canceled))
-    (next : IsFollowed (placed gs (Finished (Val 0))) (placed hs (Finished (Val 0)))) where
+    (next : IsFollowed IsSameSpot (placed gs (Finished (Val 0))) (placed hs (Finished (Val 0)))) where
   abbrev IsRowOfCanceled : Bool → Counts → Label → Counts → Term → Type 0
   IsRowOfCanceled k c l d w = (k ≡ true) × (l ≡ Shows event.SelfRequest) × (d ≡ known_canceled c) × (w ≡ placed gs (Finished (Val 0)))
 
   row_is : (k : Bool) (c d : Counts) (l : Label) (t1 : Term) → Row k c (placed gs Canceled) l d t1 → IsRowOfCanceled k c l d t1
   row_is k c d l t1 r = only_in gs (row_of_placed gs Canceled r) refl
 
-  canceled_follows : IsFollowed (placed gs Canceled) (placed hs Canceled)
+  canceled_follows : IsFollowed IsSameSpot (placed gs Canceled) (placed hs Canceled)
   canceled_follows =
       by_row spot (λ w e. let f = (result_placed gs Canceled w (sym e)).1 in cc) (λ k c d l t1 r. placed hs (Finished (Val 0)))
       (λ k c d l t1 r. let o = row_is k c d l t1 r in rw (o.1, o.2) (row_placed hs (rule.self_request o.0)))

@@ -1,3 +1,4 @@
+pub mod Covers
 pub mod Holes
 pub mod FilledRows
 pub mod FilledPlaces
@@ -8,6 +9,7 @@ pub mod StartsFound
 pub mod ReportsKept
 pub mod SameReports
 pub mod Followed
+pub mod Spots
 pub mod FollowedPlaces
 pub mod EachFollows
 pub mod LawsInScripts
@@ -21,3 +23,5 @@ pub mod StepsBefore
 pub mod BesideEnds
 pub mod MainReplaced
 pub mod MaskedMains
+pub mod AtClosedPlaces
+pub mod ClosedLaws

@@ -20,6 +20,7 @@ use Rattle.fx_model.specs.Causes.{IsEvent, Needs, taken_element, end_of_other, s
 use Rattle.fx_model.specs.Happenings.{IsLawfulInOneList}
 use Rattle.fx_model.proofs.StartLaws.{run_starts}
 use Rattle.fx_model.proofs.HeadlineLaws.{started_once, child_begins, numbers_above}
+use Rattle.fx_script_laws.specs.Cover.{Cover, uncovered}
 use Rattle.fx_script_laws.specs.Filled.{none_bound, IsFilled}
 use Rattle.fx_script_laws.specs.Interchange.{StopsThere, CanComeLike, AreFilledOrigins, AreFilledLabels, itself, starts, AllFilled, none, more}
 use Rattle.fx_script_laws.proofs.Holes.{ArePut, filled_need}
@@ -27,8 +28,9 @@ use Rattle.fx_script_laws.proofs.FilledSteps.{runs}
 use Rattle.fx_script_laws.proofs.Interchanged.{AreEndsKept, PairsCome, filled_come}
 use Rattle.fx_script_laws.proofs.StartsFound.{find_start, IsFoundToo, found_too, found_by_trace, begins_found, traced, all_begin, all_kept, same_events}
 
-module _ {Pair : (ℕ → Bool) → Term → Term → Type 0} (puts : ArePut Pair)
-    (needs : (v : ℕ → Bool) (t u : Term) → Pair v t u → need t ≡ need u) (kept : (o : Outside) (f : ℕ) (ended : Bool) → AreEndsKept Pair (StopsThere o f ended))
+module _ {Pair : Cover → (ℕ → Bool) → Term → Term → Type 0} (puts : ArePut Pair)
+    (needs : (s : Cover) (v : ℕ → Bool) (t u : Term) → Pair s v t u → need t ≡ need u) (kept : (o : Outside) (f : ℕ) (ended : Bool)
+    → AreEndsKept Pair (StopsThere o f ended))
     (pairs : (o : Outside) (f : ℕ) (ended : Bool) → PairsCome Pair (StopsThere o f ended)) where
   same_first : (b b' : Origin) → AreFilledOrigins Pair b b' → first_counts b ≡ first_counts b'
   same_first b b' s = let p = s.next_is in let q = s.end_is in cc
@@ -42,7 +44,7 @@ module _ {Pair : (ℕ → Bool) → Term → Term → Type 0} (puts : ArePut Pai
       (unable, refl))
 
   module _ (s : ScriptView) (other : Term) (may : ℕ → Bool) (r : ReportView) (lawful : IsLawfulReport s may r)
-      (terms : IsFilled Pair none_bound s.term other) where
+      (terms : IsFilled Pair uncovered none_bound s.term other) where
     -- the script with the other term
     abbrev s' : ScriptView
     s' = record { term = other; capacities = s.capacities }
@@ -363,7 +365,7 @@ module _ {Pair : (ℕ → Bool) → Term → Term → Type 0} (puts : ArePut Pai
           };
         }
 
-  module _ (s : ScriptView) (other : Term) (may : ℕ → Bool) (r : ReportView) (terms : IsFilled Pair none_bound s.term other) where
+  module _ (s : ScriptView) (other : Term) (may : ℕ → Bool) (r : ReportView) (terms : IsFilled Pair uncovered none_bound s.term other) where
     abbrev pub with_other : ScriptView
     with_other = record { term = other; capacities = s.capacities }
 

@@ -13,6 +13,7 @@ use Rattle.fx_model.specs.Run.{shown, events}
 use Rattle.fx_model.specs.LawfulReport.{is_start_of, starts_of, BeginsAs}
 use Rattle.fx_model.proofs.StartLaws.{IsStartRight}
 use Rattle.fx_script_laws.specs.Interchange.{AreFilledOrigins, AreFilledLabels, itself, starts, AllFilled, none, more}
+use Rattle.fx_script_laws.specs.Cover.{Cover}
 use Rattle.fx_script_laws.specs.Filled as filled
 
 abbrev pub find_start : ℕ → List Label → Option Origin
@@ -55,7 +56,7 @@ module _ (P : Label → Type 0) where
   all_of_shown s (Starts g b ∷ ls) h =
       All-cons P (Starts g b) ls (All-head P (Starts g b) (shown ls) h) (all_of_shown s ls (All-tail P (Starts g b) (shown ls) h))
 
-  module _ (Pair : (ℕ → Bool) → Term → Term → Type 0) (like : (l l' : Label) → AreFilledLabels Pair l l' → P l → P l') where
+  module _ (Pair : Cover → (ℕ → Bool) → Term → Term → Type 0) (like : (l l' : Label) → AreFilledLabels Pair l l' → P l → P l') where
     all_like : {ls ls' : List Label} → AllFilled Pair ls ls' → All P ls → All P ls'
     all_like none h = All-nil P
     all_like (more {l = l} {l' = l'} {ls = ls} {ls' = ls'} p q) h =
@@ -65,7 +66,7 @@ module _ (P : Label → Type 0) where
     pub all_kept : P Silent → (ls ls' : List Label) → AllFilled Pair (shown ls) (shown ls') → All P ls → All P ls'
     all_kept s ls ls' p h = all_of_shown s ls' (all_like p (all_shown ls h))
 
-module _ {Pair : (ℕ → Bool) → Term → Term → Type 0} where
+module _ {Pair : Cover → (ℕ → Bool) → Term → Term → Type 0} where
   events_like : {ls ls' : List Label} → AllFilled Pair ls ls' → events ls ≡ events ls'
   events_like none = refl
   events_like (more (itself {l = Silent}) q) = events_like q
@@ -77,7 +78,7 @@ module _ {Pair : (ℕ → Bool) → Term → Term → Type 0} where
   pub same_events : (ls ls' : List Label) → AllFilled Pair (shown ls) (shown ls') → events ls ≡ events ls'
   same_events ls ls' p = sym (events_shown ls) ∙ events_like p ∙ events_shown ls'
 
-module _ (Pair : (ℕ → Bool) → Term → Term → Type 0) where
+module _ (Pair : Cover → (ℕ → Bool) → Term → Term → Type 0) where
   -- the start of a fiber in the other run, which says the same but for pairs
   pub record IsFoundToo (b : Origin) (ls' : List Label) (f : ℕ) : Type 0 where
     pub origin : Origin

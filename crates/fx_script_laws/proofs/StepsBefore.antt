@@ -14,7 +14,7 @@ use Rattle.fx_laws.proofs.MonadLaws.{cede_leads}
 use Rattle.fx_script_laws.specs.Filled.{none_bound, and_named}
 use Rattle.fx_script_laws.specs.Interchange.{AreInterchangeable}
 use Rattle.fx_script_laws.specs.BeginsAtOnce.{BeginsAtOnce}
-use Rattle.fx_script_laws.proofs.Followed.{IsSameSpot}
+use Rattle.fx_script_laws.proofs.Spots.{IsSameSpot}
 use Rattle.fx_script_laws.proofs.EachFollows.{EachFollows, itself, spot_by, one_leads, interchangeable_but}
 use Rattle.fx_script_laws.proofs.PutNeeds.{put_need}
 use Rattle.fx_script_laws.proofs.PutOrder.{put_order}
@@ -145,7 +145,7 @@ handled_each x n b h =
     (itself (put_named x n b)))
 
 -- the name is their own
-abbrev IsOwn : (ℕ → Bool) → Option ℕ → Type 0
+abbrev pub IsOwn : (ℕ → Bool) → Option ℕ → Type 0
 IsOwn own None = Unit {0}
 IsOwn own (Some x) = own x ≡ true
 
@@ -157,7 +157,7 @@ data StepsBefore (own : ℕ → Bool) : Term → Term → Type 0 where
   handled : (x : Option ℕ) (n : ℕ) (b : Term) → IsOwn own x → BeginsAtOnce b → StepsBefore own (Handle (Raise (Number n)) x b) (put_named x n b)
 
 module _ (own : ℕ → Bool) where
-  apart : (x y : ℕ) → own x ≡ true → own y ≡ false → y ≢ x
+  pub apart : (x y : ℕ) → own x ≡ true → own y ≡ false → y ≢ x
   apart x y is not same = let e = ap own same in cc
 
   before_put : (y m : ℕ) (t u : Term) → own y ≡ false → StepsBefore own t u → StepsBefore own (put y m t) (put y m u)
@@ -173,7 +173,7 @@ module _ (own : ℕ → Bool) where
       subst (λ (v : Term). StepsBefore own (Handle (Raise (Number n)) (Some x) (put y m b)) v) (sym (put_order x y n m (apart x y o free) b))
       (handled (Some x) n (put y m b) o (begins_put y m b h))
 
-  named_need : (x : Option ℕ) (n : ℕ) (b : Term) → need (put_named x n b) ≡ need b
+  pub named_need : (x : Option ℕ) (n : ℕ) (b : Term) → need (put_named x n b) ≡ need b
   named_need None n b = refl
   named_need (Some x) n b = put_need x n b
 
@@ -194,7 +194,7 @@ module _ (own : ℕ → Bool) where
   steps_before : (t u : Term) → StepsBefore own t u → AreInterchangeable own t u
   steps_before = interchangeable_but own (StepsBefore own) before_put before_need before_follows
 
-own_name : (x : Option ℕ) → IsOwn (and_named x none_bound) x
+pub own_name : (x : Option ℕ) → IsOwn (and_named x none_bound) x
 own_name None = tt
 own_name (Some x) = rw (eq-eqb x x refl) refl
 

@@ -1,3 +1,4 @@
+pub mod Cover
 pub mod Filled
 pub mod Interchange
 pub mod BeginsAtOnce

@@ -4,6 +4,8 @@ ghost use Rattle.fx_term.specs.Term.{Term};
 ghost use Rattle.fx_model.specs.Row.{Counts, Label};
 ghost use Rattle.fx_model.specs.Step.{Runs};
 ghost use Rattle.fx_model.specs.Outside.{Outside};
+ghost use Rattle.fx_script_laws.specs.Cover.{Cover};
+ghost use Rattle.fx_script_laws.specs.Interchange.{Where, AreInterchangeableWhere, IsWithOtherWhere};
 ghost use Rattle.fx_script_laws.specs.Interchange.{Anywhere, StopsThere, CanComeTo, CanComeLike, EitherWay, AreTheTwo};
 ghost use Rattle.fx_script_laws.specs.Interchange.{ShowTheSameWithNumbers, WaitForTheSameWithNumbers, IsWithOther};
 
@@ -23,4 +25,17 @@ pub fn whole_terms_wait_for_the_same()
         → IsWithOther own t u a b → (c : Counts) (ls : List Label)
         → CanComeTo (StopsThere o f ended) c (Runs a) ls
         → CanComeLike (EitherWay (AreTheTwo own t u)) (StopsThere o f ended) c (Runs b) ls }
+{}
+
+/// The same of two terms that come to the same at places that are closed so, where they are put for one another
+/// at such places alone. What closes a place is told by the forms round it: each mask once more, each poll once
+/// less, and an acquire part, a finalizer and a release for good.
+pub fn whole_terms_come_to_the_same_where()
+    ensures shows { (there : Cover → Bool) (own : ℕ → Bool) (t u a b : Term) → AreInterchangeableWhere there own t u
+        → IsWithOtherWhere there own t u a b → (c : Counts) (ls : List Label)
+        → CanComeTo Anywhere c (Runs a) ls → CanComeLike (EitherWay (Where there (AreTheTwo own t u))) Anywhere c (Runs b) ls }
+    ensures waits { (there : Cover → Bool) (own : ℕ → Bool) (t u a b : Term) (o : Outside) (f : ℕ) (ended : Bool)
+        → AreInterchangeableWhere there own t u → IsWithOtherWhere there own t u a b → (c : Counts) (ls : List Label)
+        → CanComeTo (StopsThere o f ended) c (Runs a) ls
+        → CanComeLike (EitherWay (Where there (AreTheTwo own t u))) (StopsThere o f ended) c (Runs b) ls }
 {}

@@ -9,6 +9,7 @@
 //! | definitions | what they say |
 //! |---|---|
 //! | `Filled` | one term is another one with pairs of terms put for one another in it |
+//! | `Cover` | what closes a place for certain, by the forms that stand round it |
 //! | `Interchange` | two terms show the same everywhere and wait for the same, whatever numbers stand for their names |
 //!
 //! | laws of | what they say |
@@ -16,10 +17,12 @@
 //! | [`contexts`] | a fiber with the one whole term shows what one with the other does, and waits where that does |
 //! | [`scripts`] | two scripts that differ at such places have the same lawful reports |
 //! | [`laws`] | which terms can be put for one another |
+//! | [`closed`] | which can where they stand at closed places |
 //! | [`masks`] | which masks, as a whole script, have the same reports |
 //! | [`refused`] | which cannot |
 #![tactic(auto)]
 
+pub mod closed;
 pub mod contexts;
 pub mod laws;
 pub mod masks;

@@ -12,7 +12,9 @@ ghost use Rattle.fx_model.specs.Causes.{IsLawfulInOneOrder};
 ghost use Rattle.fx_model.specs.Happenings.{IsLawfulInOneList};
 ghost use Rattle.fx_model.specs.MaskLaws.{forced_after};
 ghost use Rattle.fx_laws.specs.Names.{without_names};
-ghost use Rattle.fx_script_laws.specs.Interchange.{AreInterchangeable, IsWithOther};
+ghost use Rattle.fx_term.specs.Need.{need};
+ghost use Rattle.fx_script_laws.specs.Cover.{Cover};
+ghost use Rattle.fx_script_laws.specs.Interchange.{AreInterchangeable, AreInterchangeableWhere, IsWithOther, IsWithOtherWhere};
 
 /// Two terms that show the same and wait for the same, wherever a fiber comes to them and whatever numbers
 /// stand for their names, can be put for one another in any script, at any places: the two scripts have
@@ -28,6 +30,38 @@ pub fn scripts_have_the_same_reports()
     ensures lists { (own : ℕ → Bool) (t u : Term) (s z : ScriptView) (may : ℕ → Bool) (r : ReportView)
         → AreInterchangeable own t u → IsWithOther own t u s.term z.term → s.capacities ≡ z.capacities
         → IsLawfulInOneList s may r ↔ IsLawfulInOneList z may r }
+{}
+
+/// So it is of two terms that show the same and wait for the same where they stand at places that are closed so,
+/// in scripts that differ at such places alone.
+pub fn scripts_have_the_same_reports_where()
+    ensures reports { (there : Cover → Bool) (own : ℕ → Bool) (t u : Term) (s z : ScriptView) (may : ℕ → Bool) (r : ReportView)
+        → AreInterchangeableWhere there own t u → IsWithOtherWhere there own t u s.term z.term → s.capacities ≡ z.capacities
+        → IsLawfulReport s may r ↔ IsLawfulReport z may r }
+    ensures orders { (there : Cover → Bool) (own : ℕ → Bool) (t u : Term) (s z : ScriptView) (may : ℕ → Bool) (r : ReportView)
+        → AreInterchangeableWhere there own t u → IsWithOtherWhere there own t u s.term z.term → s.capacities ≡ z.capacities
+        → IsLawfulInOneOrder s may r ↔ IsLawfulInOneOrder z may r }
+    ensures lists { (there : Cover → Bool) (own : ℕ → Bool) (t u : Term) (s z : ScriptView) (may : ℕ → Bool) (r : ReportView)
+        → AreInterchangeableWhere there own t u → IsWithOtherWhere there own t u s.term z.term → s.capacities ≡ z.capacities
+        → IsLawfulInOneList s may r ↔ IsLawfulInOneList z may r }
+{}
+
+/// Written out for a value that is forced away before any term, in a mask with other parts before it:
+/// `(mask p (seq B (forcer (pure n) A)))`.
+pub fn scripts_may_discard_a_value_in_a_mask()
+    ensures { (p n : ℕ) (a b : Term) (capacities : List ℕ) (may : ℕ → Bool) (r : ReportView)
+        → IsLawfulReport (record {
+          term = Mask p (Let None b (forced_after (Pure (Number n)) a));
+          capacities = capacities;
+        }) may r
+        ↔ IsLawfulReport (record { term = Mask p (Let None b a); capacities = capacities }) may r }
+{}
+
+/// Written out for a finalizer in another one: `(oncancel B (oncancel A F))`, where `F` starts no fiber.
+pub fn scripts_may_leave_out_a_finalizer_in_a_finalizer()
+    ensures { (a b f : Term) (capacities : List ℕ) (may : ℕ → Bool) (r : ReportView) → need f ≡ 0
+        → IsLawfulReport (record { term = OnCancel b (OnCancel a f); capacities = capacities }) may r
+        ↔ IsLawfulReport (record { term = OnCancel b a; capacities = capacities }) may r }
 {}
 
 /// Written out for `forceRAssociativity`, in a loop of a started fiber whose finalizer has it too:
