@@ -6,7 +6,7 @@ use Rattle.fx_term.specs.Need.{need}
 use Rattle.fx_mask.specs.Closing.{Closing, is_none_closed}
 use Rattle.fx_model.specs.Path.{closed_along, closed_regions, leaf, is_open, must_cancel}
 use Rattle.fx_model.specs.Row.{Counts, Label, Silent}
-use Rattle.fx_model.specs.Step.{Progress}
+use Rattle.fx_model.specs.Step.{Progress, has_ended}
 use Rattle.fx_model.specs.Run.{Leads, shown}
 use Rattle.fx_model.specs.Outside.{Outside, can_step, leaf_can_step}
 use Rattle.fx_laws.specs.Everywhere.{placed, Place, InTerm, InCleanup, come_to}
@@ -27,12 +27,19 @@ use Rattle.fx_script_laws.proofs.WholeTerms.{come_there_is_shown}
 pub record AreEndsOfStops (Ends : Counts → Progress → Type 0) : Type 0 where
   pub told : AreToldByPlace Ends
   pub moves : (c d : Counts) (p q : Progress) → ((o : Outside) (f : ℕ) → can_step o f c p ≡ true) → Ends c p → Ends d q
+  pub kept : (c d : Counts) (p q : Progress) → ((o : Outside) (f : ℕ) → can_step o f c p ≡ can_step o f d q) → has_ended p ≡ has_ended q → Ends c p
+      → Ends d q
 
 pub anywhere_ends : AreEndsOfStops Anywhere
-anywhere_ends = record { told = anywhere_told; moves = λ c d p q go e. tt }
+anywhere_ends = record { told = anywhere_told; moves = λ c d p q go e. tt; kept = λ c d p q can same e. tt }
 
 pub stops_end : (o : Outside) (f : ℕ) (ended : Bool) → AreEndsOfStops (StopsThere o f ended)
-stops_end o f ended = record { told = stops_told o f ended; moves = λ c d p q go e. absurd (let h = go o f in let k = e.0 in cc) }
+stops_end o f ended =
+    record {
+      told = stops_told o f ended;
+      moves = λ c d p q go e. absurd (let h = go o f in let k = e.0 in cc);
+      kept = λ c d p q can same e. (sym (can o f) ∙ e.0, sym same ∙ e.1);
+    }
 
 last_true : (a b c : Bool) → c ≡ true → (a || b || c) ≡ true
 last_true true b c h = refl
@@ -40,18 +47,22 @@ last_true false true c h = refl
 last_true false false c h = h
 
 -- who stands where the leaf waits for nothing can step
-can_go : (place : Place) (t : Term) → ((o : Outside) → leaf_can_step o (leaf t) ≡ true) → (c : Counts) (o : Outside) (f : ℕ)
+pub can_go : (place : Place) (t : Term) → ((o : Outside) → leaf_can_step o (leaf t) ≡ true) → (c : Counts) (o : Outside) (f : ℕ)
     → can_step o f c (come_to place t) ≡ true
 can_go (InTerm fs) t steps c o f =
     last_true (must_cancel c.known (placed fs t)) (is_open (placed fs t) && o.is_requested f) (leaf_can_step o (leaf (placed fs t)))
     (ap (leaf_can_step o) (leaf_placed fs t) ∙ steps o)
 can_go (InCleanup k rest fs) t steps c o f = ap (leaf_can_step o) (leaf_placed fs t) ∙ steps o
 
+-- inside of what is closed the place of the term is closed
+abbrev pub StaysShut : Term → Type 0
+StaysShut t = (cs : List Closing) → is_none_closed cs ≡ false → is_none_closed (closed_regions cs t) ≡ false
+
 -- a silent row at a closed place is the only step there
 pub leads_on : (s : Cover) (place : Place) → is_closed s ≡ true → IsCoveredBy s place → {c d : Counts} {t u : Term} → IsOnlyRow c t Silent d u
-    → ((outer : List Closing) → closed_regions outer t ≡ outer) → IsForced c (come_to place t) Silent d (come_to place u)
+    → StaysShut t → IsForced c (come_to place t) Silent d (come_to place u)
 leads_on s (InTerm fs) closed at {t = t} o opens =
-    runs_only (open_placed fs t ∙ ap is_none_closed (opens (closed_along [] fs)) ∙ some_closed s (closed_along [] fs) closed at) (only_placed fs o)
+    runs_only (open_placed fs t ∙ opens (closed_along [] fs) (some_closed s (closed_along [] fs) closed at)) (only_placed fs o)
 leads_on s (InCleanup k rest fs) closed at o opens = cleans_only k rest (only_placed fs o)
 
 module _ {Ends : Counts → Progress → Type 0} (ends : AreEndsOfStops Ends) where
@@ -72,7 +83,7 @@ module _ {Ends : Counts → Progress → Type 0} (ends : AreEndsOfStops Ends) wh
 
   -- a silent step at a closed place
   pub silent_there : (s : Cover) (place : Place) → is_closed s ≡ true → IsCoveredBy s place → (t u : Term) → LeadsSilently t u
-      → ((outer : List Closing) → closed_regions outer t ≡ outer) → ((o : Outside) → leaf_can_step o (leaf t) ≡ true) → ComeToTheSameAt Ends place t u
+      → StaysShut t → ((o : Outside) → leaf_can_step o (leaf t) ≡ true) → ComeToTheSameAt Ends place t u
   silent_there s place closed at t u l opens steps c ls =
       after_silent (leads_on s place closed at (only_silent c l) opens) (can_go place t steps c) ls
 

@@ -33,7 +33,7 @@ use Rattle.fx_script_laws.proofs.Followed.{inside}
 use Rattle.fx_script_laws.proofs.Spots.{IsSameSpotIn, shut_spot, spot_within, inside_spot}
 use Rattle.fx_script_laws.proofs.EachFollows.{FollowEachOther, itself, turned_each, one_leads, both_step_at}
 use Rattle.fx_script_laws.proofs.StepsBefore.{IsOwn, apart, named_need, own_name}
-use Rattle.fx_script_laws.proofs.AtClosedPlaces.{AreEndsOfStops, silent_there, come_too, interchangeable_where, followed_come}
+use Rattle.fx_script_laws.proofs.AtClosedPlaces.{AreEndsOfStops, StaysShut, silent_there, come_too, interchangeable_where, followed_come}
 use Rattle.fx_script_laws.proofs.PutNeeds.{put_need}
 use Rattle.fx_script_laws.proofs.PutOrder.{put_order}
 
@@ -50,7 +50,7 @@ nothing = Pure (Number 0)
 
 module _ {Ends : Counts → Progress → Type 0} (ends : AreEndsOfStops Ends) (s : Cover) (place : Place) (closed : is_closed s ≡ true)
     (at : IsCoveredBy s place) where
-  one : (t u : Term) → LeadsSilently t u → ((outer : List Closing) → closed_regions outer t ≡ outer) → ((o : Outside) → leaf_can_step o (leaf t) ≡ true)
+  one : (t u : Term) → LeadsSilently t u → StaysShut t → ((o : Outside) → leaf_can_step o (leaf t) ≡ true)
       → (v : Term) → ComeToTheSameAt Ends place u v → ComeToTheSameAt Ends place t v
   one t u l opens steps v next = come_too Ends place t u v (silent_there ends s place closed at t u l opens steps) next
 
@@ -59,31 +59,31 @@ module _ {Ends : Counts → Progress → Type 0} (ends : AreEndsOfStops Ends) (s
 
   value_there : (x : Option ℕ) (n : ℕ) (b : Term) → ComeToTheSameAt Ends place (Let x (Finished (Val n)) b) (put_named x n b)
   value_there x n b =
-      one (Let x (Finished (Val n)) b) (put_named x n b) (let_value_leads x n b) (λ outer. refl) (λ o. refl) (put_named x n b) (here (put_named x n b))
+      one (Let x (Finished (Val n)) b) (put_named x n b) (let_value_leads x n b) (λ cs h. h) (λ o. refl) (put_named x n b) (here (put_named x n b))
 
   pure_there : (x : Option ℕ) (n : ℕ) (b : Term) → ComeToTheSameAt Ends place (Let x (Pure (Number n)) b) (put_named x n b)
   pure_there x n b =
-      one (Let x (Pure (Number n)) b) (Let x (Finished (Val n)) b) (leads_placed (LetIn x b ∷ []) (pure_leads n)) (λ outer. refl) (λ o. refl)
+      one (Let x (Pure (Number n)) b) (Let x (Finished (Val n)) b) (leads_placed (LetIn x b ∷ []) (pure_leads n)) (λ cs h. h) (λ o. refl)
       (put_named x n b) (value_there x n b)
 
   steps_there : (own : ℕ → Bool) (t u : Term) → StepsFirst own t u → ComeToTheSameAt Ends place t u
   steps_there own t u (forced n a) =
       one (forced_after (Pure (Number n)) a) (Let None (Handle (Finished (Val n)) None nothing) a)
-      (leads_placed (LetIn None a ∷ HandleIn None nothing ∷ []) (pure_leads n)) (λ outer. refl) (λ o. refl) a
+      (leads_placed (LetIn None a ∷ HandleIn None nothing ∷ []) (pure_leads n)) (λ cs h. h) (λ o. refl) a
       (one (Let None (Handle (Finished (Val n)) None nothing) a) (Let None (Finished (Val n)) a)
-      (leads_placed (LetIn None a ∷ []) (handle_value_leads None n nothing)) (λ outer. refl) (λ o. refl) a (value_there None n a))
+      (leads_placed (LetIn None a ∷ []) (handle_value_leads None n nothing)) (λ cs h. h) (λ o. refl) a (value_there None n a))
   steps_there own t u (forced_error n a) =
       one (forced_after (Raise (Number n)) a) (Let None (Handle (Finished (Err n)) None nothing) a)
-      (leads_placed (LetIn None a ∷ HandleIn None nothing ∷ []) (raise_leads n)) (λ outer. refl) (λ o. refl) a
+      (leads_placed (LetIn None a ∷ HandleIn None nothing ∷ []) (raise_leads n)) (λ cs h. h) (λ o. refl) a
       (one (Let None (Handle (Finished (Err n)) None nothing) a) (Let None nothing a) (leads_placed (LetIn None a ∷ []) (handle_error_leads None n nothing))
-      (λ outer. refl) (λ o. refl) a (pure_there None 0 a))
+      (λ cs h. h) (λ o. refl) a (pure_there None 0 a))
   steps_there own t u (ceded a) =
-      one (Let None Cede a) (Let None (Finished (Val 0)) a) (leads_placed (LetIn None a ∷ []) cede_leads) (λ outer. refl) (λ o. refl) a (value_there None 0 a)
+      one (Let None Cede a) (Let None (Finished (Val 0)) a) (leads_placed (LetIn None a ∷ []) cede_leads) (λ cs h. h) (λ o. refl) a (value_there None 0 a)
   steps_there own t u (bound x n b o) = pure_there x n b
   steps_there own t u (handled x n b o) =
-      one (Handle (Raise (Number n)) x b) (Handle (Finished (Err n)) x b) (leads_placed (HandleIn x b ∷ []) (raise_leads n)) (λ outer. refl) (λ o. refl)
+      one (Handle (Raise (Number n)) x b) (Handle (Finished (Err n)) x b) (leads_placed (HandleIn x b ∷ []) (raise_leads n)) (λ cs h. h) (λ o. refl)
       (put_named x n b)
-      (one (Handle (Finished (Err n)) x b) (put_named x n b) (handle_error_leads x n b) (λ outer. refl) (λ o. refl) (put_named x n b)
+      (one (Handle (Finished (Err n)) x b) (put_named x n b) (handle_error_leads x n b) (λ cs h. h) (λ o. refl) (put_named x n b)
       (here (put_named x n b)))
 
 module _ (own : ℕ → Bool) where
@@ -216,19 +216,20 @@ sealed_inside : (cs : List Closing) (t : Term) → has_seal cs ≡ true → is_n
 sealed_inside cs t h =
     some_closed Sealed (closed_regions cs t) refl (sealed_at (closed_along cs (path t)) (leaf t) (sealed_along (path t) cs h))
 
-module _ (cs : List Closing) (sealed : has_seal cs ≡ true) (f : Term) where
-  sealed_spot : {t u : Term} → ((o : Outside) → leaf_can_step o (leaf t) ≡ leaf_can_step o (leaf u)) → IsSameSpotIn cs t u
+module _ (cs : List Closing) (sealed : has_seal cs ≡ true) where
+  pub sealed_spot : {t u : Term} → ((o : Outside) → leaf_can_step o (leaf t) ≡ leaf_can_step o (leaf u)) → IsSameSpotIn cs t u
   sealed_spot {t} {u} waits = shut_spot cs (sealed_inside cs t sealed) (sealed_inside cs u sealed) waits
 
-  finalizer_ends : (w : Done) → FollowEachOther (IsSameSpotIn cs) (OnCancel (Finished w) f) (Finished w)
-  finalizer_ends w = one_leads (oncancel_leads w f) (sealed_spot (λ o. refl)) (itself (Finished w))
+  module _ (f : Term) where
+    finalizer_ends : (w : Done) → FollowEachOther (IsSameSpotIn cs) (OnCancel (Finished w) f) (Finished w)
+    finalizer_ends w = one_leads (oncancel_leads w f) (sealed_spot (λ o. refl)) (itself (Finished w))
 
-  no_finalizer : (a : Term) → FollowEachOther (IsSameSpotIn cs) (OnCancel a f) a
-  no_finalizer a =
-      record {
-        to = inside (OnCancelIn f ∷ []) [] (λ x. sealed_spot (λ o. refl)) (λ w. (finalizer_ends w).to) a;
-        from = inside [] (OnCancelIn f ∷ []) (λ x. sealed_spot (λ o. refl)) (λ w. (finalizer_ends w).from) a;
-      }
+    no_finalizer : (a : Term) → FollowEachOther (IsSameSpotIn cs) (OnCancel a f) a
+    no_finalizer a =
+        record {
+          to = inside (OnCancelIn f ∷ []) [] (λ x. sealed_spot (λ o. refl)) (λ w. (finalizer_ends w).to) a;
+          from = inside [] (OnCancelIn f ∷ []) (λ x. sealed_spot (λ o. refl)) (λ w. (finalizer_ends w).from) a;
+        }
 
 data HasFinalizer : Term → Term → Type 0 where
   a_finalizer : (a f : Term) → need f ≡ 0 → HasFinalizer (OnCancel a f) a

@@ -1,5 +1,5 @@
 -- Some laws, written out for scripts.
-use Rattle.std.proofs.Common.{◌≡◌, ◌≢◌, ℕ, ◌==◌, if◌then◌else◌, Bool, true, false, Option, Some, None, List, [], refl, sym, ◌∙◌}
+use Rattle.std.proofs.Common.{◌≡◌, ◌≢◌, ℕ, ◌==◌, if◌then◌else◌, Bool, true, false, Option, Some, None, List, [], refl, sym, ◌∙◌, subst}
 use Rattle.std.proofs.lemmas.Bool.{eqb-true, ne_eqb}
 use Rattle.std.specs.Prelude.{◌↔◌}
 use Rattle.fx_term.specs.declared.node.Arg.TheVariants.{Number, Slot}
@@ -7,7 +7,7 @@ use Rattle.fx_term.specs.declared.name_kind.NameKind.{NameKind}
 use Rattle.fx_term.specs.declared.name_kind.NameKind.TheVariants as kind
 use Rattle.fx_term.specs.Scope.{with_name, IsScoped}
 use Rattle.fx_term.specs.Need.{need}
-use Rattle.fx_term.specs.Term.{Term, Start, OnCancel, For, Mask, Let, Pure, Bracket, BracketCase}
+use Rattle.fx_term.specs.Term.{Term, Start, OnCancel, For, Mask, Poll, Let, Pure, Bracket, BracketCase}
 use Rattle.fx_model.specs.MaskLaws.{forced_after}
 use Rattle.fx_model.specs.Report.{ReportView}
 use Rattle.fx_model.specs.LawfulReport.{IsLawfulReport}
@@ -16,6 +16,10 @@ use Rattle.fx_script_laws.specs.Cover.{Cover, is_closed, is_sealed}
 use Rattle.fx_script_laws.specs.Filled.{none_bound, and_bound, IsFilled}
 use Rattle.fx_script_laws.specs.Filled as filled
 use Rattle.fx_script_laws.specs.Interchange.{Where, EitherWay, AreTheTwo, as_is, with_numbers}
+use Rattle.fx_script_laws.specs.InScripts.{IsScriptTerm, HaveSameReports}
+use Rattle.fx_script_laws.proofs.RegionLaws.{polled_at_once}
+use Rattle.fx_term.proofs.NameUses.{name_is}
+use Rattle.std.proofs.lemmas.Option.{none-some}
 use Rattle.fx_script_laws.proofs.SameReports.{same_reports, reports_where}
 use Rattle.fx_script_laws.proofs.ClosedLaws.{pure_before, finalizer_of_sealed}
 use Rattle.fx_script_laws.proofs.OwnNames.{value_given_again}
@@ -90,3 +94,18 @@ nested_finalizer a b f capacities may r none =
     let t = OnCancel a f in
     reports_where is_sealed none_bound t a (finalizer_of_sealed a f none) (record { term = OnCancel b t; capacities = capacities })
     (record { term = OnCancel b a; capacities = capacities }) may r (filled.oncancel filled.same (closed_here t a refl)) refl
+
+pub polled_in_mask : (scope : ℕ → Option NameKind) (p q : ℕ) (a b c : Term) (capacities : List ℕ) (may : ℕ → Bool) (r : ReportView)
+    → IsScoped (with_name q kind.OtherPoll scope) a → IsScriptTerm (Mask p (Let None b (Let None (Mask q (Poll (Slot q) a)) c)))
+    → IsScriptTerm (Mask p (Let None b (Let None a c)))
+    → HaveSameReports (record { term = Mask p (Let None b (Let None (Mask q (Poll (Slot q) a)) c)); capacities = capacities })
+    (record { term = Mask p (Let None b (Let None a c)); capacities = capacities }) may r
+polled_in_mask scope p q a b c capacities may r scoped first second =
+    let t = Mask q (Poll (Slot q) a) in
+    let other : p ≢ q = (λ same. let new : with_name p kind.Poll (λ x. None) q ≡ None = first.1.1.2.0.0 in
+    let there : with_name p kind.Poll (λ x. None) p ≡ Some kind.Poll = name_is p kind.Poll (λ x. None) in
+    let here : with_name p kind.Poll (λ x. None) p ≡ None = subst (λ (z : ℕ). with_name p kind.Poll (λ x. None) z ≡ None) (sym same) new in
+    absurd (none-some kind.Poll (sym here ∙ there))) in
+    polled_at_once scope q a scoped (record { term = Mask p (Let None b (Let None t c)); capacities = capacities })
+    (record { term = Mask p (Let None b (Let None a c)); capacities = capacities }) may r first second
+    (filled.mask (filled.let_ filled.same (filled.let_ (filled.pair (as_is (refl, with_numbers [] tt (apart_in p q other)))) filled.same))) refl

@@ -25,3 +25,11 @@ pub mod MainReplaced
 pub mod MaskedMains
 pub mod AtClosedPlaces
 pub mod ClosedLaws
+pub mod Renumbered
+pub mod RenumberedRows
+pub mod RenumberedRuns
+pub mod OwnRegions
+pub mod AlikeInScripts
+pub mod RegionLaws
+pub mod FinalizersInScripts
+pub mod ClosedApart

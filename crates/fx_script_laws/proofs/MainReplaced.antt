@@ -1,6 +1,6 @@
 -- A report stays lawful where the main fiber has another term and a run of its own with the same labels.
 use Rattle.std.proofs.Common.{◌≡◌, ℕ, zero, suc, ◌+◌, ◌<◌, ◌≤◌, Bool, false, Some, List, [], ◌∷◌, All, refl, sym, ◌∙◌, ap, subst, arith}
-use Rattle.std.specs.Prelude.{◌↔◌, slice_get}
+use Rattle.std.specs.Prelude.{slice_get}
 use Rattle.std.proofs.lemmas.List.Elements.{All-nil, All-cons, All-head, All-tail}
 use Rattle.fx_term.specs.Need.{need}
 use Rattle.fx_term.specs.Term.{Term}
@@ -17,6 +17,7 @@ use Rattle.fx_model.specs.Happenings.{IsLawfulInOneList}
 use Rattle.fx_model.proofs.StartLaws.{IsStartRight, run_starts}
 use Rattle.fx_model.proofs.HeadlineLaws.{numbers_above}
 use Rattle.fx_script_laws.specs.Interchange.{StopsThere, CanComeTo}
+use Rattle.fx_script_laws.specs.InScripts.{HaveSameReports}
 use Rattle.fx_script_laws.proofs.StartsFound.{all_shown, all_of_shown, events_shown}
 
 -- labels that are seen rightly, where nobody requests the fiber
@@ -149,12 +150,6 @@ module _ (s : ScriptView) (other : Term) (may : ℕ → Bool) (r : ReportView) (
           requested = c.in_order.requested;
         };
       }
-
--- two scripts have the same reports, lawful as they are, in one order and in one list
-pub record HaveSameReports (s z : ScriptView) (may : ℕ → Bool) (r : ReportView) : Type 0 where
-  pub reports : IsLawfulReport s may r ↔ IsLawfulReport z may r
-  pub orders : IsLawfulInOneOrder s may r ↔ IsLawfulInOneOrder z may r
-  pub lists : IsLawfulInOneList s may r ↔ IsLawfulInOneList z may r
 
 -- by each main run the other main fiber has one that shows the same and comes to the same end
 abbrev pub MainsCome : Term → Term → List ℕ → (ℕ → Bool) → ReportView → Type 0

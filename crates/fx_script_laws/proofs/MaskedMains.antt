@@ -27,8 +27,9 @@ use Rattle.fx_model.proofs.Paths.{no_context}
 use Rattle.fx_model.proofs.ShownRuns.{leads_append, Reaches, stays, steps, and_then, enters_silently}
 use Rattle.fx_model.proofs.Wrapped.{Wrap, Closes, Opens, Cleans, wrapped}
 use Rattle.fx_script_laws.specs.Interchange.{StopsThere, CanComeTo}
+use Rattle.fx_script_laws.specs.InScripts.{HaveSameReports}
 use Rattle.fx_script_laws.proofs.BesideEnds.{shown_append, not_stopped, come_along}
-use Rattle.fx_script_laws.proofs.MainReplaced.{unseen_all, HaveSameReports, MainsCome, have_same}
+use Rattle.fx_script_laws.proofs.MainReplaced.{unseen_all, MainsCome, have_same}
 
 abbrev own_poll : List Wrap
 own_poll = Opens 0 ∷ Closes 0 ∷ []

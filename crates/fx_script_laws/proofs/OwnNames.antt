@@ -26,7 +26,7 @@ other_name x y h = by_test (x == y) refl
     by_test true e = absurd (let same : y ≡ x = sym (eqb-true x y e) in let k : and_bound x none_bound x ≡ false = ap (and_bound x none_bound) (sym same) ∙ h in
         let t : and_bound x none_bound x ≡ true = rw (eq-eqb x x refl) refl in cc)
 
-other_arg : (x y n : ℕ) → and_bound x none_bound y ≡ false → put_arg y n (Slot x) ≡ Slot x
+pub other_arg : (x y n : ℕ) → and_bound x none_bound y ≡ false → put_arg y n (Slot x) ≡ Slot x
 other_arg x y n h = rw (other_name x y h) refl
 
 module _ (x : ℕ) where

@@ -1,5 +1,5 @@
 -- Each lawful report of the one script is one of the other.
-use Rattle.std.proofs.Common.{◌≡◌, ◌≢◌, ℕ, zero, suc, ◌+◌, ◌==◌, ◌<◌, ◌≤◌, Bool, true, false, if◌then◌else◌, Option, Some, None, List, [], All}
+use Rattle.std.proofs.Common.{◌≡◌, ◌≢◌, ℕ, zero, suc, ◌+◌, ◌==◌, ◌<◌, ◌≤◌, Bool, true, false, if◌then◌else◌, Option, Some, None, List, [], ◌∷◌, All}
 use Rattle.std.proofs.Common.{refl, sym, ◌∙◌, ap, subst, arith, inl, inr}
 use Rattle.std.specs.Prelude.{length, slice_get}
 use Rattle.std.proofs.lemmas.Bool.{eqb-true, cases_eq}
@@ -9,10 +9,11 @@ use Rattle.fx_term.specs.declared.event.Event.{Event}
 use Rattle.fx_term.specs.Term.{Term}
 use Rattle.fx_term.specs.Need.{need}
 use Rattle.fx_term.specs.Script.{ScriptView}
-use Rattle.fx_model.specs.Row.{Counts, Label, Learns}
+use Rattle.fx_model.specs.Row.{Counts, Label, Silent, Shows, Learns, Starts}
 use Rattle.fx_model.specs.Origin.{Origin, main_origin}
-use Rattle.fx_model.specs.Step.{Progress, Runs, has_ended}
-use Rattle.fx_model.specs.Run.{first_counts, IsRun, shown, events}
+use Rattle.fx_model.specs.Step.{Progress, Runs, Step, has_ended}
+use Rattle.fx_model.specs.Run.{first_counts, Leads, IsRun, shown, events}
+use Rattle.std.proofs.lemmas.List.Elements.{All-nil, All-cons, All-head, All-tail}
 use Rattle.fx_model.specs.Outside.{Outside, can_step}
 use Rattle.fx_model.specs.Report.{FiberReportView, ReportView, fiber_in, parent_in, trace_in, parent_of_report, trace_of_report, final_outside}
 use Rattle.fx_model.specs.LawfulReport.{starts_of, is_parent, HasRun, HasRuns, BeginsAs, HasOrigins, IsLearnt, IsSeenRightly, IsLawfulReport}
@@ -28,23 +29,97 @@ use Rattle.fx_script_laws.proofs.FilledSteps.{runs}
 use Rattle.fx_script_laws.proofs.Interchanged.{AreEndsKept, PairsCome, filled_come}
 use Rattle.fx_script_laws.proofs.StartsFound.{find_start, IsFoundToo, found_too, found_by_trace, begins_found, traced, all_begin, all_kept, same_events}
 
+-- what holds of a fiber holds of what it starts, too
+abbrev pub HoldsOfStarts : (Counts → Progress → Type 0) → Label → Type 0
+HoldsOfStarts Holds (Starts f b) = Holds (first_counts b) (Runs b.term)
+HoldsOfStarts Holds _ = Unit {0}
+
+-- something that holds of fibers from their begin on
+pub record IsKeptByRuns (Holds : Counts → Progress → Type 0) : Type 0 where
+  pub steps : (c d : Counts) (p q : Progress) (l : Label) → Holds c p → Step c p l d q → Holds d q
+  pub starts : (c d : Counts) (p q : Progress) (l : Label) → Holds c p → Step c p l d q → HoldsOfStarts Holds l
+
+module _ {Holds : Counts → Progress → Type 0} (is : IsKeptByRuns Holds) where
+  all_hold : (ls : List Label) (c d : Counts) (p q : Progress) → Holds c p → Leads c p ls d q → All (HoldsOfStarts Holds) ls
+  all_hold [] c d p q h k = All-nil (HoldsOfStarts Holds)
+  all_hold (l ∷ ls) c d p q h k =
+      All-cons (HoldsOfStarts Holds) l ls (is.starts c k.0 p k.1 l h k.2) (all_hold ls k.0 d k.1 q (is.steps c k.0 p k.1 l h k.2) k.3)
+
+  found_holds : (f : ℕ) (b : Origin) (ls : List Label) → All (HoldsOfStarts Holds) ls → find_start f ls ≡ Some b → Holds (first_counts b) (Runs b.term)
+  found_holds f b [] h e = absurd (none-some b e)
+  found_holds f b (Silent ∷ ls) h e = found_holds f b ls (All-tail (HoldsOfStarts Holds) Silent ls h) e
+  found_holds f b (Shows v ∷ ls) h e = found_holds f b ls (All-tail (HoldsOfStarts Holds) (Shows v) ls h) e
+  found_holds f b (Learns g o v ∷ ls) h e = found_holds f b ls (All-tail (HoldsOfStarts Holds) (Learns g o v) ls h) e
+  found_holds f b (Starts g a ∷ ls) h e = by_test (g == f) refl (found_holds f b ls (All-tail (HoldsOfStarts Holds) (Starts g a) ls h))
+    where
+      by_test : (t : Bool) → (g == f) ≡ t → (find_start f ls ≡ Some b → Holds (first_counts b) (Runs b.term)) → Holds (first_counts b) (Runs b.term)
+      by_test true p rest =
+          let first : Some a ≡ Some b = rw p at e in
+          subst (λ (x : Origin). Holds (first_counts x) (Runs x.term)) (same_Some a b first) (All-head (HoldsOfStarts Holds) (Starts g a) ls h)
+      by_test false p rest = rest (rw p at e)
+
+  -- of each fiber of a lawful report, where it holds of main
+  module _ (s : ScriptView) (may : ℕ → Bool) (r : ReportView) (lawful : IsLawfulReport s may r)
+      (main : Holds (first_counts (main_origin s.term)) (Runs s.term)) where
+    abbrev HoldsOf : ℕ → Type 0
+    HoldsOf f = (x : FiberReportView) → fiber_in r f ≡ Some x → Holds (first_counts (lawful.runs.origin f)) (Runs (lawful.runs.origin f).term)
+
+    of_main : HoldsOf 0
+    of_main x at = subst (λ (b : Origin). Holds (first_counts b) (Runs b.term)) (sym lawful.origins.main) main
+
+    of_child : (f p : ℕ) (x y : FiberReportView) → fiber_in r f ≡ Some x → x.parent ≡ Some p → fiber_in r p ≡ Some y
+        → Holds (first_counts (lawful.runs.origin p)) (Runs (lawful.runs.origin p).term)
+        → Holds (first_counts (lawful.runs.origin f)) (Runs (lawful.runs.origin f).term)
+    of_child f p x y at parent told holds =
+        let once = started_once s r lawful.starters lawful.runs lawful.origins f p x y at parent told in
+        let h = lawful.runs.run p y told in
+        let all = run_starts (lawful.runs.origin p) (lawful.runs.labels p) (lawful.runs.counts p) (lawful.runs.progress p) h.run in
+        let found = found_by_trace (lawful.runs.origin p).next (lawful.runs.labels p) f 0 all (ap (starts_of f) h.trace ∙ once) in
+        let begins : lawful.runs.origin f ≡ found.0 =
+        begins_found lawful.runs.origin f found.0 (lawful.runs.labels p) (lawful.origins.child p y told) found.1 in
+        let here = all_hold (lawful.runs.labels p) (first_counts (lawful.runs.origin p)) (lawful.runs.counts p) (Runs (lawful.runs.origin p).term)
+        (lawful.runs.progress p) holds h.run in
+        subst (λ (b : Origin). Holds (first_counts b) (Runs b.term)) (sym begins) (found_holds f found.0 (lawful.runs.labels p) here found.1)
+
+    lower : (f p : ℕ) (x y : FiberReportView) → fiber_in r f ≡ Some x → x.parent ≡ Some p → fiber_in r p ≡ Some y → p < f
+    lower f p x y at parent told =
+        let above = numbers_above s r lawful.starters lawful.runs lawful.origins p y told in
+        let least = (child_begins s r lawful.starters lawful.runs lawful.origins f p x y at parent told).least in
+        omega arith
+
+    within : (n f : ℕ) → f < n → HoldsOf f
+    within zero f lt x at = absurd (omega (arith, lt))
+    within (suc n) f lt x at = elim (cases_eq f 0) [
+      | inl e ↦ subst HoldsOf (sym e) of_main x at
+      | inr ne ↦
+          (let h = lawful.starters.others f x at ne in
+          let below = lower f h.0 x h.1 at h.2 h.3 in
+          of_child f h.0 x h.1 at h.2 h.3 (within n h.0 (omega arith) h.1 h.3))
+    ]
+
+    pub holds_of : (f : ℕ) → HoldsOf f
+    holds_of f = within (suc f) f (omega arith)
+
 module _ {Pair : Cover → (ℕ → Bool) → Term → Term → Type 0} (puts : ArePut Pair)
     (needs : (s : Cover) (v : ℕ → Bool) (t u : Term) → Pair s v t u → need t ≡ need u) (kept : (o : Outside) (f : ℕ) (ended : Bool)
     → AreEndsKept Pair (StopsThere o f ended))
-    (pairs : (o : Outside) (f : ℕ) (ended : Bool) → PairsCome Pair (StopsThere o f ended)) where
+    {Holds : Counts → Progress → Type 0} (is : IsKeptByRuns Holds) (pairs : (o : Outside) (f : ℕ) (ended : Bool)
+    → PairsCome Pair (StopsThere o f ended) Holds) where
   same_first : (b b' : Origin) → AreFilledOrigins Pair b b' → first_counts b ≡ first_counts b'
   same_first b b' s = let p = s.next_is in let q = s.end_is in cc
 
   -- a run that ends where it cannot step has such a run of the other fiber
-  run_too : (o : Outside) (f : ℕ) (b b' : Origin) → AreFilledOrigins Pair b b' → (ls : List Label) (c : Counts) (p : Progress) → IsRun b ls c p
+  run_too : (o : Outside) (f : ℕ) (b b' : Origin) → Holds (first_counts b) (Runs b.term) → AreFilledOrigins Pair b b'
+      → (ls : List Label) (c : Counts) (p : Progress) → IsRun b ls c p
       → can_step o f c p ≡ false → CanComeLike Pair (StopsThere o f (has_ended p)) (first_counts b') (Runs b'.term) (shown ls)
-  run_too o f b b' s ls c p run unable =
+  run_too o f b b' now s ls c p run unable =
       subst (λ (d : Counts). CanComeLike Pair (StopsThere o f (has_ended p)) d (Runs b'.term) (shown ls)) (same_first b b' s)
-      (filled_come puts needs (kept o f (has_ended p)) (pairs o f (has_ended p)) (first_counts b) (Runs b.term) (Runs b'.term) (runs s.term) ls c p run
+      (filled_come puts needs (kept o f (has_ended p)) is.steps (pairs o f (has_ended p)) (first_counts b) (Runs b.term) (Runs b'.term)
+      (runs s.term) now ls c p run
       (unable, refl))
 
   module _ (s : ScriptView) (other : Term) (may : ℕ → Bool) (r : ReportView) (lawful : IsLawfulReport s may r)
-      (terms : IsFilled Pair uncovered none_bound s.term other) where
+      (terms : IsFilled Pair uncovered none_bound s.term other) (main : Holds (first_counts (main_origin s.term)) (Runs s.term)) where
     -- the script with the other term
     abbrev s' : ScriptView
     s' = record { term = other; capacities = s.capacities }
@@ -80,7 +155,8 @@ module _ {Pair : Cover → (ℕ → Bool) → Term → Term → Type 0} (puts : 
           }
       by_fiber (Some x) e =
           let h = lawful.runs.run f x e in
-          let k = run_too outside f (lawful.runs.origin f) b (begins x e) (lawful.runs.labels f) (lawful.runs.counts f) (lawful.runs.progress f) h.run
+          let k = run_too outside f (lawful.runs.origin f) b (holds_of is s may r lawful main f x e) (begins x e) (lawful.runs.labels f) (lawful.runs.counts f)
+          (lawful.runs.progress f) h.run
           h.unable in
           record {
             origin = b;
@@ -365,15 +441,16 @@ module _ {Pair : Cover → (ℕ → Bool) → Term → Term → Type 0} (puts : 
           };
         }
 
-  module _ (s : ScriptView) (other : Term) (may : ℕ → Bool) (r : ReportView) (terms : IsFilled Pair uncovered none_bound s.term other) where
+  module _ (s : ScriptView) (other : Term) (may : ℕ → Bool) (r : ReportView) (terms : IsFilled Pair uncovered none_bound s.term other)
+      (main : Holds (first_counts (main_origin s.term)) (Runs s.term)) where
     abbrev pub with_other : ScriptView
     with_other = record { term = other; capacities = s.capacities }
 
     pub report_kept : IsLawfulReport s may r → IsLawfulReport with_other may r
-    report_kept lawful = report_here s other may r lawful terms
+    report_kept lawful = report_here s other may r lawful terms main
 
     abbrev order_here : IsLawfulInOneOrder s may r → IsLawfulInOneOrder with_other may r
-    order_here h = record { lawful = report_here s other may r h.lawful terms; causes = causes_here s other may r h.lawful terms h.causes }
+    order_here h = record { lawful = report_here s other may r h.lawful terms main; causes = causes_here s other may r h.lawful terms main h.causes }
 
     pub order_kept : IsLawfulInOneOrder s may r → IsLawfulInOneOrder with_other may r
     order_kept h = order_here h

@@ -4,7 +4,7 @@ use Rattle.fx_term.specs.Term.{Term, put}
 use Rattle.fx_term.specs.Need.{need}
 use Rattle.fx_model.specs.Path.{CleanupTerm}
 use Rattle.fx_model.specs.Row.{Counts, Label}
-use Rattle.fx_model.specs.Step.{Progress, Runs, CleansUp}
+use Rattle.fx_model.specs.Step.{Progress, Runs, CleansUp, Step}
 use Rattle.fx_model.specs.Outside.{Outside, can_step}
 use Rattle.fx_laws.specs.Everywhere.{Place, ShowTheSameAt, ShowTheSameEverywhere}
 use Rattle.fx_script_laws.specs.Cover.{Cover, Sealed, uncovered, IsCoveredBy}
@@ -42,6 +42,12 @@ abbrev pub ComeWhereCovered : (Cover → (ℕ → Bool) → Term → Term → Ty
 ComeWhereCovered Pair Ends =
     (s : Cover) (t u : Term) → Pair s none_bound t u → (place : Place) → IsCoveredBy s place → ComeToTheSameAt Ends place t u
 
+abbrev pub NothingElse : Counts → Progress → Type 0
+NothingElse c p = Unit {0}
+
+pub nothing_else : (c d : Counts) (p q : Progress) (l : Label) → NothingElse c p → Step c p l d q → NothingElse d q
+nothing_else c d p q l h s = tt
+
 module _ {Pair : Cover → (ℕ → Bool) → Term → Term → Type 0} where
   pub either_puts : ArePut Pair → ArePut (EitherWay Pair)
   either_puts puts s v v' x h n t u (as_is p) = as_is (puts s v v' x h n t u p)
@@ -52,17 +58,18 @@ module _ {Pair : Cover → (ℕ → Bool) → Term → Term → Type 0} where
   either_needs needs s v t u (as_is p) = needs s v t u p
   either_needs needs s v t u (turned p) = sym (needs s v u t p)
 
-  pub either_come : {Ends : Counts → Progress → Type 0} → ComeWhereCovered Pair Ends → PairsCome (EitherWay Pair) Ends
-  either_come come s t u (as_is p) place at c ls h = (come s t u p place at c ls).0 h
-  either_come come s t u (turned p) place at c ls h = (come s u t p place at c ls).1 h
+  -- where nothing need hold
+  pub either_come : {Ends : Counts → Progress → Type 0} → ComeWhereCovered Pair Ends → PairsCome (EitherWay Pair) Ends NothingElse
+  either_come come s t u (as_is p) place at c now = (tt, λ ls h. (come s t u p place at c ls).0 h)
+  either_come come s t u (turned p) place at c now = (tt, λ ls h. (come s u t p place at c ls).1 h)
 
   pub whole_comes : {Ends : Counts → Progress → Type 0} → ArePut Pair → ((s : Cover) (v : ℕ → Bool) (t u : Term) → Pair s v t u → need t ≡ need u)
       → ComeWhereCovered Pair Ends → AreEndsKept (EitherWay Pair) Ends → (t u : Term) → IsFilled (EitherWay Pair) uncovered none_bound t u
       → (c : Counts) (ls : List Label) → CanComeTo Ends c (Runs t) ls
       → CanComeLike (EitherWay Pair) Ends c (Runs u) ls
   whole_comes {Ends} puts needs come kept t u filled c ls h =
-      let k = filled_come (either_puts puts) (either_needs needs) kept (either_come come) c (Runs t) (Runs u) (runs filled) h.labels h.counts h.progress h.run
-      h.ends in
+      let k = filled_come (either_puts puts) (either_needs needs) kept nothing_else (either_come come) c (Runs t) (Runs u) (runs filled) tt h.labels h.counts
+      h.progress h.run h.ends in
       subst (λ (ms : List Label). CanComeLike (EitherWay Pair) Ends c (Runs u) ms) h.shown_is k
 
 -- two given terms

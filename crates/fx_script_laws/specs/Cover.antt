@@ -22,7 +22,10 @@ abbrev pub in_poll : Cover → Cover
 in_poll Sealed = Sealed
 in_poll (Masks n) = Masks (n - 1)
 
--- the place is closed; it is sealed
+-- each place; one that is closed; one that is sealed
+abbrev pub is_any : Cover → Bool
+is_any s = true
+
 abbrev pub is_closed : Cover → Bool
 is_closed Sealed = true
 is_closed (Masks n) = nat_lt 0 n

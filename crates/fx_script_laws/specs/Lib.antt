@@ -2,3 +2,4 @@ pub mod Cover
 pub mod Filled
 pub mod Interchange
 pub mod BeginsAtOnce
+pub mod InScripts

@@ -10,6 +10,7 @@
 //! |---|---|
 //! | `Filled` | one term is another one with pairs of terms put for one another in it |
 //! | `Cover` | what closes a place for certain, by the forms that stand round it |
+//! | `InScripts` | two scripts that differ at such places have the same lawful reports |
 //! | `Interchange` | two terms show the same everywhere and wait for the same, whatever numbers stand for their names |
 //!
 //! | laws of | what they say |
@@ -18,6 +19,7 @@
 //! | [`scripts`] | two scripts that differ at such places have the same lawful reports |
 //! | [`laws`] | which terms can be put for one another |
 //! | [`closed`] | which can where they stand at closed places |
+//! | [`regions`] | which of them, where the one enters a mask more |
 //! | [`masks`] | which masks, as a whole script, have the same reports |
 //! | [`refused`] | which cannot |
 #![tactic(auto)]
@@ -27,4 +29,5 @@ pub mod contexts;
 pub mod laws;
 pub mod masks;
 pub mod refused;
+pub mod regions;
 pub mod scripts;

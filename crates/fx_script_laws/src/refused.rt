@@ -1,9 +1,10 @@
 //! Terms that cannot be put for one another, so that the laws say something.
-ghost use Rattle.std.specs.Prelude.{ℕ, Bool, None};
+ghost use Rattle.std.specs.Prelude.{◌≡◌, ℕ, Bool, true, None};
 ghost use Rattle.fx_term.specs.declared.node.Arg.TheVariants.{Number, Slot};
 ghost use Rattle.fx_term.specs.Term.{Pure, Canceled, Never, Cede, Let, Mask, Poll, OnCancel, Offer};
 ghost use Rattle.fx_model.specs.MaskLaws.{forced_after};
-ghost use Rattle.fx_script_laws.specs.Interchange.{AreInterchangeable};
+ghost use Rattle.fx_script_laws.specs.Cover.{Cover, Sealed, is_closed};
+ghost use Rattle.fx_script_laws.specs.Interchange.{AreInterchangeable, AreInterchangeableWhere};
 
 /// Not `(never)` for `(canceled)`.
 pub fn never_is_not_put_for_canceled()
@@ -40,4 +41,21 @@ pub fn what_is_told_at_some_places_is_not_put()
     ensures boundary { (own : ℕ → Bool)
         → AreInterchangeable own (Mask 0 (OnCancel (Pure (Number 1)) (Offer 0 (Number 1))))
         (OnCancel (Mask 0 (Pure (Number 1))) (Offer 0 (Number 1))) → ⊥ }
+{}
+
+/// Nor at closed places: not `(oncancel A F)` for `A` where a mask alone closes them, which `A` may poll, nor
+/// `(mask q A)`, whose inside `A` does not poll. `A` is `(poll p (canceled))`.
+pub fn what_a_poll_tells_is_not_put_where_closed()
+    ensures finalizer { (own : ℕ → Bool)
+        → AreInterchangeableWhere is_closed own (OnCancel (Poll (Number 0) Canceled) (Offer 0 (Number 1))) (Poll (Number 0) Canceled) → ⊥ }
+    ensures mask { (own : ℕ → Bool)
+        → AreInterchangeableWhere is_closed own (Mask 1 (Poll (Number 0) Canceled)) (Poll (Number 0) Canceled) → ⊥ }
+{}
+
+/// Nor at sealed ones `(seq (canceled) A)` for `(canceled)`, or `(never)`: there a fiber that cancels itself goes on.
+pub fn canceled_goes_on_where_sealed()
+    ensures bound { (there : Cover → Bool) (own : ℕ → Bool) → there Sealed ≡ true
+        → AreInterchangeableWhere there own (Let None Canceled (Offer 0 (Number 1))) Canceled → ⊥ }
+    ensures never { (there : Cover → Bool) (own : ℕ → Bool) → there Sealed ≡ true
+        → AreInterchangeableWhere there own Never Canceled → ⊥ }
 {}
