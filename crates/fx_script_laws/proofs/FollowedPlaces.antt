@@ -130,10 +130,10 @@ module _ {Spot : Term → Term → Type 0} (waits : (t u : Term) → Spot t u �
         same_end = λ c t u s e. told.cleaning c k xs (placed fs t) (placed fs u) (waits_placed s) e;
       }
 
-sight_of_whole : (t u : Term) → IsSameWhole t u → IsSameSight t u
+pub sight_of_whole : (t u : Term) → IsSameWhole t u → IsSameSight t u
 sight_of_whole t u s = record { must = s.must; open_is = s.open_is; clean = λ h. s.clean }
 
-waits_at : (t u : Term) → IsSameSpot t u → (o : Outside) → leaf_can_step o (leaf t) ≡ leaf_can_step o (leaf u)
+pub waits_at : (t u : Term) → IsSameSpot t u → (o : Outside) → leaf_can_step o (leaf t) ≡ leaf_can_step o (leaf u)
 waits_at t u s = s.waits
 
 waits_in : (cs : List Closing) (t u : Term) → IsSameSpotIn cs t u → (o : Outside) → leaf_can_step o (leaf t) ≡ leaf_can_step o (leaf u)

@@ -33,3 +33,7 @@ pub mod AlikeInScripts
 pub mod RegionLaws
 pub mod FinalizersInScripts
 pub mod ClosedApart
+pub mod ShutInside
+pub mod MasksEntered
+pub mod NestedMasks
+pub mod InverseMasks

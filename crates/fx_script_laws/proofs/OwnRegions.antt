@@ -53,11 +53,11 @@ module _ (n : ℕ) where
   -- those below a number are below a greater one, and go with each other by any shift of what is not below it
   wider : (k : ℕ) → n ≤ k → (r r' : ℕ) → AreRegionsOf (regions_below n) r r' → AreRegionsOf (regions_below k) r r'
   wider k h r r' (kept l) = kept (omega (arith, h, l))
-  wider k h r r' (moved others a b e) = absurd cc
+  wider k h r r' (moved others a b l l' e) = absurd cc
 
-  shifted : (m : Shift) → m.base ≡ n → (r r' : ℕ) → AreRegionsOf (regions_below n) r r' → AreRegionsOf m r r'
+  pub shifted : (m : Shift) → m.base ≡ n → (r r' : ℕ) → AreRegionsOf (regions_below n) r r' → AreRegionsOf m r r'
   shifted m e r r' (kept l) = kept (omega (arith, e, l))
-  shifted m e r r' (moved others a b f) = absurd cc
+  shifted m e r r' (moved others a b l l' f) = absurd cc
 
 keeps_own : (c d : Counts) (p q : Progress) (l : Label) → HasOwnRegions c p → Step c p l d q → HasOwnRegions d q
 keeps_own c d p q l h s =
@@ -94,24 +94,28 @@ pub own_kept : IsKeptByRuns HasOwnRegions
 own_kept = record { steps = keeps_own; starts = starts_own }
 
 -- the next regions that two fibers enter go with each other
-record AreNext (m : Shift) (n o : ℕ) : Type 0 where
+pub record AreNext (m : Shift) (n o : ℕ) : Type 0 where
   pub others : m.others ≡ true
   pub above : m.base ≤ n
   pub above' : m.base ≤ o
+  pub from : m.low ≤ n
+  pub from' : m.low' ≤ o
   pub shift : n + m.low' ≡ o + m.low
 
 module _ {Ends : Counts → Progress → Type 0} (ends : AreEndsOfStops Ends) where
   module _ (m : Shift) where
-    next_too : {o : ℕ} {c d : Counts} {p q : Progress} {l : Label} → AreNext m c.masks o → (s : IsStepToo m o c p l d q) → AreNext m d.masks s.masks
+    pub next_too : {o : ℕ} {c d : Counts} {p q : Progress} {l : Label} → AreNext m c.masks o → (s : IsStepToo m o c p l d q) → AreNext m d.masks s.masks
     next_too n s =
         let a = n.above in
         let b = n.above' in
+        let x = n.from in
+        let y = n.from' in
         let e = n.shift in
         let f = s.more in
         let g = s.entered in
-        record { others = n.others; above = omega arith; above' = omega arith; shift = omega arith }
+        record { others = n.others; above = omega arith; above' = omega arith; from = omega arith; from' = omega arith; shift = omega arith }
 
-    comes_with : (o : ℕ) (ls : List Label) (c d : Counts) (p p' q : Progress) → AreNext m c.masks o → IsProgressToo m p p' → Leads c p ls d q → Ends d q
+    pub comes_with : (o : ℕ) (ls : List Label) (c d : Counts) (p p' q : Progress) → AreNext m c.masks o → IsProgressToo m p p' → Leads c p ls d q → Ends d q
         → CanComeTo Ends (with_masks o c) p' (shown ls)
     comes_with o [] c d p p' q next same h e =
         record {
@@ -123,7 +127,7 @@ module _ {Ends : Counts → Progress → Type 0} (ends : AreEndsOfStops Ends) wh
           ends = ends.kept c (with_masks o c) p p' (λ x f. can_too m x f o c same) (ended_too m same) (rw (h.0, h.1) at e);
         }
     comes_with o (l ∷ ls) c d p p' q next same h e =
-        let s = step_too m o h.2 same (λ f. moved next.others next.above next.above' next.shift) in
+        let s = step_too m o h.2 same (λ f. moved next.others next.above next.above' next.from next.from' next.shift) in
         step_more ls s.step (comes_with s.masks ls h.0 d h.1 s.progress q (next_too next s) s.same h.3 e)
 
   -- with one more region entered before, such a fiber comes to the same
@@ -134,11 +138,11 @@ module _ {Ends : Counts → Progress → Type 0} (ends : AreEndsOfStops Ends) wh
       let more : Shift = record { base = n; others = true; low = n; low' = n + 1 } in (
         λ k. rw (sym k.shown_is)
             (comes_with less n k.labels (one_more_mask c) k.counts p p k.progress
-            (record { others = refl; above = omega arith; above' = omega arith; shift = omega arith })
+            (record { others = refl; above = omega arith; above' = omega arith; from = omega arith; from' = omega arith; shift = omega arith })
             (progress_by (regions_below n) less (shifted n less refl) h) k.run k.ends),
         λ k. rw (sym k.shown_is)
             (comes_with more (n + 1) k.labels c k.counts p p k.progress
-            (record { others = refl; above = omega arith; above' = omega arith; shift = omega arith })
+            (record { others = refl; above = omega arith; above' = omega arith; from = omega arith; from' = omega arith; shift = omega arith })
             (progress_by (regions_below n) more (shifted n more refl) h) k.run k.ends),
       )
 
@@ -169,7 +173,7 @@ module _ {m : Shift} where
       → IsRenumbered m x y × AreCleanupsToo m xs ys
   clean_inside (cleans h q) = (h, q)
 
-  there_inside : (place : Place) (t : Term) → IsProgressToo m (come_to place t) (come_to place t)
+  pub there_inside : (place : Place) (t : Term) → IsProgressToo m (come_to place t) (come_to place t)
       → IsRenumbered m t t × ((b : Term) → IsRenumbered m b b → IsProgressToo m (come_to place b) (come_to place b))
   there_inside (InTerm fs) t h = let i = placed_inside fs t t (run_inside h) in (i.0, λ b k. runs (i.1 b k))
   there_inside (InCleanup k rest fs) t h =

@@ -44,7 +44,7 @@ module _ (x : ℕ) where
   arg_as_poll place (Number n) h = tt
   arg_as_poll place (Slot y) h = λ e. absurd (h e)
 
-  used_as_poll : (t : Term) → IsUsedAs kind.OtherPoll x t → IsUsedAs kind.Poll x t
+  pub used_as_poll : (t : Term) → IsUsedAs kind.OtherPoll x t → IsUsedAs kind.Poll x t
   used_as_poll (Pure a) h = arg_as_poll kind.Value a h
   used_as_poll (Raise a) h = arg_as_poll kind.Value a h
   used_as_poll (Let y a b) h = (used_as_poll a h.0, used_as_poll b h.1)

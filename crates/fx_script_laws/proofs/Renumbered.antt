@@ -13,7 +13,8 @@ use Rattle.fx_model.specs.MaskLaws.{IsPlain}
 use Rattle.fx_term.proofs.NameUses.{Fits, IsArgUsedAs, IsUsedAs, IsBinderUsedAs, scoped_name_used, scoped_outer_used, scoped_binder_used, put_used}
 use Rattle.fx_term.proofs.NameUses.{put_binder_used, put_unused}
 
--- which numbers of regions go with each other in two fibers: those below a number are the same, and where others do, too, the shift between them is fixed
+-- which numbers of regions go with each other in two fibers: those below a number are the same, and where others do, too, the
+-- shift between them is fixed, and they are such or higher
 pub record Shift : Type 0 where
   pub base : ℕ
   pub others : Bool
@@ -22,7 +23,7 @@ pub record Shift : Type 0 where
 
 pub data AreRegionsOf (m : Shift) : ℕ → ℕ → Type 0 where
   kept : {r : ℕ} → r < m.base → AreRegionsOf m r r
-  moved : {r r' : ℕ} → m.others ≡ true → m.base ≤ r → m.base ≤ r' → r + m.low' ≡ r' + m.low → AreRegionsOf m r r'
+  moved : {r r' : ℕ} → m.others ≡ true → m.base ≤ r → m.base ≤ r' → m.low ≤ r → m.low' ≤ r' → r + m.low' ≡ r' + m.low → AreRegionsOf m r r'
 
 -- the regions below a number alone, and none
 abbrev pub regions_below : ℕ → Shift
@@ -271,7 +272,7 @@ module _ (m o : Shift) (by : (r r' : ℕ) → AreRegionsOf m r r' → AreRegions
 module _ (n : ℕ) where
   same_region : {r r' : ℕ} → AreRegionsOf (regions_below n) r r' → r ≡ r'
   same_region (kept h) = refl
-  same_region (moved others h h' e) = absurd cc
+  same_region (moved others a b l l' e) = absurd cc
 
   same_number : {k : NameKind} {i j : ℕ} → AreNumbersOf (regions_below n) k i j → i ≡ j
   same_number value = refl

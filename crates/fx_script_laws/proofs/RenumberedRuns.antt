@@ -18,9 +18,9 @@ use Rattle.fx_script_laws.proofs.RenumberedRows.{IsRowToo, row_renumbered}
 module _ (m : Shift) where
   same_test : {q q' r r' : ℕ} → AreRegionsOf m q q' → AreRegionsOf m r r' → (q == r) ≡ (q' == r')
   same_test (kept h) (kept k) = refl
-  same_test {q} {q'} {r} {r'} (kept h) (moved others a b e) = rw (ne_eqb q r (omega (arith, h, a)), ne_eqb q r' (omega (arith, h, b))) refl
-  same_test {q} {q'} {r} {r'} (moved others a b e) (kept k) = rw (ne_eqb q r (omega (arith, k, a)), ne_eqb q' r (omega (arith, k, b))) refl
-  same_test {q} {q'} {r} {r'} (moved others a b e) (moved others' c d f) = grind (arith, nat_tests)
+  same_test {q} {q'} {r} {r'} (kept h) (moved others a b l l' e) = rw (ne_eqb q r (omega (arith, h, a)), ne_eqb q r' (omega (arith, h, b))) refl
+  same_test {q} {q'} {r} {r'} (moved others a b l l' e) (kept k) = rw (ne_eqb q r (omega (arith, k, a)), ne_eqb q' r (omega (arith, k, b))) refl
+  same_test {q} {q'} {r} {r'} (moved others a b l l' e) (moved others' c d k k' f) = grind (arith, nat_tests)
 
   leaf_renumbered : {t t' : Term} → IsRenumbered m t t' → is_canceled_form (leaf t) ≡ is_canceled_form (leaf t')
   leaf_renumbered (renumbered.let_ p u q) = leaf_renumbered p
@@ -35,7 +35,7 @@ module _ (m : Shift) where
   leaf_renumbered (renumbered.releasing p) = leaf_renumbered p
   leaf_renumbered _ = refl
 
-  waits_renumbered : (o : Outside) {t t' : Term} → IsRenumbered m t t' → leaf_can_step o (leaf t) ≡ leaf_can_step o (leaf t')
+  pub waits_renumbered : (o : Outside) {t t' : Term} → IsRenumbered m t t' → leaf_can_step o (leaf t) ≡ leaf_can_step o (leaf t')
   waits_renumbered o (renumbered.let_ p u q) = waits_renumbered o p
   waits_renumbered o (renumbered.handle p u q) = waits_renumbered o p
   waits_renumbered o (renumbered.oncancel p q) = waits_renumbered o p
@@ -79,45 +79,58 @@ module _ (m : Shift) where
   cleanups_renumbered (renumbered.releasing p) = cleanups_renumbered p
   cleanups_renumbered _ = none
 
-  -- what closes the two places
-  data AreClosedToo : List Closing → List Closing → Type 0 where
-    outside : AreClosedToo [] []
-    region : {r r' : ℕ} {cs cs' : List Closing} → AreRegionsOf m r r' → AreClosedToo cs cs' → AreClosedToo (Region r ∷ cs) (Region r' ∷ cs')
-    seal : {cs cs' : List Closing} → AreClosedToo cs cs' → AreClosedToo (Seal ∷ cs) (Seal ∷ cs')
+  -- what closes the two places, inside of what none of these regions takes away
+  module _ (outer outer' : List Closing)
+      (stay : (r r' : ℕ) → AreRegionsOf m r r' → (without_region r outer ≡ outer) × (without_region r' outer' ≡ outer')) where
+    data AreClosedToo : List Closing → List Closing → Type 0 where
+      outside : AreClosedToo outer outer'
+      region : {r r' : ℕ} {cs cs' : List Closing} → AreRegionsOf m r r' → AreClosedToo cs cs' → AreClosedToo (Region r ∷ cs) (Region r' ∷ cs')
+      seal : {cs cs' : List Closing} → AreClosedToo cs cs' → AreClosedToo (Seal ∷ cs) (Seal ∷ cs')
 
-  taken_off : {r r' : ℕ} {cs cs' : List Closing} → AreRegionsOf m r r' → AreClosedToo cs cs' → AreClosedToo (without_region r cs) (without_region r' cs')
-  taken_off e outside = outside
-  taken_off {r} {r'} e (region {r = q} {r' = q'} {cs = cs} {cs' = cs'} s p) = by_test (q == r) (q' == r') (same_test s e)
-    where
-      by_test : (b b' : Bool) → b ≡ b' → AreClosedToo (if b then cs else Region q ∷ cs) (if b' then cs' else Region q' ∷ cs')
-      by_test true true same = p
-      by_test false false same = region s p
-      by_test true false same = absurd cc
-      by_test false true same = absurd cc
-  taken_off e (seal p) = seal p
+    taken_off : {r r' : ℕ} {cs cs' : List Closing} → AreRegionsOf m r r' → AreClosedToo cs cs' → AreClosedToo (without_region r cs) (without_region r' cs')
+    taken_off {r} {r'} e outside = rw ((stay r r' e).0, (stay r r' e).1) outside
+    taken_off {r} {r'} e (region {r = q} {r' = q'} {cs = cs} {cs' = cs'} s p) = by_test (q == r) (q' == r') (same_test s e)
+      where
+        by_test : (b b' : Bool) → b ≡ b' → AreClosedToo (if b then cs else Region q ∷ cs) (if b' then cs' else Region q' ∷ cs')
+        by_test true true same = p
+        by_test false false same = region s p
+        by_test true false same = absurd cc
+        by_test false true same = absurd cc
+    taken_off e (seal p) = seal p
 
-  closed_renumbered : {t t' : Term} {cs cs' : List Closing} → IsRenumbered m t t' → AreClosedToo cs cs'
-      → AreClosedToo (closed_regions cs t) (closed_regions cs' t')
-  closed_renumbered (renumbered.let_ p u q) h = closed_renumbered p h
-  closed_renumbered (renumbered.handle p u q) h = closed_renumbered p h
-  closed_renumbered (renumbered.oncancel p q) h = closed_renumbered p h
-  closed_renumbered (renumbered.bracket p i q j r) h = closed_renumbered p (seal h)
-  closed_renumbered (renumbered.bracket_case p i q j k r l n s o t) h = closed_renumbered p (seal h)
-  closed_renumbered (renumbered.masked s p) h = closed_renumbered p (region s h)
-  closed_renumbered (renumbered.opened s p) h = closed_renumbered p (taken_off s h)
-  closed_renumbered (renumbered.using_ p q) h = closed_renumbered p h
-  closed_renumbered (renumbered.using_case p i q j r s) h = closed_renumbered p h
-  closed_renumbered (renumbered.releasing p) h = closed_renumbered p (seal h)
-  closed_renumbered renumbered.await h = seal h
-  closed_renumbered _ h = h
+    closed_renumbered : {t t' : Term} {cs cs' : List Closing} → IsRenumbered m t t' → AreClosedToo cs cs'
+        → AreClosedToo (closed_regions cs t) (closed_regions cs' t')
+    closed_renumbered (renumbered.let_ p u q) h = closed_renumbered p h
+    closed_renumbered (renumbered.handle p u q) h = closed_renumbered p h
+    closed_renumbered (renumbered.oncancel p q) h = closed_renumbered p h
+    closed_renumbered (renumbered.bracket p i q j r) h = closed_renumbered p (seal h)
+    closed_renumbered (renumbered.bracket_case p i q j k r l n s o t) h = closed_renumbered p (seal h)
+    closed_renumbered (renumbered.masked s p) h = closed_renumbered p (region s h)
+    closed_renumbered (renumbered.opened s p) h = closed_renumbered p (taken_off s h)
+    closed_renumbered (renumbered.using_ p q) h = closed_renumbered p h
+    closed_renumbered (renumbered.using_case p i q j r s) h = closed_renumbered p h
+    closed_renumbered (renumbered.releasing p) h = closed_renumbered p (seal h)
+    closed_renumbered renumbered.await h = seal h
+    closed_renumbered _ h = h
 
-  none_closed : {cs cs' : List Closing} → AreClosedToo cs cs' → is_none_closed cs ≡ is_none_closed cs'
-  none_closed outside = refl
-  none_closed (region s p) = refl
-  none_closed (seal p) = refl
+    none_closed : {cs cs' : List Closing} → is_none_closed outer ≡ is_none_closed outer' → AreClosedToo cs cs' → is_none_closed cs ≡ is_none_closed cs'
+    none_closed same outside = same
+    none_closed same (region s p) = refl
+    none_closed same (seal p) = refl
+
+    some_closed : {cs cs' : List Closing} → is_none_closed outer ≡ false → is_none_closed outer' ≡ false → AreClosedToo cs cs'
+        → (is_none_closed cs ≡ false) × (is_none_closed cs' ≡ false)
+    some_closed closed closed' outside = (closed, closed')
+    some_closed closed closed' (region s p) = (refl, refl)
+    some_closed closed closed' (seal p) = (refl, refl)
+
+    -- what is closed outside is so inside
+    pub stays_closed : {t t' : Term} → is_none_closed outer ≡ false → is_none_closed outer' ≡ false → IsRenumbered m t t'
+        → (is_none_closed (closed_regions outer t) ≡ false) × (is_none_closed (closed_regions outer' t') ≡ false)
+    stays_closed closed closed' p = some_closed closed closed' (closed_renumbered p outside)
 
   open_renumbered : {t t' : Term} → IsRenumbered m t t' → is_open t ≡ is_open t'
-  open_renumbered p = none_closed (closed_renumbered p outside)
+  open_renumbered p = none_closed [] [] (λ r r' s. (refl, refl)) refl (closed_renumbered [] [] (λ r r' s. (refl, refl)) p outside)
 
   must_renumbered : (known : Bool) {t t' : Term} → IsRenumbered m t t' → must_cancel known t ≡ must_cancel known t'
   must_renumbered known p = let e = open_renumbered p in let f = leaf_renumbered p in cc

@@ -1,14 +1,13 @@
 //! Laws of terms of which the one enters a mask more than the other, so that the two number the masks that come
 //! after them otherwise. In a script no term tells the number of a mask, so that two scripts which differ at such
-//! places have the same lawful reports ([`AreAlikeInScripts`]).
-//!
-//! [`AreAlikeInScripts`]: crate::scripts
-ghost use Rattle.std.specs.Prelude.{◌≡◌, ℕ, Bool, List, Option, None};
+//! places have the same lawful reports (`AreAlikeInScripts`).
+ghost use Rattle.std.specs.Prelude.{◌≡◌, ◌≢◌, ℕ, Bool, List, Option, None};
 ghost use Rattle.fx_term.specs.declared.node.Arg.TheVariants.{Slot};
 ghost use Rattle.fx_term.specs.declared.name_kind.NameKind.{NameKind};
 ghost use Rattle.fx_term.specs.declared.name_kind.NameKind.TheVariants as kind;
 ghost use Rattle.fx_term.specs.Term.{Term, Canceled, Let, Mask, Poll, OnCancel};
 ghost use Rattle.fx_term.specs.Scope.{with_name, IsScoped};
+ghost use Rattle.fx_model.specs.MaskLaws.{IsScopedWithout};
 ghost use Rattle.fx_model.specs.Report.{ReportView};
 ghost use Rattle.fx_script_laws.specs.Cover.{is_any, is_closed, is_sealed};
 ghost use Rattle.fx_script_laws.specs.Filled.{none_bound, and_bound};
@@ -26,6 +25,20 @@ pub fn uncancelable_poll_is_identity_where_closed()
 pub fn mask_is_nothing_where_sealed()
     ensures { (scope : ℕ → Option NameKind) (p : ℕ) (a : Term) → IsScoped (with_name p kind.OtherPoll scope) a
         → AreAlikeInScripts is_sealed none_bound (Mask p a) a }
+{}
+
+/// `uncancelableIgnoredPollEliminatesNesting`: `(mask p (mask q A))` for `(mask p A)`, at each place, where `A` uses
+/// neither poll.
+pub fn uncancelable_ignored_poll_eliminates_nesting_in_scripts()
+    ensures { (scope : ℕ → Option NameKind) (p q : ℕ) (a : Term) → p ≢ q → IsScopedWithout scope p q a
+        → AreAlikeInScripts is_any none_bound (Mask p (Mask q a)) (Mask p a) }
+{}
+
+/// `uncancelablePollInverseNestIsUncancelable`: `(mask p (mask q (poll p (poll q A))))` for `(mask p A)`, likewise.
+/// Both names are the first term's own.
+pub fn uncancelable_poll_inverse_nest_is_uncancelable_in_scripts()
+    ensures { (scope : ℕ → Option NameKind) (p q : ℕ) (a : Term) → p ≢ q → IsScopedWithout scope p q a
+        → AreAlikeInScripts is_any (and_bound p (and_bound q none_bound)) (Mask p (Mask q (Poll (Slot p) (Poll (Slot q) a)))) (Mask p a) }
 {}
 
 /// `onCancelImpliesUncancelable`: `(oncancel A (mask p F))` for `(oncancel A F)`, at each place, where `F` does not
