@@ -8,7 +8,7 @@ use Rattle.fx_run.specs.declared.run_fault.RunFault.{RunFault}
 use Rattle.fx_command.specs.declared.command_fault.Refusal.{Refusal}
 use Rattle.fx_command.specs.declared.command_fault.CommandFault.{CommandFault}
 use Rattle.fx_command.specs.declared.command_fault.CommandFault.TheVariants.{Refused, Unreadable, Memory, Write, Run}
-use Rattle.fx_command.specs.Fetched.{FetchesScript, FetchesSchedule, FetchesAll, FetchesNoScript, FetchesNoSchedule, FetchesNone}
+use Rattle.fx_command.specs.Fetched.{ReadsScript, FetchesScript, FetchesSchedule, FetchesAll, FetchesNoScript, FetchesNoSchedule, FetchesNone}
 use Rattle.fx_command.specs.declared.perform.Performed.{Performed}
 use Rattle.fx_command.specs.Performed.{IsPerformed, Performs}
 use Rattle.fx_command.specs.Stream.{StreamView, PrintsAnswer}
@@ -78,49 +78,55 @@ leaves_no_expected holds call m Memory old has without = refl
 leaves_no_expected holds call m Write old has without = absurd without
 leaves_no_expected holds call m (Run fault) old has without = absurd without
 
+-- a script that was read was fetched
+pub fetches : (known : Option (List ℕ)) (source : List ℕ) (m : Meaning) → ReadsScript known source m → FetchesScript known m
+fetches known source m has = record { text = source; is = has.is; holds = has.says }
+
 -- what is answered where all that is named was read
-all_read : (holds : List ℕ → Option (List ℕ)) (call : CallView) (m : Meaning) (ps : List Pick) (expected words : List ℕ) (status : ℕ) (text : List ℕ)
-    → FetchesScript (holds call.script) m → FetchesSchedule (known_text holds call.schedule) ps → FetchesAll (known_text holds call.expected) expected
-    → IsPerformed m ps expected call.command words status text → AnswersToCall holds call words status text
-all_read holds call m ps expected words status text has picks all done = record {
-  script = has.text;
+all_read : (holds : List ℕ → Option (List ℕ)) (call : CallView) (source : List ℕ) (m : Meaning) (ps : List Pick) (expected words : List ℕ) (status : ℕ)
+    (text : List ℕ)
+    → ReadsScript (holds call.script) source m → FetchesSchedule (known_text holds call.schedule) ps → FetchesAll (known_text holds call.expected) expected
+    → IsPerformed source m ps expected call.command words status text → AnswersToCall holds call words status text
+all_read holds call source m ps expected words status text has picks all done = record {
+  script = source;
   schedule = picks.text;
   expected = all.text;
   is_script = has.is;
   is_schedule = picks.is;
   is_expected = all.is;
-  answer = performed has.holds picks.holds (subst (λ (e : List ℕ). IsPerformed m ps e call.command words status text) (sym all.holds) done);
+  answer = performed has.says picks.holds (subst (λ (e : List ℕ). IsPerformed source m ps e call.command words status text) (sym all.holds) done);
 }
 
-pub leaves_unwritten : (holds : List ℕ → Option (List ℕ)) (call : CallView) (m : Meaning) (ps : List Pick) (expected : List ℕ)
-    (r : Result Performed CommandFault) (old new : StreamView) → FetchesScript (holds call.script) m → FetchesSchedule (known_text holds call.schedule) ps
-    → FetchesAll (known_text holds call.expected) expected → Performs call.command m ps expected r old new
+pub leaves_unwritten : (holds : List ℕ → Option (List ℕ)) (call : CallView) (source : List ℕ) (m : Meaning) (ps : List Pick) (expected : List ℕ)
+    (r : Result Performed CommandFault) (old new : StreamView) → ReadsScript (holds call.script) source m → FetchesSchedule (known_text holds call.schedule) ps
+    → FetchesAll (known_text holds call.expected) expected → Performs call.command source m ps expected r old new
     → IfErr r (λ fault. Leaves holds call fault old new)
-leaves_unwritten holds call m ps expected (Ok done) old new has picks all whole = tt
-leaves_unwritten holds call m ps expected (Err Write) old new has picks all (words, part) = (
+leaves_unwritten holds call source m ps expected (Ok done) old new has picks all whole = tt
+leaves_unwritten holds call source m ps expected (Err Write) old new has picks all (words, part) = (
   words,
   record {
     status = part.status;
     text = part.text;
-    answer = all_read holds call m ps expected words part.status part.text has picks all part.answer;
+    answer = all_read holds call source m ps expected words part.status part.text has picks all part.answer;
     taken = part.taken;
   },
 )
-leaves_unwritten holds call m ps expected (Err Memory) old new has picks all (can, kept) = kept
-leaves_unwritten holds call m ps expected (Err (Run fault)) old new has picks all (fails, kept) = (((m, has), fails), kept)
-leaves_unwritten holds call m ps expected (Err (Refused r)) old new has picks all none = absurd none
-leaves_unwritten holds call m ps expected (Err (Unreadable name)) old new has picks all none = absurd none
+leaves_unwritten holds call source m ps expected (Err Memory) old new has picks all (can, kept) = kept
+leaves_unwritten holds call source m ps expected (Err (Run fault)) old new has picks all (fails, kept) =
+    (((m, fetches (holds call.script) source m has), fails), kept)
+leaves_unwritten holds call source m ps expected (Err (Refused r)) old new has picks all none = absurd none
+leaves_unwritten holds call source m ps expected (Err (Unreadable name)) old new has picks all none = absurd none
 
-pub writes_answer : (holds : List ℕ → Option (List ℕ)) (call : CallView) (m : Meaning) (ps : List Pick) (expected : List ℕ)
-    (r : Result Performed CommandFault) (old new : StreamView) → FetchesScript (holds call.script) m → FetchesSchedule (known_text holds call.schedule) ps
-    → FetchesAll (known_text holds call.expected) expected → Performs call.command m ps expected r old new
+pub writes_answer : (holds : List ℕ → Option (List ℕ)) (call : CallView) (source : List ℕ) (m : Meaning) (ps : List Pick) (expected : List ℕ)
+    (r : Result Performed CommandFault) (old new : StreamView) → ReadsScript (holds call.script) source m → FetchesSchedule (known_text holds call.schedule) ps
+    → FetchesAll (known_text holds call.expected) expected → Performs call.command source m ps expected r old new
     → IfOk r (λ done. PrintsAnswer (AnswersToCall holds call (string_bytes done.words)) done.status old new)
-writes_answer holds call m ps expected (Ok done) old new has picks all whole = record {
+writes_answer holds call source m ps expected (Ok done) old new has picks all whole = record {
   text = whole.text;
-  answer = all_read holds call m ps expected (string_bytes done.words) done.status whole.text has picks all whole.answer;
+  answer = all_read holds call source m ps expected (string_bytes done.words) done.status whole.text has picks all whole.answer;
   taken = whole.taken;
 }
-writes_answer holds call m ps expected (Err fault) old new has picks all none = tt
+writes_answer holds call source m ps expected (Err fault) old new has picks all none = tt
 
 -- the line of a refusal was told
 pub refusal_runs : (words : List (List ℕ)) (holds : List ℕ → Option (List ℕ)) (call : CallView) (r : Refusal) (old mid new said says : StreamView)

@@ -22,14 +22,15 @@ use Rattle.fx_command.proofs.FoundAnswers.{one_meaning}
 abbrev pub SaysEach : Meaning → Option ℕ → List ℕ → Type 0
 SaysEach m target expected = (r : ReportView) → IsReportWithin (setting (script_of m) target) r → Among (report_text (queue_names m) r) (reports_of expected)
 
-performed_so : (m : Meaning) (ps : List Pick) (expected : List ℕ) (search : Search) (words : List ℕ) (status : ℕ) (text : List ℕ)
-    → IsPerformed m ps expected (Expect search) words status text → status ≡ ENDED → SaysEach m search.target expected
-performed_so m ps expected search _ _ _ (compared {e = e} explored) is =
+performed_so : (source : List ℕ) (m : Meaning) (ps : List Pick) (expected : List ℕ) (search : Search) (words : List ℕ) (status : ℕ) (text : List ℕ)
+    → IsPerformed source m ps expected (Expect search) words status text → status ≡ ENDED → SaysEach m search.target expected
+performed_so source m ps expected search _ _ _ (compared {e = e} explored) is =
     each_is_expected (setting (script_of m) search.target) search.most e (queue_names m) expected explored is
 
 pub answered_so : (m : Meaning) (search : Search) (script schedule expected words : List ℕ) (status : ℕ) (text : List ℕ) → IsScript script m
     → IsCommandAnswer (Expect search) script schedule expected words status text → status ≡ ENDED → SaysEach m search.target expected
 answered_so m search script schedule expected words status text is (performed {m = n} {ps = ps} has picks done) ended =
-    subst (λ (k : Meaning). SaysEach k search.target expected) (one_meaning script n m has is) (performed_so n ps expected search words status text done ended)
+    subst (λ (k : Meaning). SaysEach k search.target expected) (one_meaning script n m has is)
+    (performed_so script n ps expected search words status text done ended)
 answered_so m search script schedule expected words _ text is (no_script none) ended = absurd (none.none m is)
 answered_so m search script schedule expected words _ text is (no_schedule has none) ended = absurd cc

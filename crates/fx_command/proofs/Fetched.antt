@@ -17,7 +17,7 @@ use Rattle.fx_command.specs.declared.command_fault.CommandFault.{CommandFault}
 use Rattle.fx_command.specs.declared.command_fault.CommandFault.TheVariants.{Refused, Unreadable, Memory, Write, Run}
 use Rattle.fx_command.specs.CommandFault.{IsRefusal, IsUnreadOrRefusal}
 use Rattle.fx_command.specs.Refused.{IsNoScript, IsNoSchedule}
-use Rattle.fx_command.specs.Fetched.{IsPrefixOf, OfText, FetchesAll, KeepsFiles}
+use Rattle.fx_command.specs.Fetched.{IsPrefixOf, OfText, ReadsScript, FetchesAll, KeepsFiles}
 use Rattle.fx_command.specs.CommandAnswer.{known_text}
 
 -- the text was read whole, or it is too long and so is what was read of it
@@ -92,6 +92,11 @@ if_not_fetched IsName Refuses most known read (Err (Unreadable n)) of p h = absu
 if_not_fetched IsName Refuses most known read (Err Write) of p h = absurd h
 if_not_fetched IsName Refuses most known read (Err (Run fault)) of p h = absurd h
 
+pub not_fetched : (IsName : List ℕ → Type 0) (Refuses : List ℕ → List ℕ → Type 0) (most : ℕ) (known : Option (List ℕ)) (read : List ℕ) (f : CommandFault)
+    → ((line : List ℕ) → HoldsOfPrefix (Refuses line) most) → IsPrefixOf most known read → IsRefusal (λ line. Refuses line read) f
+    → IsUnreadOrRefusal IsName (λ line. OfText known (Refuses line)) f
+not_fetched IsName Refuses most known read f of p h = if_not_fetched {X = Unit {0}} IsName Refuses most known read (Err f) of p h
+
 pub empty_schedule : IsSchedule [] []
 empty_schedule = record { short = omega arith; few = omega arith; spells = nothing }
 
@@ -108,3 +113,15 @@ pub text_kept : (held holds : List ℕ → Option (List ℕ)) (name : Option (Bo
     → IfSome name (λ n. n.now ≢ codes "-") → known_text holds (option_map (λ n. n.now) name) ≡ known_text held (option_map (λ n. n.now) name)
 text_kept held holds None kept other = refl
 text_kept held holds (Some name) kept other = kept name.now other
+
+-- a script that was read was read whole
+pub read_script : (known : Option (List ℕ)) (read : List ℕ) (m : Meaning) → IsPrefixOf most_read known read → IsScript read m → ReadsScript known read m
+read_script known read m p says = record { is = whole known p; says = says }
+  where
+    whole : (k : Option (List ℕ)) → IsPrefixOf most_read k read → IfSome k (λ all. read ≡ all)
+    whole None p = tt
+    whole (Some all) p =
+        let first : read ≡ take most_read all = p.first in
+        let few : length read ≤ most_bytes = says.short in
+        let short : length all ≤ most_read = omega (arith, ap (λ (t : List ℕ). length t) first, length-take most_read all) in
+        first ∙ take_all most_read all short

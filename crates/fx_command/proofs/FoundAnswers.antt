@@ -40,17 +40,18 @@ module _ (m : Meaning) (target : Option ℕ) (x : Finding) (ps : List Pick) (h :
   told_again : (r : ReportView) → IsReplay (script_of m) ps r → Tells (report_text (queue_names m) r) (status_of r)
   told_again = rw e at (tells_replay (setting (script_of m) target) x (queue_names m) h)
 
-  performed_again : (expected words : List ℕ) (status : ℕ) (text : List ℕ) → IsPerformed m ps expected Replay words status text → Tells text status
-  performed_again _ _ _ _ (replayed {r = r} run tells) =
-      told_again r (record { moves = run.moves; last = run.last; chosen = run.chosen; report = run.report })
+  performed_again : (source expected words : List ℕ) (status : ℕ) (text : List ℕ) → IsPerformed source m ps expected Replay words status text
+      → Tells text status
+  performed_again _ _ _ _ _ (replayed {r = r} root run tells placed) =
+      told_again r (record { moves = run.replay.moves; last = run.replay.last; chosen = run.replay.chosen; report = run.replay.report })
 
   pub answered_again : (script expected words : List ℕ) (status : ℕ) (text : List ℕ) → IsScript script m → All HasSmallNumber ps → length ps ≤ most_picks
       → IsCommandAnswer Replay script (picks_text ps) expected words status text → Tells text status
   answered_again script expected words status text is small few (performed {m = n} {ps = qs} has picks done) =
       let same_m = one_meaning script n m has is in
       let same_ps = one_schedule (picks_text ps) qs ps picks (is_read ps small few) in
-      performed_again expected words status text
-      (subst (λ (k : Meaning). IsPerformed k ps expected Replay words status text) same_m
-      (subst (λ (rs : List Pick). IsPerformed n rs expected Replay words status text) same_ps done))
+      performed_again script expected words status text
+      (subst (λ (k : Meaning). IsPerformed script k ps expected Replay words status text) same_m
+      (subst (λ (rs : List Pick). IsPerformed script n rs expected Replay words status text) same_ps done))
   answered_again script expected words _ text is small few (no_script none) = absurd (none.none m is)
   answered_again script expected words _ text is small few (no_schedule has none) = absurd (none.none ps (is_read ps small few))

@@ -6,3 +6,4 @@ mod Fetched
 mod CommandAnswer
 mod FoundAnswers
 mod ExpectedAnswers
+pub mod ToldTextLaws

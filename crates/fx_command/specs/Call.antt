@@ -1,7 +1,7 @@
 -- Which call of the program the words after its name make.
 use Rattle.std.specs.Prelude.{ℕ, if◌then◌else◌, Option, Some, None, List, [], ◌∷◌, codes, bytes_eq, ◌&&◌, not, option_map, option_and_then}
 use Rattle.fx_command.specs.declared.call.Command.{Command}
-use Rattle.fx_command.specs.declared.call.Command.TheVariants.{Check, Replay, Trace, Run, Record, Explore, Expect}
+use Rattle.fx_command.specs.declared.call.Command.TheVariants.{Check, Replay, Trace, Steps, Run, Record, Explore, Expect}
 use Rattle.fx_command.specs.declared.call.Call.{Call}
 use Rattle.fx_command.specs.declared.call.Search.{Search}
 use Rattle.fx_command.specs.declared.states.TheConstants.{MOST_STATES}
@@ -79,6 +79,7 @@ call_of (word ∷ names) =
     if bytes_eq word (codes "check") then call_with_script Check names
     else if bytes_eq word (codes "replay") then call_with_names Replay names
     else if bytes_eq word (codes "trace") then call_with_names Trace names
+    else if bytes_eq word (codes "steps") then call_with_names Steps names
     else if bytes_eq word (codes "run") then option_and_then (λ n. call_by_workers (Run n) names) (workers_among names)
     else if bytes_eq word (codes "record") then option_and_then (λ n. call_by_workers (Record n) names) (workers_among names)
     else if bytes_eq word (codes "explore") then call_to_explore names

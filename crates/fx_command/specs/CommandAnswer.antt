@@ -22,7 +22,7 @@ use Rattle.fx_command.specs.Said.{Says, usage_line, no_page_line, unreadable_lin
 -- first two is no such text, with some words. A schedule is read only after a script
 pub data IsCommandAnswer (c : Command) (script schedule expected words : List ℕ) : ℕ → List ℕ → Type 0 where
   performed : {m : Meaning} {ps : List Pick} {status : ℕ} {text : List ℕ} → IsScript script m → IsSchedule schedule ps
-      → IsPerformed m ps expected c words status text → IsCommandAnswer c script schedule expected words status text
+      → IsPerformed script m ps expected c words status text → IsCommandAnswer c script schedule expected words status text
   no_script : {line : List ℕ} → IsNoScript line script → IsCommandAnswer c script schedule expected words REFUSED line
   no_schedule : {m : Meaning} {line : List ℕ} → IsScript script m → IsNoSchedule line schedule → IsCommandAnswer c script schedule expected words REFUSED line
 

@@ -25,6 +25,11 @@ FetchesScript known m = OfText known (λ text. IsScript text m)
 abbrev pub FetchesSchedule : Option (List ℕ) → List Pick → Type 0
 FetchesSchedule known ps = OfText known (λ text. IsSchedule text ps)
 
+-- that text is this one, and says this script
+pub record ReadsScript (known : Option (List ℕ)) (text : List ℕ) (m : Meaning) : Type 0 where
+  pub is : IfSome known (λ all. text ≡ all)
+  pub says : IsScript text m
+
 -- there is none of that name, and the fault says why
 abbrev pub FetchesNoScript : List ℕ → Option (List ℕ) → CommandFault → Type 0
 FetchesNoScript name known fault = IsUnreadOrRefusal (λ n. n ≡ name) (λ line. OfText known (IsNoScript line)) fault

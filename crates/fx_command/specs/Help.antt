@@ -1,7 +1,7 @@
 -- Which words ask for a page of help, and which page is on which word.
 use Rattle.std.specs.Prelude.{ℕ, Bool, ◌||◌, if◌then◌else◌, Option, Some, None, List, [], ◌∷◌, codes, bytes_eq}
 use Rattle.std.specs.Option.{option_or}
-use Rattle.fx_command.specs.declared.help.calls.TheConstants.{HELP, CHECK, REPLAY, TRACE, RUN, RECORD, EXPLORE, SCHEDULE}
+use Rattle.fx_command.specs.declared.help.calls.TheConstants.{HELP, CHECK, REPLAY, TRACE, STEPS, RUN, RECORD, EXPLORE, SCHEDULE}
 use Rattle.fx_command.specs.declared.help.scripts.TheConstants.{FORMS, QUEUE, MAIN}
 use Rattle.fx_command.specs.declared.help.leaves.TheConstants.{PURE, RAISE, CANCELED, NEVER, CEDE}
 use Rattle.fx_command.specs.declared.help.binding.TheConstants.{SEQ, LET, HANDLE, IF, FOR}
@@ -27,6 +27,7 @@ calls_page word =
     else if bytes_eq word (codes "check") then Some CHECK.now
     else if bytes_eq word (codes "replay") then Some REPLAY.now
     else if bytes_eq word (codes "trace") then Some TRACE.now
+    else if bytes_eq word (codes "steps") then Some STEPS.now
     else if bytes_eq word (codes "run") then Some RUN.now
     else if bytes_eq word (codes "record") then Some RECORD.now
     else if bytes_eq word (codes "explore") then Some EXPLORE.now

@@ -10,6 +10,8 @@ pub mod Printable
 pub mod Said
 pub mod Fetched
 pub mod Passed
+pub mod Placed
+pub mod ToldText
 pub mod Performed
 pub mod CommandAnswer
 pub mod Position

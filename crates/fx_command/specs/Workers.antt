@@ -7,7 +7,7 @@ use Rattle.fx_run.specs.Workers.{most_workers}
 use Rattle.fx_run.specs.declared.run_fault.RunFault.{RunFault}
 use Rattle.fx_run.specs.declared.run_fault.RunFault.TheVariants.{Workers, Memory, Lost, Unsettled}
 use Rattle.fx_command.specs.declared.call.Command.{Command}
-use Rattle.fx_command.specs.declared.call.Command.TheVariants.{Check, Replay, Trace, Run, Record, Explore, Expect}
+use Rattle.fx_command.specs.declared.call.Command.TheVariants.{Check, Replay, Trace, Steps, Run, Record, Explore, Expect}
 
 -- the word is one or more digits, and the number that they write is none too large
 abbrev pub writes_number : List ℕ → Bool
@@ -27,6 +27,7 @@ CanBeDone (Record n) = IsWithin n
 CanBeDone Check = Unit {0}
 CanBeDone Replay = Unit {0}
 CanBeDone Trace = Unit {0}
+CanBeDone Steps = Unit {0}
 CanBeDone (Explore n) = Unit {0}
 CanBeDone (Expect n) = Unit {0}
 
@@ -43,5 +44,6 @@ CanFail (Record n) fault = RunCanFail n fault
 CanFail Check fault = ⊥
 CanFail Replay fault = ⊥
 CanFail Trace fault = ⊥
+CanFail Steps fault = ⊥
 CanFail (Explore n) fault = ⊥
 CanFail (Expect n) fault = ⊥

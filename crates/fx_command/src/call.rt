@@ -15,6 +15,8 @@ pub(crate) enum Command {
     Replay,
     /// It is replayed, and the traces are written.
     Trace,
+    /// It is replayed, and each step is told.
+    Steps,
     /// Its fibers are run by so many workers, and the report is written.
     Run(u32),
     /// Its fibers are run by so many workers, and the traces are written.
@@ -82,6 +84,7 @@ impl<'a> Call<'a> {
             "check" => Call::with_script(Command::Check, names),
             "replay" => Call::with_names(Command::Replay, names),
             "trace" => Call::with_names(Command::Trace, names),
+            "steps" => Call::with_names(Command::Steps, names),
             "run" => Call::by_workers(Command::Run(workers_among(names)?), names),
             "record" => Call::by_workers(Command::Record(workers_among(names)?), names),
             "explore" => Call::to_explore(names),

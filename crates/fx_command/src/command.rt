@@ -2,7 +2,7 @@
 ghost use Rattle.std.specs.Prelude.{◌≡◌, ◌≢◌, IfSome, IfOk, IfErr, codes, map, option_map, string_bytes, length};
 ghost use Rattle.fx_text.specs.View.{meaning};
 ghost use Rattle.fx_command.specs.CommandFault.{IsUnread};
-ghost use Rattle.fx_command.specs.Fetched.{IsPrefixOf, FetchesScript, FetchesNoScript};
+ghost use Rattle.fx_command.specs.Fetched.{IsPrefixOf, ReadsScript, FetchesNoScript};
 ghost use Rattle.fx_command.specs.Fetched.{FetchesSchedule, FetchesNoSchedule, KeepsFiles};
 ghost use Rattle.fx_command.specs.Fetched.{FetchesAll, FetchesNone};
 ghost use Rattle.fx_command.specs.Call.{view_call};
@@ -68,21 +68,22 @@ fn fetched<'a, F: Files>(
     }
 }
 
-/// The script of this name.
+/// The script of this name, and its text.
 fn script_of<'a, F: Files>(
     alloc: Global,
     files: &mut F,
     name: &'a str,
-) -> Result<Script, CommandFault<'a>>
+) -> Result<(Script, Vec<u8>), CommandFault<'a>>
     ensures found { IfOk result
-        (λ s. FetchesScript (F.holds files.old name.now) (meaning s)) }
-    ensures queues { IfOk result (λ s. s.code.queues ≡ length s.queues.items) }
+        (λ x. ReadsScript (F.holds files.old name.now) x.1.items (meaning x.0)) }
+    ensures queues { IfOk result (λ x. x.0.code.queues ≡ length x.0.queues.items) }
     ensures none { IfErr result
         (λ fault. FetchesNoScript name.now (F.holds files.old name.now) fault) }
     ensures kept { KeepsFiles (F.holds files.old) (F.holds files.new) }
 {
     let text = fetched(alloc, files, name, MOST_OF_SCRIPT)?;
-    script_in(alloc, name, &text)
+    let script = script_in(alloc, name, &text)?;
+    Ok((script, text))
 }
 
 /// The schedule of this name, and the empty one without a name.
@@ -143,10 +144,19 @@ fn answer<'a, R: Wait + Threads + Sync + RandomSource + AllocGlobal, F: Files, W
     ensures fault { IfErr result
         (λ fault. Leaves (F.holds files.old) (view_call call.entry) fault out.old out.new) }
 {
-    let script = script_of(alloc, files, call.script)?;
+    let (script, source) = script_of(alloc, files, call.script)?;
     let picks = schedule_of(alloc, files, call.schedule)?;
     let expected = expected_of(alloc, files, call.expected)?;
-    perform(rt, alloc, call.command, &script, &picks, &expected, out)
+    perform(
+        rt,
+        alloc,
+        call.command,
+        &script,
+        &source,
+        &picks,
+        &expected,
+        out,
+    )
 }
 
 /// Says this on standard error. Nobody is left to tell where that refuses it.

@@ -8,10 +8,12 @@
 //!    changes, and words for people: `explain` says where and shows the place, `script_words` and
 //!    `schedule_words` say what is wrong. A script is told by what is open at the place, `open_groups`, by
 //!    the parts that a form has, `parts`, and by the word that may have been meant, `advice`.
-//! 4. `perform` checks the script, or replays it and writes its report or its traces, or runs it on
-//!    threads and writes these. It has words for people about each fiber that is blocked, and `passed` has
+//! 4. `perform` checks the script, or replays it and writes its report or its traces, or tells it step by step, or
+//!    runs it on threads and writes these. It has words for people about each fiber that is blocked, and `passed` has
 //!    those about picks of the schedule that were passed over. Or it searches all runs of the script, and
-//!    writes what it has found, or of that the first report that is not expected.
+//!    writes what it has found, or of that the first report that is not expected. `placed` finds where the nodes of
+//!    the script stand in its text, for those words and for the steps; `told_text` writes the steps, and `stood` knows
+//!    at which node each fiber stood last.
 //! 5. `stream` is what is written to: a writer, of which contracts know whether it has refused a write.
 //! 6. `command` goes through these in that order, gives the status, and says on standard error those
 //!    words, or why nothing was printed.
@@ -38,11 +40,14 @@ mod open_groups;
 mod parts;
 mod passed;
 mod perform;
+mod placed;
 mod position;
 mod printable;
 mod schedule_words;
 mod script_words;
 mod states;
+mod stood;
 pub mod stream;
 mod texts;
+mod told_text;
 mod workers;

@@ -6,12 +6,17 @@ ghost use Rattle.fx_plain.specs.PassedPicks.{IsWhyAtQueueBelow};
 ghost use Rattle.fx_command.specs.Passed.{first_words, passed_text, why_line};
 
 use fx_plain::{PassedOver, Why};
-use fx_report::{Wait, format_waits};
+use fx_report::{Blocked, Wait, format_waits};
 use fx_text::Script;
 use std::alloc::{AllocError, Global};
 
 /// The end of the line: why a pick of this fiber was passed over.
-fn format_why(alloc: Global, script: &Script, fiber: u32, why: Why) -> Result<String, AllocError>
+pub(crate) fn format_why(
+    alloc: Global,
+    script: &Script,
+    fiber: u32,
+    why: Why,
+) -> Result<String, AllocError>
     requires { IsWhyAtQueueBelow (length (queue_names (meaning script.now))) why }
     ensures { IfOk result (λ text.
         string_bytes text ≡ why_line (queue_names (meaning script.now)) fiber why) }
@@ -20,7 +25,10 @@ fn format_why(alloc: Global, script: &Script, fiber: u32, why: Why) -> Result<St
         Why::NoFiber => format!(in alloc; "the script has no fiber {fiber}\n"),
         Why::NotStarted => format!(in alloc; "fiber {fiber} has not started\n"),
         Why::Ended => format!(in alloc; "fiber {fiber} has ended\n"),
-        Why::Waits(source) => format_waits(alloc, script, &[Wait { fiber, source }]),
+        Why::Waits(source) => {
+            let wait = Wait { fiber, source };
+            format_waits(alloc, script, &[], &[Blocked { wait, node: None }])
+        }
     }
 }
 

@@ -4,7 +4,9 @@ ghost use Rattle.fx_text.specs.View.{meaning};
 ghost use Rattle.fx_text.specs.declared.pick.Pick as pick;
 ghost use Rattle.fx_command.specs.declared.call.Command.TheVariants as command;
 ghost use Rattle.fx_report.specs.Text.{queue_names};
-ghost use Rattle.fx_report.specs.Waits.{WaitsAtQueueBelow};
+ghost use Rattle.fx_report.specs.Waits.{blocked_text, IsBlockedAtQueueBelow};
+ghost use Rattle.fx_text.specs.Grammar.{IsScript};
+ghost use Rattle.fx_places.specs.Places.{positions_of};
 ghost use Rattle.fx_plain.specs.PassedPicks.{IsWhyAtQueueBelow};
 ghost use Rattle.fx_command.specs.Passed.{replay_words};
 ghost use Rattle.fx_command.specs.Performed.{counts_text, check_text, Performs};
@@ -12,10 +14,13 @@ ghost use Rattle.fx_command.specs.Performed.{counts_text, check_text, Performs};
 use crate::call::{Command, Search};
 use crate::command_fault::CommandFault;
 use crate::passed::format_passed;
+use crate::placed::{places_in, places_of_blocked};
 use crate::stream::Stream;
+use crate::told_text::format_told;
 use fx_findings::{Compared, compare, explore, explored_status, format_explored};
-use fx_plain::{Halt, replay_to_halt};
-use fx_report::{ENDED, format_report, format_traces, format_waits, status_after};
+use fx_places::{FormPlace, positions};
+use fx_plain::{Halt, replay_to_halt, tell_run};
+use fx_report::{Blocked, ENDED, format_report, format_traces, format_waits, status_after};
 use fx_run::run_to_halt;
 use fx_sched::Free;
 use fx_text::{Pick, Script};
@@ -51,8 +56,8 @@ fn check<'a, W: Write>(
     picks: &[Pick],
     out: &mut Stream<W>,
 ) -> Result<Performed, CommandFault<'a>>
-    ensures { (expected : List ℕ) → Performs command.Check (meaning script.now) picks.now expected
-        result out.old out.new }
+    ensures { (source expected : List ℕ) → Performs command.Check source (meaning script.now) picks.now
+        expected result out.old out.new }
 {
     let line = format_check(alloc, script)?;
     out.write(&line)?;
@@ -62,33 +67,58 @@ fn check<'a, W: Write>(
     })
 }
 
+/// A line for each blocked fiber, with where it stands.
+fn format_blocked(
+    alloc: Global,
+    script: &Script,
+    places: &[FormPlace],
+    blocked: &[Blocked],
+) -> Result<String, AllocError>
+    requires { All (IsBlockedAtQueueBelow (length (queue_names (meaning script.now)))) blocked.now }
+    ensures { IfOk result (λ text. string_bytes text
+        ≡ blocked_text (queue_names (meaning script.now)) (positions_of places.now) blocked.now) }
+{
+    let positions = positions(alloc, places)?;
+    format_waits(alloc, script, &positions, blocked)
+}
+
 /// The words for people about a replay: on the picks that were passed over, and on each blocked fiber.
-fn format_words(alloc: Global, script: &Script, halt: &Halt) -> Result<String, AllocError>
-    requires waits { All (WaitsAtQueueBelow (length (queue_names (meaning script.now))))
-        halt.now.waits.items }
+fn format_words(
+    alloc: Global,
+    script: &Script,
+    places: &[FormPlace],
+    halt: &Halt,
+) -> Result<String, AllocError>
+    requires blocked { All (IsBlockedAtQueueBelow (length (queue_names (meaning script.now))))
+        halt.now.blocked.items }
     requires passed { IfSome halt.now.passed (λ told.
         IsWhyAtQueueBelow (length (queue_names (meaning script.now))) told.first.why) }
     ensures { IfOk result (λ text. string_bytes text
-        ≡ replay_words (queue_names (meaning script.now)) halt.now.passed halt.now.waits.items) }
+        ≡ replay_words (queue_names (meaning script.now)) halt.now.passed (positions_of places.now)
+        halt.now.blocked.items) }
 {
     let mut words = format_passed(alloc, script, halt.passed)?;
-    let waits = format_waits(alloc, script, &halt.waits)?;
+    let waits = format_blocked(alloc, script, places, &halt.blocked)?;
     words.push_str(&waits)?;
     Ok(words)
 }
 
+/// Replays the script, and writes the report.
 fn report<'a, W: Write>(
     alloc: Global,
     script: &Script,
+    source: &[u8],
     picks: &[Pick],
     out: &mut Stream<W>,
 ) -> Result<Performed, CommandFault<'a>>
-    requires { script.now.code.queues ≤ length script.now.queues.items }
-    ensures { (expected : List ℕ) → Performs command.Replay (meaning script.now) picks.now expected
-        result out.old out.new }
+    requires queues { script.now.code.queues ≤ length script.now.queues.items }
+    requires says { IsScript source.now (meaning script.now) }
+    ensures { (expected : List ℕ) → Performs command.Replay source.now (meaning script.now) picks.now
+        expected result out.old out.new }
 {
     let halt = replay_to_halt(alloc, script, picks)?;
-    let words = format_words(alloc, script, &halt)?;
+    let places = places_of_blocked(alloc, script, source, &halt.blocked)?;
+    let words = format_words(alloc, script, &places, &halt)?;
     let text = format_report(alloc, script, &halt.report)?;
     out.write(&text)?;
     Ok(Performed {
@@ -97,19 +127,48 @@ fn report<'a, W: Write>(
     })
 }
 
+/// Replays the script, and writes the traces.
 fn trace<'a, W: Write>(
     alloc: Global,
     script: &Script,
+    source: &[u8],
     picks: &[Pick],
     out: &mut Stream<W>,
 ) -> Result<Performed, CommandFault<'a>>
-    requires { script.now.code.queues ≤ length script.now.queues.items }
-    ensures { (expected : List ℕ) → Performs command.Trace (meaning script.now) picks.now expected
-        result out.old out.new }
+    requires queues { script.now.code.queues ≤ length script.now.queues.items }
+    requires says { IsScript source.now (meaning script.now) }
+    ensures { (expected : List ℕ) → Performs command.Trace source.now (meaning script.now) picks.now
+        expected result out.old out.new }
 {
     let halt = replay_to_halt(alloc, script, picks)?;
-    let words = format_words(alloc, script, &halt)?;
+    let places = places_of_blocked(alloc, script, source, &halt.blocked)?;
+    let words = format_words(alloc, script, &places, &halt)?;
     let text = format_traces(alloc, script, &halt.report)?;
+    out.write(&text)?;
+    Ok(Performed {
+        status: status_after(&halt.report),
+        words,
+    })
+}
+
+/// Replays the script, and tells it step by step.
+fn steps<'a, W: Write>(
+    alloc: Global,
+    script: &Script,
+    source: &[u8],
+    picks: &[Pick],
+    out: &mut Stream<W>,
+) -> Result<Performed, CommandFault<'a>>
+    requires queues { script.now.code.queues ≤ length script.now.queues.items }
+    requires says { IsScript source.now (meaning script.now) }
+    ensures { (expected : List ℕ) → Performs command.Steps source.now (meaning script.now) picks.now
+        expected result out.old out.new }
+{
+    let halt = replay_to_halt(alloc, script, picks)?;
+    let places = places_in(alloc, script, source)?;
+    let words = format_words(alloc, script, &places, &halt)?;
+    let told = tell_run(alloc, script, picks)?;
+    let text = format_told(alloc, script, &places, &told)?;
     out.write(&text)?;
     Ok(Performed {
         status: status_after(&halt.report),
@@ -122,15 +181,18 @@ fn run<'a, R: Wait + Threads + Sync + RandomSource + AllocGlobal, W: Write>(
     rt: &R,
     alloc: Global,
     script: &Script,
+    source: &[u8],
     workers: u32,
     out: &mut Stream<W>,
 ) -> Result<Performed, CommandFault<'a>>
-    requires { script.now.code.queues ≤ length script.now.queues.items }
+    requires queues { script.now.code.queues ≤ length script.now.queues.items }
+    requires says { IsScript source.now (meaning script.now) }
     ensures { (picks : List pick.Pick) (expected : List ℕ) → Performs (command.Run workers)
-        (meaning script.now) picks expected result out.old out.new }
+        source.now (meaning script.now) picks expected result out.old out.new }
 {
     let ran = run_to_halt(rt, alloc, script, workers, &Free)?;
-    let words = format_waits(alloc, script, &ran.waits)?;
+    let places = places_of_blocked(alloc, script, source, &ran.blocked)?;
+    let words = format_blocked(alloc, script, &places, &ran.blocked)?;
     let text = format_report(alloc, script, &ran.report)?;
     out.write(&text)?;
     Ok(Performed {
@@ -144,15 +206,18 @@ fn record<'a, R: Wait + Threads + Sync + RandomSource + AllocGlobal, W: Write>(
     rt: &R,
     alloc: Global,
     script: &Script,
+    source: &[u8],
     workers: u32,
     out: &mut Stream<W>,
 ) -> Result<Performed, CommandFault<'a>>
-    requires { script.now.code.queues ≤ length script.now.queues.items }
+    requires queues { script.now.code.queues ≤ length script.now.queues.items }
+    requires says { IsScript source.now (meaning script.now) }
     ensures { (picks : List pick.Pick) (expected : List ℕ) → Performs (command.Record workers)
-        (meaning script.now) picks expected result out.old out.new }
+        source.now (meaning script.now) picks expected result out.old out.new }
 {
     let ran = run_to_halt(rt, alloc, script, workers, &Free)?;
-    let words = format_waits(alloc, script, &ran.waits)?;
+    let places = places_of_blocked(alloc, script, source, &ran.blocked)?;
+    let words = format_blocked(alloc, script, &places, &ran.blocked)?;
     let text = format_traces(alloc, script, &ran.report)?;
     out.write(&text)?;
     Ok(Performed {
@@ -168,8 +233,9 @@ fn find<'a, W: Write>(
     search: Search,
     out: &mut Stream<W>,
 ) -> Result<Performed, CommandFault<'a>>
-    ensures { (picks : List pick.Pick) (expected : List ℕ) → Performs (command.Explore search)
-        (meaning script.now) picks expected result out.old out.new }
+    ensures { (source : List ℕ) (picks : List pick.Pick) (expected : List ℕ)
+        → Performs (command.Explore search) source (meaning script.now) picks expected result
+        out.old out.new }
 {
     let explored = explore(alloc, script, search.target, search.most as usize)?;
     let text = format_explored(alloc, script, &explored)?;
@@ -189,8 +255,8 @@ fn expect<'a, W: Write>(
     expected: &[u8],
     out: &mut Stream<W>,
 ) -> Result<Performed, CommandFault<'a>>
-    ensures { (picks : List pick.Pick) → Performs (command.Expect search) (meaning script.now) picks
-        expected.now result out.old out.new }
+    ensures { (source : List ℕ) (picks : List pick.Pick) → Performs (command.Expect search) source
+        (meaning script.now) picks expected.now result out.old out.new }
 {
     let found = explore(alloc, script, search.target, search.most as usize)?;
     let Compared { text, status } = compare(alloc, script, &found, expected)?;
@@ -201,7 +267,7 @@ fn expect<'a, W: Write>(
     })
 }
 
-/// Does with the script and the picks what is asked, and prints it; a run and a search go by no picks, and only a search
+/// Does with the script, which this text says, and the picks what is asked, and prints it; a run and a search go by no picks, and only a search
 /// that is compared by what is expected. The
 /// script's code names no queue that is not declared. The status is 0 where all fibers ended or are only
 /// counted, and 1 where one waits for good: then the words have a line for each fiber that does. Before these
@@ -214,20 +280,23 @@ pub(crate) fn perform<'a, R: Wait + Threads + Sync + RandomSource + AllocGlobal,
     alloc: Global,
     command: Command,
     script: &Script,
+    source: &[u8],
     picks: &[Pick],
     expected: &[u8],
     out: &mut Stream<W>,
 ) -> Result<Performed, CommandFault<'a>>
-    requires { script.now.code.queues ≤ length script.now.queues.items }
-    ensures { Performs command (meaning script.now) picks.now expected.now result
+    requires queues { script.now.code.queues ≤ length script.now.queues.items }
+    requires says { IsScript source.now (meaning script.now) }
+    ensures { Performs command source.now (meaning script.now) picks.now expected.now result
         out.old out.new }
 {
     match command {
         Command::Check => check(alloc, script, picks, out),
-        Command::Replay => report(alloc, script, picks, out),
-        Command::Trace => trace(alloc, script, picks, out),
-        Command::Run(workers) => run(rt, alloc, script, workers, out),
-        Command::Record(workers) => record(rt, alloc, script, workers, out),
+        Command::Replay => report(alloc, script, source, picks, out),
+        Command::Trace => trace(alloc, script, source, picks, out),
+        Command::Steps => steps(alloc, script, source, picks, out),
+        Command::Run(workers) => run(rt, alloc, script, source, workers, out),
+        Command::Record(workers) => record(rt, alloc, script, source, workers, out),
         Command::Explore(search) => find(alloc, script, search, out),
         Command::Expect(search) => expect(alloc, script, search, expected, out),
     }

@@ -11,6 +11,7 @@ how each fiber ended; or it visits all runs of the script.
   fibers replay F [SCHEDULE]  makes the run that the schedule chooses, and
                               prints its report
   fibers trace F [SCHEDULE]   makes that run, and prints what each fiber did
+  fibers steps F [SCHEDULE]   makes that run, and prints its steps
   fibers run F WORKERS        runs the fibers by 1 to 64 workers, each on a
                               thread, and prints the report
   fibers record F WORKERS     runs them so, and prints what each fiber did
@@ -32,12 +33,13 @@ step makes each step.
     fiber 1 canceled
     fiber 2 succeeded 5
 
-There are pages on check, replay, trace, run, record, explore, schedule, forms,
-which lists what a script is made of, and on each form, as bracket.
+There are pages on check, replay, trace, steps, run, record, explore, schedule,
+forms, which lists what a script is made of, and on each form, as bracket.
 
 Status  when
   0     all fibers have ended, a check passed, or help was printed
-  1     some fiber waits for good; standard error says for what (not of explore)
+  1     some fiber waits for good; standard error says where and for what (not
+        of explore)
   1     of expect FILE: a run was found with a report that FILE does not have
   2     other words
   3     the script or the schedule is refused; standard error says where and why
@@ -97,6 +99,33 @@ event, which is above that of all that it stands on, and then one of
     1 3 seen
     1 4 cancelled
     1 5 ended canceled
+";
+
+const STEPS: &str = "\
+fibers steps F [SCHEDULE]
+
+Makes the run that fibers replay F [SCHEDULE] makes, and prints its steps in the
+order in which they are made, in place of a report: the number of the step, the
+fiber, the line and the column of the form at which it stands, that form, open
+where a request for the fiber is seen there, and closed else, and what the step
+shows, in the words of fibers trace, if it shows something. A request of the
+schedule has a line too, as 3 c1, and so has each pick that is passed over, with
+the reason. Of a fiber that stands at no form, as with a value that goes out of
+one, the form is told at which it stood last.
+
+What stands after the first number of a line is a pick of the run: the number of
+a fiber, or a request. All of these picks are a schedule that chooses the same
+run.
+
+    $ echo '(main (start h (pure 1) (cancel h)))' > script
+    $ fibers steps script
+    1 0 1:7 start open start 1
+    2 0 1:25 cancel open request 1
+    3 1 1:16 pure open seen
+    4 1 1:16 pure open cancelled
+    5 1 1:16 pure closed ended canceled
+    6 0 1:25 cancel closed awaited 1
+    7 0 1:25 cancel open ended succeeded 0
 ";
 
 const RUN: &str = "\
@@ -211,6 +240,7 @@ pub(super) fn page_on(word: &str) -> Option<&'static str>
         "check" => Some(CHECK),
         "replay" => Some(REPLAY),
         "trace" => Some(TRACE),
+        "steps" => Some(STEPS),
         "run" => Some(RUN),
         "record" => Some(RECORD),
         "explore" => Some(EXPLORE),

@@ -72,7 +72,8 @@ const BLOCKED: Worked = Worked {
 };
 
 /// What is said of it.
-const WAITS: &str = "fiber 1 waits for an element of queue q\nfiber 2 waits for fiber 1 to end\n";
+const WAITS: &str = "fiber 1 (line 1, column 28) waits for an element of queue q\n\
+    fiber 2 (line 1, column 66) waits for fiber 1 to end\n";
 
 /// Calls that have words for people, or a fault to tell.
 pub static FAULTS: [(Said, Worked); 6] = [

@@ -1,3 +1,4 @@
+use Rattle.std.proofs.Common.{refl}
 use Rattle.std.proofs.lemmas.Result.{err_from_is_err_and}
 use Rattle.fx_command.specs.Performed.{ran}
 use Rattle.fx_command.proofs.Performed.{ran_with_status, cut_short}
@@ -8,13 +9,15 @@ pub returns-in_err-write : goal.returns-in_err-write
 returns-in_err-write g c picks expected =
     let fault = err_from_is_err_and c.from_residual-in_err-write.result c.from_residual-in_err-write.ensures.1 in
     let can = can_run c.args.workers _ c.in_ok-ran.ensures.workers in
-    let part = rw (c.deref-2.ensures, c.in_ok-text.ensures) at c.in_err-write.ensures.part in
-    rw (fault.1, fault.2) (cut_short _ _ _ _ _ _ _ _ _ (ran can.0 can.1 c.in_ok-ran.ensures.halted) part)
+    let part = rw (c.deref-4.ensures, c.in_ok-text.ensures) at c.in_err-write.ensures.part in
+    rw (fault.1, fault.2) (cut_short _ _ _ _ _ _ _ _ _ _
+    (ran {nodes = c.args.script.now.code.nodes} can.0 can.1 refl c.in_ok-ran.ensures.halted c.in_ok-places.ensures) part)
 
 pub returns : goal.returns
 returns g c picks expected = record {
   text = _;
-  answer = ran_with_status _ _ _ _ _ _ _ _ (can_run c.args.workers _ c.in_ok-ran.ensures.workers) c.in_ok-ran.ensures.halted
-      (rw c.deref.ensures.value at c.in_ok-words.ensures) c.status_after.ensures;
-  taken = rw (c.deref-2.ensures, c.in_ok-text.ensures) at c.in_ok-write.ensures.whole;
+  answer = ran_with_status _ _ _ _ _ _ _ c.args.script.now.code.nodes c.in_ok-places.places.items _ _
+      (can_run c.args.workers _ c.in_ok-ran.ensures.workers) refl c.in_ok-ran.ensures.halted c.in_ok-places.ensures
+      (rw (c.deref-2.ensures.value, c.deref-3.ensures.value) at c.in_ok-words.ensures) c.status_after.ensures;
+  taken = rw (c.deref-4.ensures, c.in_ok-text.ensures) at c.in_ok-write.ensures.whole;
 }
