@@ -14,11 +14,10 @@ loop-next-preserved c =
     let is = c.in-Some.ensures.cases.0 in
     let names = queue_names (meaning c.args.script.now) in
     let node = c.node_of.ensures ∙ ap (λ (stood : List (Option NodeId)). node_of stood c.in-Some.next.now) c.deref.ensures.value in
-    let placed = c.place_at-place.ensures ∙ ap (place_of c.args.places.now) node in
-    (
+    let placed = c.place_at-place.ensures ∙ ap (place_of c.args.places.now) node in (
       goes_on names c.args.places.now c.loop-next.stood.items c.note.new.stood.items c.loop-next.number _ _ c.in-Some.more.now c.in-Some.next.now
-      (string_bytes c.loop-next.text) (string_bytes c.push_told.new.text) _ _ is placed c.in_ok-push_told.ensures c.note.ensures
-      c.number_after-number.ensures text,
+          (string_bytes c.loop-next.text) (string_bytes c.push_told.new.text) _ _ is placed c.in_ok-push_told.ensures c.note.ensures
+          c.number_after-number.ensures text,
       All-rest (IsToldAtQueueBelow (length names)) _ _ _ is named,
       numbers_left _ _ _ _ _ _ is c.number_after-number.ensures count,
     )
