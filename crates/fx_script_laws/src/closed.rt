@@ -1,5 +1,5 @@
-//! Laws of terms that can be put for one another in every script where they stand at closed places: in more
-//! masks than polls, or at a sealed place. Nothing is canceled there, and no request is seen, before the first
+//! Laws of terms that can be put for one another in every script where they stand at closed places: in a mask
+//! that no poll opened, or at a sealed place. Nothing is canceled there, and no request is seen, before the first
 //! step of either. Elsewhere these laws fail, or ask for more ([`crate::refused`], [`crate::laws`]).
 ghost use Rattle.std.specs.Prelude.{◌≡◌, ℕ, Bool, Option, None};
 ghost use Rattle.fx_term.specs.declared.node.Arg.TheVariants.{Number};
