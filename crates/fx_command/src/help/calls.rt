@@ -38,8 +38,7 @@ forms, which lists what a script is made of, and on each form, as bracket.
 
 Status  when
   0     all fibers have ended, a check passed, or help was printed
-  1     some fiber waits for good; standard error says where and for what (not
-        of explore)
+  1     some fiber waits for good; standard error says where (not of explore)
   1     of expect FILE: a run was found with a report that FILE does not have
   2     other words
   3     the script or the schedule is refused; standard error says where and why
