@@ -1,5 +1,6 @@
 mod Refused
 mod Performed
+mod PictureWords
 mod WorkersLaws
 mod StatesLaws
 mod Fetched
@@ -7,3 +8,4 @@ mod CommandAnswer
 mod FoundAnswers
 mod ExpectedAnswers
 pub mod ToldTextLaws
+mod ShortCalls

@@ -1,7 +1,7 @@
 -- Which call of the program the words after its name make.
 use Rattle.std.specs.Prelude.{ℕ, if◌then◌else◌, Option, Some, None, List, [], ◌∷◌, codes, bytes_eq, ◌&&◌, not, option_map, option_and_then}
 use Rattle.fx_command.specs.declared.call.Command.{Command}
-use Rattle.fx_command.specs.declared.call.Command.TheVariants.{Check, Replay, Trace, Steps, Run, Record, Explore, Expect}
+use Rattle.fx_command.specs.declared.call.Command.TheVariants.{Check, Replay, Trace, Steps, Run, Record, Picture, PictureRun, Explore, Expect}
 use Rattle.fx_command.specs.declared.call.Call.{Call}
 use Rattle.fx_command.specs.declared.call.Search.{Search}
 use Rattle.fx_command.specs.declared.states.TheConstants.{MOST_STATES}
@@ -82,5 +82,7 @@ call_of (word ∷ names) =
     else if bytes_eq word (codes "steps") then call_with_names Steps names
     else if bytes_eq word (codes "run") then option_and_then (λ n. call_by_workers (Run n) names) (workers_among names)
     else if bytes_eq word (codes "record") then option_and_then (λ n. call_by_workers (Record n) names) (workers_among names)
+    else if bytes_eq word (codes "picture") then call_with_names Picture names
+    else if bytes_eq word (codes "picture-run") then option_and_then (λ n. call_by_workers (PictureRun n) names) (workers_among names)
     else if bytes_eq word (codes "explore") then call_to_explore names
     else None

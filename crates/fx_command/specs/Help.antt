@@ -1,7 +1,7 @@
 -- Which words ask for a page of help, and which page is on which word.
 use Rattle.std.specs.Prelude.{ℕ, Bool, ◌||◌, if◌then◌else◌, Option, Some, None, List, [], ◌∷◌, codes, bytes_eq}
 use Rattle.std.specs.Option.{option_or}
-use Rattle.fx_command.specs.declared.help.calls.TheConstants.{HELP, CHECK, REPLAY, TRACE, STEPS, RUN, RECORD, EXPLORE, SCHEDULE}
+use Rattle.fx_command.specs.declared.help.calls.TheConstants.{HELP, CHECK, REPLAY, TRACE, STEPS, RUN, RECORD, PICTURE, PICTURE_RUN, EXPLORE, SCHEDULE}
 use Rattle.fx_command.specs.declared.help.scripts.TheConstants.{FORMS, QUEUE, MAIN}
 use Rattle.fx_command.specs.declared.help.leaves.TheConstants.{PURE, RAISE, CANCELED, NEVER, CEDE}
 use Rattle.fx_command.specs.declared.help.binding.TheConstants.{SEQ, LET, HANDLE, IF, FOR}
@@ -30,6 +30,8 @@ calls_page word =
     else if bytes_eq word (codes "steps") then Some STEPS.now
     else if bytes_eq word (codes "run") then Some RUN.now
     else if bytes_eq word (codes "record") then Some RECORD.now
+    else if bytes_eq word (codes "picture") then Some PICTURE.now
+    else if bytes_eq word (codes "picture-run") then Some PICTURE_RUN.now
     else if bytes_eq word (codes "explore") then Some EXPLORE.now
     else if bytes_eq word (codes "schedule") then Some SCHEDULE.now
     else None

@@ -7,7 +7,7 @@ use Rattle.fx_run.specs.Workers.{most_workers}
 use Rattle.fx_run.specs.declared.run_fault.RunFault.{RunFault}
 use Rattle.fx_run.specs.declared.run_fault.RunFault.TheVariants.{Workers, Memory, Lost, Unsettled}
 use Rattle.fx_command.specs.declared.call.Command.{Command}
-use Rattle.fx_command.specs.declared.call.Command.TheVariants.{Check, Replay, Trace, Steps, Run, Record, Explore, Expect}
+use Rattle.fx_command.specs.declared.call.Command.TheVariants.{Check, Replay, Trace, Steps, Run, Record, Picture, PictureRun, Explore, Expect}
 
 -- the word is one or more digits, and the number that they write is none too large
 abbrev pub writes_number : List ℕ → Bool
@@ -24,9 +24,11 @@ IsWithin n = (1 ≤ n) × (n ≤ most_workers)
 abbrev pub CanBeDone : Command → Type 0
 CanBeDone (Run n) = IsWithin n
 CanBeDone (Record n) = IsWithin n
+CanBeDone (PictureRun n) = IsWithin n
 CanBeDone Check = Unit {0}
 CanBeDone Replay = Unit {0}
 CanBeDone Trace = Unit {0}
+CanBeDone Picture = Unit {0}
 CanBeDone Steps = Unit {0}
 CanBeDone (Explore n) = Unit {0}
 CanBeDone (Expect n) = Unit {0}
@@ -41,9 +43,11 @@ RunCanFail n (Unsettled f) = IsWithin n
 abbrev pub CanFail : Command → RunFault → Type 0
 CanFail (Run n) fault = RunCanFail n fault
 CanFail (Record n) fault = RunCanFail n fault
+CanFail (PictureRun n) fault = RunCanFail n fault
 CanFail Check fault = ⊥
 CanFail Replay fault = ⊥
 CanFail Trace fault = ⊥
+CanFail Picture fault = ⊥
 CanFail Steps fault = ⊥
 CanFail (Explore n) fault = ⊥
 CanFail (Expect n) fault = ⊥

@@ -21,6 +21,10 @@ pub(crate) enum Command {
     Run(u32),
     /// Its fibers are run by so many workers, and the traces are written.
     Record(u32),
+    /// It is replayed, and the run is drawn.
+    Picture,
+    /// Its fibers are run by so many workers, and the run is drawn.
+    PictureRun(u32),
     /// Each report of its runs is sought.
     Explore(Search),
     /// So it is, and what was found is compared with what is expected.
@@ -87,6 +91,8 @@ impl<'a> Call<'a> {
             "steps" => Call::with_names(Command::Steps, names),
             "run" => Call::by_workers(Command::Run(workers_among(names)?), names),
             "record" => Call::by_workers(Command::Record(workers_among(names)?), names),
+            "picture" => Call::with_names(Command::Picture, names),
+            "picture-run" => Call::by_workers(Command::PictureRun(workers_among(names)?), names),
             "explore" => Call::to_explore(names),
             _ => None,
         }

@@ -40,6 +40,7 @@ mod open_groups;
 mod parts;
 mod passed;
 mod perform;
+mod pictured;
 mod placed;
 mod position;
 mod printable;

@@ -14,6 +14,7 @@ ghost use Rattle.fx_command.specs.Performed.{counts_text, check_text, Performs};
 use crate::call::{Command, Search};
 use crate::command_fault::CommandFault;
 use crate::passed::format_passed;
+use crate::pictured::{picture, picture_run};
 use crate::placed::{places_in, places_of_blocked};
 use crate::stream::Stream;
 use crate::told_text::format_told;
@@ -68,7 +69,7 @@ fn check<'a, W: Write>(
 }
 
 /// A line for each blocked fiber, with where it stands.
-fn format_blocked(
+pub(crate) fn format_blocked(
     alloc: Global,
     script: &Script,
     places: &[FormPlace],
@@ -83,7 +84,7 @@ fn format_blocked(
 }
 
 /// The words for people about a replay: on the picks that were passed over, and on each blocked fiber.
-fn format_words(
+pub(crate) fn format_words(
     alloc: Global,
     script: &Script,
     places: &[FormPlace],
@@ -274,7 +275,8 @@ fn expect<'a, W: Write>(
 /// they have one on the picks that a replay or a trace passed over, if there are any. After a search there are
 /// none, whatever it has found, and the status is 6 where it is not complete and has found no fiber that waits
 /// for good. Where it is compared, the status is 1 where it has found a report that is not expected, whether a fiber waits
-/// for good in it or not, and else 6 or 0.
+/// for good in it or not, and else 6 or 0. It is 5 where a picture would be too large: then nothing is printed, and the words
+/// say so.
 pub(crate) fn perform<'a, R: Wait + Threads + Sync + RandomSource + AllocGlobal, W: Write>(
     rt: &R,
     alloc: Global,
@@ -297,6 +299,8 @@ pub(crate) fn perform<'a, R: Wait + Threads + Sync + RandomSource + AllocGlobal,
         Command::Steps => steps(alloc, script, source, picks, out),
         Command::Run(workers) => run(rt, alloc, script, source, workers, out),
         Command::Record(workers) => record(rt, alloc, script, source, workers, out),
+        Command::Picture => picture(alloc, script, source, picks, out),
+        Command::PictureRun(workers) => picture_run(rt, alloc, script, source, workers, out),
         Command::Explore(search) => find(alloc, script, search, out),
         Command::Expect(search) => expect(alloc, script, search, expected, out),
     }

@@ -15,6 +15,10 @@ how each fiber ended; or it visits all runs of the script.
   fibers run F WORKERS        runs the fibers by 1 to 64 workers, each on a
                               thread, and prints the report
   fibers record F WORKERS     runs them so, and prints what each fiber did
+  fibers picture F [SCHEDULE] makes the run that the schedule chooses, and draws
+                              it, as one SVG text
+  fibers picture-run F WORKERS
+                              runs the fibers by so many workers, and draws that
   fibers explore F [MOST]     visits all runs, from at most so many states, and
                               prints each report that some run has
   fibers explore F [MOST] cancel N
@@ -33,8 +37,9 @@ step makes each step.
     fiber 1 canceled
     fiber 2 succeeded 5
 
-There are pages on check, replay, trace, steps, run, record, explore, schedule,
-forms, which lists what a script is made of, and on each form, as bracket.
+There are pages on check, replay, trace, steps, run, record, picture,
+picture-run, explore, schedule, forms, which lists what a script is made of, and
+on each form, as bracket.
 
 Status  when
   0     all fibers have ended, a check passed, or help was printed
@@ -43,7 +48,8 @@ Status  when
   2     other words
   3     the script or the schedule is refused; standard error says where and why
   4     a file cannot be read
-  5     another fault: of memory, of a write, or of the number of workers
+  5     another fault: of memory, of a write, of the number of workers, or a
+        picture that would be too large
   6     not all runs were visited, and so far there is no cause for status 1
 ";
 
@@ -159,6 +165,39 @@ it stands on.
     1 2 ended succeeded 3
 ";
 
+const PICTURE: &str = "\
+fibers picture F [SCHEDULE]
+
+Makes the run that fibers replay F [SCHEDULE] makes, and draws it in place of a
+report: one text in SVG, which a browser shows.
+
+Each fiber has a lane, with how it is at the end above it, and below it what it
+waits for, if it is blocked. Each queue has one, too. Time goes down: the events
+of all fibers stand in the one order of their stamps, in which each comes below
+those that it stands on. Arrows go from a start to the first event of its fiber,
+from an end to who learns of it, and from a request to who sees it. Bars show
+how long a fiber lives, where its clean-ups run, and what it holds. Where the
+pointer rests on a mark, its line of fibers trace is shown.
+
+A run of more than 20000 events is not drawn; then the status is 5.
+
+    $ echo '(main (start h (pure 1) (cancel h)))' > script
+    $ fibers picture script | grep -c '<title>1 '
+    3
+";
+
+const PICTURE_RUN: &str = "\
+fibers picture-run F WORKERS
+
+Runs the fibers as fibers run F WORKERS does, and draws the run as fibers
+picture does. Of two events of which neither stands on the other the order does
+not say which came first.
+
+    $ echo '(main (start h (pure 1) (cancel h)))' > script
+    $ fibers picture-run script 4 | tail -1
+    </svg>
+";
+
 const EXPLORE: &str = "\
 fibers explore F [MOST] [cancel N] [expect FILE]
 
@@ -242,6 +281,8 @@ pub(super) fn page_on(word: &str) -> Option<&'static str>
         "steps" => Some(STEPS),
         "run" => Some(RUN),
         "record" => Some(RECORD),
+        "picture" => Some(PICTURE),
+        "picture-run" => Some(PICTURE_RUN),
         "explore" => Some(EXPLORE),
         "schedule" => Some(SCHEDULE),
         _ => None,
