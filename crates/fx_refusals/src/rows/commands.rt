@@ -75,8 +75,8 @@ const BLOCKED: Worked = Worked {
 const WAITS: &str = "fiber 1 (line 1, column 28) waits for an element of queue q\n\
     fiber 2 (line 1, column 66) waits for fiber 1 to end\n";
 
-/// Calls that have words for people, or a fault to tell.
-pub static FAULTS: [(Said, Worked); 6] = [
+/// Calls that have words for people, a fault to tell, or a text that no other call prints.
+pub static FAULTS: [(Said, Worked); 7] = [
     (
         Said {
             words: "replay F",
@@ -136,6 +136,15 @@ pub static FAULTS: [(Said, Worked); 6] = [
     ),
     (
         Said {
+            words: "steps F",
+            status: 0,
+            out: Printed::Report,
+            err: "",
+        },
+        TOLD,
+    ),
+    (
+        Said {
             words: "run F 0",
             status: 5,
             out: Printed::Report,
@@ -159,6 +168,17 @@ const SEARCHED: Worked = Worked {
     report: "schedule\nfiber 0 succeeded 0\nfiber 1 blocked\nqueue q left 2\n\n\
             schedule 0 1\nfiber 0 blocked\nfiber 1 succeeded 0\nqueue q left 1\n\n\
             explored: 2 reports, 4 states, complete\n",
+    traces: "",
+};
+
+/// A script with each step of its replay.
+const TOLD: Worked = Worked {
+    name: "told",
+    text: "(main (start h (pure 1) (cancel h)))",
+    counts: "",
+    report: "1 0 1:7 start open start 1\n2 0 1:25 cancel open request 1\n3 1 1:16 pure open seen\n\
+            4 1 1:16 pure open cancelled\n5 1 1:16 pure closed ended canceled\n6 0 1:25 cancel closed awaited 1\n\
+            7 0 1:25 cancel open ended succeeded 0\n",
     traces: "",
 };
 
