@@ -48,8 +48,7 @@ Status  when
   2     other words
   3     the script or the schedule is refused; standard error says where and why
   4     a file cannot be read
-  5     another fault: of memory, of a write, of the number of workers, or a
-        picture that would be too large
+  5     another fault: of memory, a write, the workers, or too large a picture
   6     not all runs were visited, and so far there is no cause for status 1
 ";
 
