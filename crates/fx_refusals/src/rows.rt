@@ -19,11 +19,19 @@ mod worlds;
 use crate::scripts::{NONE, ONE, Printed, TWO, WORKED, Worked};
 use crate::steps::Part;
 use crate::tally::Tally;
+use closed::ClosingCall;
 use commands::{FAULTS, WORDS};
+use fibers::FiberCall;
+use numbers::NumberCall;
+use parts::PartCall;
+use places::PlaceCall;
+use plain::ScriptCall;
+use reports::ReportCall;
 use std::alloc::AllocGlobal;
 use std::random::RandomSource;
 use std::sync::Wait;
 use std::thread::Threads;
+use texts::TextCall;
 use tried::{OnScript, Row, requests};
 
 /// A row in a table: the call, on what, which is left out where it is the script, and the row.
@@ -32,40 +40,36 @@ type Line = (&'static str, &'static str, Row);
 /// Those that are made on no script: of one thread; of what threads share, of what the ports of fibers have, and of what
 /// workers have; and of a call of the kit that does without the memory that it is refused.
 static OF_NONE: [Line; 19] = [
-    ("Masks::enter", "13 regions", Row::Places(places::Of::Enter)),
-    ("Masks::seal", "12 seals", Row::Places(places::Of::Seal)),
-    ("Frames::push", "12 contexts", Row::Places(places::Of::Push)),
+    ("Masks::enter", "13 regions", Row::Places(PlaceCall::Enter)),
+    ("Masks::seal", "12 seals", Row::Places(PlaceCall::Seal)),
+    ("Frames::push", "12 contexts", Row::Places(PlaceCall::Push)),
     (
         "Registers::bind",
         "a number",
-        Row::Numbers(numbers::Of::Bind),
+        Row::Numbers(NumberCall::Bind),
     ),
     (
         "Registers::copied",
         "a number",
-        Row::Numbers(numbers::Of::Copied),
+        Row::Numbers(NumberCall::Copied),
     ),
-    (
-        "Begin::copied",
-        "a number",
-        Row::Numbers(numbers::Of::Begin),
-    ),
-    ("Code::build", "a join", Row::Text(texts::Of::Build)),
-    ("schedule", "7 picks", Row::Text(texts::Of::Schedule)),
-    ("Words::new", "100 fibers", Row::Part(parts::Of::Words)),
-    ("FiberQueue::new", "3 fibers", Row::Part(parts::Of::Queue)),
+    ("Begin::copied", "a number", Row::Numbers(NumberCall::Begin)),
+    ("Code::build", "a join", Row::Text(TextCall::Build)),
+    ("schedule", "7 picks", Row::Text(TextCall::Schedule)),
+    ("Words::new", "100 fibers", Row::Part(PartCall::Words)),
+    ("FiberQueue::new", "3 fibers", Row::Part(PartCall::Queue)),
     (
         "FiberQueue::close",
         "an element",
-        Row::Closed(closed::Of::Queue),
+        Row::Closed(ClosingCall::Queue),
     ),
-    ("open_queues", "2 queues", Row::Part(parts::Of::Queues)),
-    ("close_queues", "2 queues", Row::Closed(closed::Of::Queues)),
-    ("Sources::new", "3 fibers", Row::Part(parts::Of::Sources)),
-    ("Notes::new", "3 fibers", Row::Part(parts::Of::Notes)),
-    ("Tasks::new", "4 workers", Row::Part(parts::Of::Tasks)),
+    ("open_queues", "2 queues", Row::Part(PartCall::Queues)),
+    ("close_queues", "2 queues", Row::Closed(ClosingCall::Queues)),
+    ("Sources::new", "3 fibers", Row::Part(PartCall::Sources)),
+    ("Notes::new", "3 fibers", Row::Part(PartCall::Notes)),
+    ("Tasks::new", "4 workers", Row::Part(PartCall::Tasks)),
     ("Owner::push", "100 tasks", Row::Put),
-    ("solo", "a worker", Row::Part(parts::Of::Solo)),
+    ("solo", "a worker", Row::Part(PartCall::Solo)),
     ("Owner::next", "a steal, which does without", Row::Steal),
 ];
 
@@ -74,17 +78,17 @@ static OF_ONE: [Line; 3] = [
     (
         "Fiber::new",
         "a main fiber",
-        Row::OnScript(OnScript::Plain(fibers::Of::New)),
+        Row::OnScript(OnScript::Plain(FiberCall::New)),
     ),
     (
         "ThreadPort::new",
         "a main fiber",
-        Row::OnScript(OnScript::Threads(fibers::Of::Port)),
+        Row::OnScript(OnScript::Threads(FiberCall::Port)),
     ),
     (
         "compare",
         "a report, which does without",
-        Row::OnScript(OnScript::Text(plain::Of::Compare)),
+        Row::OnScript(OnScript::Text(ScriptCall::Compare)),
     ),
 ];
 
@@ -93,83 +97,83 @@ static OF_TWO: [Line; 2] = [
     (
         "Lot::new",
         "2 fibers",
-        Row::OnScript(OnScript::Plain(fibers::Of::NewLot)),
+        Row::OnScript(OnScript::Plain(FiberCall::NewLot)),
     ),
     (
         "Lot::empty",
         "a fiber",
-        Row::OnScript(OnScript::Plain(fibers::Of::EmptyLot)),
+        Row::OnScript(OnScript::Plain(FiberCall::EmptyLot)),
     ),
 ];
 
 /// Those of each worked script.
 static OF_WORKED: [Line; 17] = [
-    ("parse", "", Row::Text(texts::Of::Parse)),
+    ("parse", "", Row::Text(TextCall::Parse)),
     (
         "PlainWorld::new",
         "",
-        Row::OnScript(OnScript::Plain(fibers::Of::World)),
+        Row::OnScript(OnScript::Plain(FiberCall::World)),
     ),
     (
         "replay",
         "",
-        Row::OnScript(OnScript::Text(plain::Of::Replay)),
+        Row::OnScript(OnScript::Text(ScriptCall::Replay)),
     ),
     (
         "tell_run",
         "",
-        Row::OnScript(OnScript::Text(plain::Of::Tell)),
+        Row::OnScript(OnScript::Text(ScriptCall::Tell)),
     ),
     (
         "write_report",
         "",
-        Row::OnScript(OnScript::Text(plain::Of::Write(Printed::Report))),
+        Row::OnScript(OnScript::Text(ScriptCall::Write(Printed::Report))),
     ),
     (
         "write_trace",
         "",
-        Row::OnScript(OnScript::Text(plain::Of::Write(Printed::Traces))),
+        Row::OnScript(OnScript::Text(ScriptCall::Write(Printed::Traces))),
     ),
-    ("replay_text", "", Row::Text(texts::Of::ReplayText)),
+    ("replay_text", "", Row::Text(TextCall::ReplayText)),
     (
         "Fiber::step over PlainPort",
         "",
-        Row::OnScript(OnScript::Plain(fibers::Of::Steps(Part::Step))),
+        Row::OnScript(OnScript::Plain(FiberCall::Steps(Part::Step))),
     ),
     (
         "Fiber::burst over PlainPort",
         "",
-        Row::OnScript(OnScript::Plain(fibers::Of::Steps(Part::Burst))),
+        Row::OnScript(OnScript::Plain(FiberCall::Steps(Part::Burst))),
     ),
     (
         "gated_turn over PlainPort",
         "",
-        Row::OnScript(OnScript::Plain(fibers::Of::Steps(Part::Turn))),
+        Row::OnScript(OnScript::Plain(FiberCall::Steps(Part::Turn))),
     ),
     (
         "Fiber::step over ThreadPort",
         "",
-        Row::OnScript(OnScript::Threads(fibers::Of::Steps(Part::Step))),
+        Row::OnScript(OnScript::Threads(FiberCall::Steps(Part::Step))),
     ),
     (
         "gated_turn over ThreadPort",
         "",
-        Row::OnScript(OnScript::Threads(fibers::Of::Steps(Part::Turn))),
+        Row::OnScript(OnScript::Threads(FiberCall::Steps(Part::Turn))),
     ),
     (
         "work",
         "",
-        Row::OnScript(OnScript::Threads(fibers::Of::Work)),
+        Row::OnScript(OnScript::Threads(FiberCall::Work)),
     ),
     (
         "report",
         "",
-        Row::OnScript(OnScript::Plain(fibers::Of::Report(reports::Of::Report))),
+        Row::OnScript(OnScript::Plain(FiberCall::Report(ReportCall::Report))),
     ),
     (
         "test_for_lost",
         "",
-        Row::OnScript(OnScript::Plain(fibers::Of::Report(reports::Of::Lost))),
+        Row::OnScript(OnScript::Plain(FiberCall::Report(ReportCall::Lost))),
     ),
     ("run by 1", "", Row::OnScript(OnScript::Run(1))),
     ("run by 4", "", Row::OnScript(OnScript::Run(4))),

@@ -10,7 +10,7 @@ use std::sync::Wait;
 
 /// What is closed.
 #[derive(Clone, Copy)]
-pub enum Of {
+pub enum ClosingCall {
     Queue,
     Queues,
 }
@@ -52,9 +52,9 @@ fn queues_closed<R: Wait>(rt: &R, alloc: Global, refuser: &Refuser) -> Result<An
 }
 
 /// What the call answers.
-pub fn made<R: Wait>(rt: &R, alloc: Global, of: Of, refuser: &Refuser) -> Answer {
+pub fn made<R: Wait>(rt: &R, alloc: Global, of: ClosingCall, refuser: &Refuser) -> Answer {
     match of {
-        Of::Queue => queue_closed(rt, alloc, refuser),
-        Of::Queues => queues_closed(rt, alloc, refuser).unwrap_or(UNSET),
+        ClosingCall::Queue => queue_closed(rt, alloc, refuser),
+        ClosingCall::Queues => queues_closed(rt, alloc, refuser).unwrap_or(UNSET),
     }
 }

@@ -19,7 +19,7 @@ use std::sync::Wait;
 
 /// What is done, and refused memory.
 #[derive(Clone, Copy)]
-pub enum Of {
+pub enum FiberCall {
     /// The world of one thread is made, or the port of a fiber on threads.
     World,
     Port,
@@ -34,12 +34,12 @@ pub enum Of {
     /// A worker that is alone has them go on.
     Work,
     /// They are reported.
-    Report(reports::Of),
+    Report(reports::ReportCall),
 }
 
 /// What a lot answers as it is emptied, in which there is one fiber.
-fn emptied<P: Port + Drop>(alloc: Global, lot: Lot<P>, of: Of, refuser: &Refuser) -> Answer {
-    if let Of::EmptyLot = of {
+fn emptied<P: Port + Drop>(alloc: Global, lot: Lot<P>, of: FiberCall, refuser: &Refuser) -> Answer {
+    if let FiberCall::EmptyLot = of {
         refuser.go_on();
     }
     let fibers = lot.empty(alloc);
@@ -56,12 +56,12 @@ fn lots<R: Wait, P: Port + Drop>(
     alloc: Global,
     total: u32,
     main: Fiber<P>,
-    of: Of,
+    of: FiberCall,
     refuser: &Refuser,
 ) -> Answer
     requires { P.theory.total ≤ total }
 {
-    if let Of::NewLot = of {
+    if let FiberCall::NewLot = of {
         refuser.go_on();
     }
     let lot = Lot::<P>::new(alloc, total);
@@ -101,7 +101,7 @@ fn come_of_main<R: Wait + RandomSource + AllocGlobal, P: Port + Drop>(
     given: &Given,
     main: Fiber<P>,
     shared: &mut P::Shared,
-    of: Of,
+    of: FiberCall,
     trial: &Trial,
 ) -> Answer
     requires code { given.now.script.code.nodes ≡ P.theory.code }
@@ -110,11 +110,13 @@ fn come_of_main<R: Wait + RandomSource + AllocGlobal, P: Port + Drop>(
 {
     let total = main_begin(alloc, &given.script.code).end;
     match of {
-        Of::World | Of::Port | Of::New => whole_where(main.trace().is_empty() && main.id() == 0),
-        Of::NewLot | Of::EmptyLot => lots(rt, alloc, total, main, of, &trial.refuser),
-        Of::Steps(part) => steps(alloc, given, part, main, shared, trial),
-        Of::Work => works(rt, alloc, total, given, main, shared, &trial.refuser),
-        Of::Report(of) => reports::made(alloc, given, main, shared, of, trial),
+        FiberCall::World | FiberCall::Port | FiberCall::New => whole_where(
+            main.trace().is_empty() && main.id() == 0,
+        ),
+        FiberCall::NewLot | FiberCall::EmptyLot => lots(rt, alloc, total, main, of, &trial.refuser),
+        FiberCall::Steps(part) => steps(alloc, given, part, main, shared, trial),
+        FiberCall::Work => works(rt, alloc, total, given, main, shared, &trial.refuser),
+        FiberCall::Report(of) => reports::made(alloc, given, main, shared, of, trial),
     }
 }
 
@@ -125,7 +127,7 @@ pub fn come_of<R: Wait + RandomSource + AllocGlobal, P: Port + Drop>(
     given: &Given,
     port: P,
     shared: &mut P::Shared,
-    of: Of,
+    of: FiberCall,
     trial: &Trial,
 ) -> Answer
     requires code { given.now.script.code.nodes ≡ P.theory.code }
@@ -134,7 +136,7 @@ pub fn come_of<R: Wait + RandomSource + AllocGlobal, P: Port + Drop>(
     requires fresh { P.theory.agrees port [] }
     requires may { (id : ℕ) → P.theory.may id ≡ true }
 {
-    if let Of::New = of {
+    if let FiberCall::New = of {
         trial.refuser.go_on();
     }
     let main = Fiber::new(alloc, &given.script.code, port);

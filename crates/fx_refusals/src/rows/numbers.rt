@@ -7,7 +7,7 @@ use std::alloc::Global;
 
 /// Which call is refused memory.
 #[derive(Clone, Copy)]
-pub enum Of {
+pub enum NumberCall {
     Bind,
     Copied,
     Begin,
@@ -54,11 +54,11 @@ fn begun(alloc: Global, refuser: &Refuser) -> Result<bool, Memory> {
 }
 
 /// What the call answers. What is made of it is looked at and let go without a request.
-pub fn made(alloc: Global, of: Of, refuser: &Refuser) -> Answer {
+pub fn made(alloc: Global, of: NumberCall, refuser: &Refuser) -> Answer {
     let is_whole = match of {
-        Of::Bind => return bound(alloc, refuser),
-        Of::Copied => copied(alloc, refuser),
-        Of::Begin => begun(alloc, refuser),
+        NumberCall::Bind => return bound(alloc, refuser),
+        NumberCall::Copied => copied(alloc, refuser),
+        NumberCall::Begin => begun(alloc, refuser),
     };
     refuser.hold();
     match is_whole {

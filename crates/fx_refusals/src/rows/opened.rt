@@ -7,7 +7,7 @@ ghost use Rattle.fx_word.specs.Words.{IsOf};
 
 use crate::given::Given;
 use crate::harness::{Answer, Trial, UNSET};
-use crate::rows::fibers::{Of, come_of};
+use crate::rows::fibers::{FiberCall, come_of};
 use fx_fiber::main_begin;
 use fx_port::{Notes, Passes, RunBrand, Sources, ThreadPort, open_queues};
 use fx_queue::FiberQueue;
@@ -69,7 +69,7 @@ pub fn made<R: Wait + RandomSource + AllocGlobal>(
     rt: &R,
     alloc: Global,
     given: &Given,
-    of: Of,
+    of: FiberCall,
     trial: &Trial,
 ) -> Answer {
     let fibers = main_begin(alloc, &given.script.code).end;
@@ -88,7 +88,7 @@ fn made_as<N: RunBrand, R: Wait + RandomSource + AllocGlobal>(
     alloc: Global,
     given: &Given,
     opened: Opened,
-    of: Of,
+    of: FiberCall,
     trial: &Trial,
 ) -> Answer
     requires code { given.now.script.code.nodes ≡ N.nodes }
@@ -108,7 +108,7 @@ fn made_as<N: RunBrand, R: Wait + RandomSource + AllocGlobal>(
     } = opened;
     match Notes::<N>::new(alloc, words.fibers()) {
         Ok(mut notes) => {
-            if let Of::Port = of {
+            if let FiberCall::Port = of {
                 trial.refuser.go_on();
             }
             let port = ThreadPort::<R, N>::new(rt, alloc, &words, &queues, &sources, seat, passes);

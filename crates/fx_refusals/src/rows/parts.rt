@@ -14,7 +14,7 @@ use std::random::RandomSource;
 
 /// Which call is refused memory.
 #[derive(Clone, Copy)]
-pub enum Of {
+pub enum PartCall {
     Words,
     Queue,
     Queues,
@@ -90,18 +90,18 @@ fn bell<R: RandomSource + AllocGlobal>(rt: &R) -> Result<bool, Memory> {
 pub fn made<R: RandomSource + AllocGlobal>(
     rt: &R,
     alloc: Global,
-    of: Of,
+    of: PartCall,
     refuser: &Refuser,
 ) -> Answer {
     refuser.go_on();
     let is_whole = match of {
-        Of::Words => words(alloc),
-        Of::Queue => queue(alloc),
-        Of::Queues => queues(alloc),
-        Of::Sources => sources(alloc),
-        Of::Notes => notes(alloc),
-        Of::Tasks => tasks(alloc),
-        Of::Solo => bell(rt),
+        PartCall::Words => words(alloc),
+        PartCall::Queue => queue(alloc),
+        PartCall::Queues => queues(alloc),
+        PartCall::Sources => sources(alloc),
+        PartCall::Notes => notes(alloc),
+        PartCall::Tasks => tasks(alloc),
+        PartCall::Solo => bell(rt),
     };
     refuser.hold();
     match is_whole {

@@ -12,24 +12,24 @@ const MANY: u32 = 12;
 
 /// Which call is refused memory.
 #[derive(Clone, Copy)]
-pub enum Of {
+pub enum PlaceCall {
     Enter,
     Seal,
     Push,
 }
 
 /// Has the calls tried.
-pub fn tried(alloc: Global, of: Of, trial: &Trial) -> Answer {
+pub fn tried(alloc: Global, of: PlaceCall, trial: &Trial) -> Answer {
     match of {
-        Of::Enter => trial.of(&mut Entering {
+        PlaceCall::Enter => trial.of(&mut Entering {
             masks: Masks::new(alloc),
             entered: 0,
         }),
-        Of::Seal => trial.of(&mut Sealing {
+        PlaceCall::Seal => trial.of(&mut Sealing {
             masks: Masks::new(alloc),
             seals: 0,
         }),
-        Of::Push => trial.of(&mut Pushing {
+        PlaceCall::Push => trial.of(&mut Pushing {
             frames: Frames::new(alloc),
             pushed: 0,
         }),

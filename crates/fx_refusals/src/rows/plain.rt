@@ -16,7 +16,7 @@ use std::alloc::Global;
 
 /// Which call is refused memory.
 #[derive(Clone, Copy)]
-pub enum Of {
+pub enum ScriptCall {
     Replay,
     /// The run of a replay is told step by step.
     Tell,
@@ -136,11 +136,17 @@ fn written(
 }
 
 /// What the call answers.
-pub fn made(alloc: Global, given: &Given, on: &Worked, of: Of, refuser: &Refuser) -> Answer {
+pub fn made(
+    alloc: Global,
+    given: &Given,
+    on: &Worked,
+    of: ScriptCall,
+    refuser: &Refuser,
+) -> Answer {
     match of {
-        Of::Replay => replays(alloc, given, on.report, refuser),
-        Of::Tell => tells(alloc, given, refuser),
-        Of::Compare => compares(alloc, given, on.report, refuser),
-        Of::Write(printed) => written(alloc, given, on, printed, refuser),
+        ScriptCall::Replay => replays(alloc, given, on.report, refuser),
+        ScriptCall::Tell => tells(alloc, given, refuser),
+        ScriptCall::Compare => compares(alloc, given, on.report, refuser),
+        ScriptCall::Write(printed) => written(alloc, given, on, printed, refuser),
     }
 }

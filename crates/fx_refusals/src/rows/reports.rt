@@ -20,7 +20,7 @@ use std::alloc::Global;
 
 /// Which call is refused memory.
 #[derive(Clone, Copy)]
-pub enum Of {
+pub enum ReportCall {
     Report,
     Lost,
 }
@@ -121,7 +121,7 @@ pub fn made<P: Port + Drop>(
     given: &Given,
     main: Fiber<P>,
     shared: &mut P::Shared,
-    of: Of,
+    of: ReportCall,
     trial: &Trial,
 ) -> Answer
     requires { given.now.script.code.nodes ≡ P.theory.code }
@@ -134,7 +134,7 @@ pub fn made<P: Port + Drop>(
         return UNSET;
     };
     match of {
-        Of::Report => told(alloc, script, bares, &given.report, &trial.refuser),
-        Of::Lost => tested(alloc, script, &bares, &trial.refuser),
+        ReportCall::Report => told(alloc, script, bares, &given.report, &trial.refuser),
+        ReportCall::Lost => tested(alloc, script, &bares, &trial.refuser),
     }
 }

@@ -11,7 +11,7 @@ use std::alloc::Global;
 
 /// Which call is refused memory.
 #[derive(Clone, Copy)]
-pub enum Of {
+pub enum TextCall {
     Parse,
     ReplayText,
     Schedule,
@@ -100,11 +100,11 @@ fn replays(alloc: Global, worked: &Worked, refuser: &Refuser) -> Answer {
 }
 
 /// What the call answers.
-pub fn made(alloc: Global, worked: &Worked, of: Of, refuser: &Refuser) -> Answer {
+pub fn made(alloc: Global, worked: &Worked, of: TextCall, refuser: &Refuser) -> Answer {
     match of {
-        Of::Parse => parsed(alloc, worked, refuser),
-        Of::ReplayText => replays(alloc, worked, refuser),
-        Of::Schedule => scheduled(alloc, refuser),
-        Of::Build => built(alloc, refuser),
+        TextCall::Parse => parsed(alloc, worked, refuser),
+        TextCall::ReplayText => replays(alloc, worked, refuser),
+        TextCall::Schedule => scheduled(alloc, refuser),
+        TextCall::Build => built(alloc, refuser),
     }
 }

@@ -18,15 +18,15 @@ const MOST_REQUESTS: u32 = 4000;
 /// A row: one call or several.
 #[derive(Clone, Copy)]
 pub enum Row {
-    Places(places::Of),
+    Places(places::PlaceCall),
     /// Tasks are put into a deque.
     Put,
     /// A task is stolen, with as many others as there is room for.
     Steal,
-    Numbers(numbers::Of),
-    Part(parts::Of),
-    Closed(closed::Of),
-    Text(texts::Of),
+    Numbers(numbers::NumberCall),
+    Part(parts::PartCall),
+    Closed(closed::ClosingCall),
+    Text(texts::TextCall),
     OnScript(OnScript),
     /// The program, called by words.
     Command(&'static Said),
@@ -36,11 +36,11 @@ pub enum Row {
 #[derive(Clone, Copy)]
 pub enum OnScript {
     /// A call that goes from the script to a text.
-    Text(plain::Of),
+    Text(plain::ScriptCall),
     /// What fibers of one thread do.
-    Plain(fibers::Of),
+    Plain(fibers::FiberCall),
     /// What fibers of several threads do, on one.
-    Threads(fibers::Of),
+    Threads(fibers::FiberCall),
     /// A run by so many workers.
     Run(u32),
 }
@@ -51,7 +51,7 @@ impl Row {
     fn does_without(self) -> bool {
         matches!(
             self,
-            Row::Steal | Row::OnScript(OnScript::Text(plain::Of::Compare))
+            Row::Steal | Row::OnScript(OnScript::Text(plain::ScriptCall::Compare))
         )
     }
 }

@@ -3,7 +3,7 @@ ghost use Rattle.std.specs.Prelude.{◌≡◌};
 
 use crate::given::Given;
 use crate::harness::{Answer, OTHER, Trial};
-use crate::rows::fibers::{Of, come_of};
+use crate::rows::fibers::{FiberCall, come_of};
 use fx_plain::PlainWorld;
 use fx_term::{CodeBrand, Memory};
 use std::alloc::{AllocGlobal, Global};
@@ -16,7 +16,7 @@ pub fn made<R: Wait + RandomSource + AllocGlobal>(
     rt: &R,
     alloc: Global,
     given: &Given,
-    of: Of,
+    of: FiberCall,
     trial: &Trial,
 ) -> Answer {
     made_as::<Brand, R>(rt, alloc, given, of, trial)
@@ -27,12 +27,12 @@ fn made_as<J: CodeBrand, R: Wait + RandomSource + AllocGlobal>(
     rt: &R,
     alloc: Global,
     given: &Given,
-    of: Of,
+    of: FiberCall,
     trial: &Trial,
 ) -> Answer
     requires { given.now.script.code.nodes ≡ J.nodes }
 {
-    if let Of::World = of {
+    if let FiberCall::World = of {
         trial.refuser.go_on();
     }
     let world = PlainWorld::new::<J>(alloc, &given.script);
