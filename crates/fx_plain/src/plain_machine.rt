@@ -237,6 +237,8 @@ impl<J: CodeBrand> PlainMachine<J> {
     }
 
     /// Who makes the next step: the fiber that is given, or else the least one that is ready.
+    // (what tells a run calls it too, and then LLVM lays it into the loop of a replay by this hint alone)
+    #[inline(always)]
     fn chosen(&mut self, only: Option<u32>) -> Option<u32>
         ensures only { IfSome only (λ f. result ≡ Some f) }
         ensures least { IfNone only (IsLeastOf (is_ready_in self.old.world) result) }

@@ -432,6 +432,7 @@ impl PlainWorld {
     }
 
     /// The least number of a fiber that is ready. It searches for it only where it is not known.
+    #[inline(always)]
     pub fn least(&mut self) -> Option<u32>
         ensures least { IsLeastOf (is_ready_in self.old) result }
         ensures same { self.new ≡ self.old }
