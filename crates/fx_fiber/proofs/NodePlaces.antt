@@ -1,6 +1,6 @@
 -- Where a machine stands, from the leaf below it or what stands inside all contexts.
 use Rattle.std.proofs.Common.{◌≡◌, ℕ, false, Option, Some, None, List, [], length, refl, sym, ◌∙◌, ap}
-use Rattle.std.specs.Prelude.{slice_get}
+use Rattle.std.specs.Prelude.{MatchOption, slice_get}
 use Rattle.fx_term.specs.declared.node.NodeId.{NodeId}
 use Rattle.fx_term.specs.declared.node.Node.{Node}
 use Rattle.fx_term.specs.declared.done.Done.{Done}
@@ -26,6 +26,13 @@ use Rattle.fx_fiber.proofs.Contexts.{leaf_within, closed_within, open_within, cl
 use Rattle.fx_fiber.proofs.Leaves.{inner_at, leaf_here}
 use Rattle.fx_fiber.proofs.Nodes.{leaf_of_node, loop_term, progress_is}
 use Rattle.fx_fiber.proofs.Rules.{IsLeafTerm, result_term}
+
+-- the place of a node with these numbers for its names is one with some
+pub with_some_numbers : (nodes : List Node) (numbers : List ℕ) (leaf : Option Term) (node : Option NodeId)
+    → MatchOption node (HasNoNode leaf) (IsPlaceOf nodes numbers leaf)
+    → MatchOption node (HasNoNode leaf) (λ id. (others : List ℕ) × IsPlaceOf nodes others leaf id)
+with_some_numbers nodes numbers leaf None none = none
+with_some_numbers nodes numbers leaf (Some id) place = (numbers, place)
 
 module _ (nodes : List Node) (s : Machine) (sound : IsSoundMachine nodes s) where
   -- the place of a leaf is open where nothing is closed inside the contexts

@@ -8,6 +8,7 @@ use Rattle.fx_term.specs.Term.{Term}
 use Rattle.fx_model.specs.Step.{leaf_at}
 use Rattle.fx_fiber.specs.Fiber.{progress}
 use Rattle.fx_fiber.specs.NodePlaces.{IsPlaceOf, HasNoNode}
+use Rattle.fx_fiber.proofs.NodePlaces.{with_some_numbers}
 use Rattle.fx_report.specs.declared.blocked.Blocked.{Blocked}
 use Rattle.fx_plain.specs.Started.{StartedView}
 use Rattle.fx_plain.specs.declared.plain_machine.PlainMachine.{PlainMachine}
@@ -17,7 +18,7 @@ use Rattle.fx_plain.specs.PlainMachine.{StandsForRun}
 use Rattle.fx_plain.specs.ToldRun.{leaf_of}
 use Rattle.fx_plain.specs.Standing.{IsNodeAt, StandsIn, StandsAt}
 use Rattle.fx_plain.specs.Waits.{source_of_fiber}
-use Rattle.fx_plain.proofs.ToldSteps.{some_numbers, is_held}
+use Rattle.fx_plain.proofs.ToldSteps.{is_held}
 
 module _ {J : Type 0} (nodes : List Node) (s : ScriptView) (p : PlainMachine J) (m : WholeMachine) (so : StandsForRun nodes s p m) where
   -- one that waits for something has started
@@ -31,5 +32,5 @@ module _ {J : Type 0} (nodes : List Node) (s : ScriptView) (p : PlainMachine J) 
           let far : progress nodes v.view.fiber ≡ x.progress = ap (λ (h : HeldFiber). h.progress) v.is in
           subst (λ (leaf : Option Term). MatchOption b.node (HasNoNode leaf) (λ id. (numbers : List ℕ) × IsPlaceOf nodes numbers leaf id))
           (ap leaf_at far ∙ sym (ap leaf_of at))
-          (some_numbers nodes v.view.fiber.registers (leaf_at (progress nodes v.view.fiber)) b.node
+          (with_some_numbers nodes v.view.fiber.registers (leaf_at (progress nodes v.view.fiber)) b.node
           (subst (λ (z : Option (StartedView J)). IsNodeAt nodes z b.node) v.at here))

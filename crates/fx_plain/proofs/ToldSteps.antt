@@ -13,6 +13,7 @@ use Rattle.fx_model.specs.Step.{Progress, Runs, Unwinds, CleansUp, HasEnded, has
 use Rattle.fx_model.proofs.Runs.{events_append}
 use Rattle.fx_fiber.specs.Fiber.{progress}
 use Rattle.fx_fiber.specs.NodePlaces.{is_open_at, IsPlaceOf, HasNoNode}
+use Rattle.fx_fiber.proofs.NodePlaces.{with_some_numbers}
 use Rattle.fx_text.specs.declared.pick.Pick.{Pick}
 use Rattle.fx_text.specs.declared.pick.Pick.TheVariants as pick
 use Rattle.fx_plain.specs.declared.passed.Why.{Why}
@@ -60,12 +61,6 @@ ended_has_none (Runs t) e = absurd cc
 ended_has_none (Unwinds rest) e = absurd cc
 ended_has_none (CleansUp k t rest) e = absurd cc
 
-pub some_numbers : (nodes : List Node) (numbers : List ℕ) (leaf : Option Term) (node : Option NodeId)
-    → MatchOption node (HasNoNode leaf) (IsPlaceOf nodes numbers leaf)
-    → MatchOption node (HasNoNode leaf) (λ id. (numbers : List ℕ) × IsPlaceOf nodes numbers leaf id)
-some_numbers nodes numbers leaf None h = h
-some_numbers nodes numbers leaf (Some id) h = (numbers, h)
-
 module _ {J : Type 0} (nodes : List Node) (s : ScriptView) where
   -- the fiber of a machine that a fiber of the whole machine is
   pub record IsHeld (p : PlainMachine J) (f : ℕ) (x : StartedFiber) : Type 0 where
@@ -104,7 +99,7 @@ module _ {J : Type 0} (nodes : List Node) (s : ScriptView) where
             (λ id. (numbers : List ℕ) × IsPlaceOf nodes numbers (leaf_of (m.fibers f)) id) = subst
             (λ (leaf : Option Term). MatchOption before.node (HasNoNode leaf) (λ id. (numbers : List ℕ) × IsPlaceOf nodes numbers leaf id))
             (ap leaf_at progress_is ∙ sym (ap leaf_of made.steps.started))
-            (some_numbers nodes v.view.fiber.registers (leaf_at (progress nodes v.view.fiber)) before.node here.node) in
+            (with_some_numbers nodes v.view.fiber.registers (leaf_at (progress nodes v.view.fiber)) before.node here.node) in
             let is_open : before.is_open ≡ is_open_of (m.fibers f) = here.is_open ∙ ap is_open_at progress_is ∙ sym (ap is_open_of made.steps.started) in
             let event : shown_at (at_number nodes p' f) before.shown ≡ shown_by l =
             ap (λ (z : Option (StartedView J)). shown_at z before.shown) v'.at ∙ ap (λ (es : List Event). slice_get es before.shown) traces'

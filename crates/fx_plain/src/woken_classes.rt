@@ -98,6 +98,7 @@ impl WokenClasses {
     }
 
     /// The least number of a fiber that is ready, where the queues are these.
+    #[inline(always)]
     pub fn least(&self, queues: &[PlainQueue]) -> Option<u32>
         requires { length queues.now ≡ self.now.queues }
         ensures { IsLeastOf (λ f. is_ready (have_room queues.now) (have_element queues.now)

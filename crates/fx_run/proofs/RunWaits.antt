@@ -20,6 +20,7 @@ use Rattle.fx_model.proofs.QueueNames.{ProgressNamesBelow, run_starts_named, run
 use Rattle.fx_model.proofs.BlockedFibers.{source_at, HasEndedOrWaits, has_ended_or_waits}
 use Rattle.fx_fiber.specs.Bare.{BareView, reached}
 use Rattle.fx_fiber.specs.NodePlaces.{IsPlaceOf, HasNoNode}
+use Rattle.fx_fiber.proofs.NodePlaces.{with_some_numbers}
 use Rattle.fx_report.specs.declared.blocked.Blocked.{Blocked}
 use Rattle.fx_report.specs.declared.wait.Wait.{Wait}
 use Rattle.fx_report.specs.Waits.{WaitsAtQueueBelow}
@@ -38,13 +39,6 @@ pub one_more : (bares : List BareView) (k : ℕ) (x : BareView) → k < length b
 one_more bares k x lt e =
     ap all_waits (take_more bares k x lt) ∙ filter_map-append wait_of (take k bares) (slice_index_or bares k x ∷ [])
     ∙ ap (λ (y : BareView). all_waits (take k bares) ++ cons_option (wait_of y) []) (sym e)
-
--- a node with these numbers for its names is one with some
-with_some_numbers : (nodes : List Node) (numbers : List ℕ) (leaf : Option Term) (node : Option NodeId)
-    → MatchOption node (HasNoNode leaf) (IsPlaceOf nodes numbers leaf)
-    → MatchOption node (HasNoNode leaf) (λ id. (others : List ℕ) × IsPlaceOf nodes others leaf id)
-with_some_numbers nodes numbers leaf None h = h
-with_some_numbers nodes numbers leaf (Some id) h = (numbers, h)
 
 abbrev Stands : BareView → Type 0
 Stands x = HasEndedOrWaits (source_at (reached x)) (has_ended (reached x))
