@@ -20,7 +20,7 @@ use crate::stream::Stream;
 use crate::told_text::format_told;
 use fx_findings::{Compared, compare, explore, explored_status, format_explored};
 use fx_places::{FormPlace, positions};
-use fx_plain::{Halt, replay_to_halt, tell_run};
+use fx_plain::{Replayed, replay_to_halt, tell_run};
 use fx_report::{Blocked, ENDED, format_report, format_traces, format_waits, status_after};
 use fx_run::run_to_halt;
 use fx_sched::Free;
@@ -88,18 +88,18 @@ pub(crate) fn format_words(
     alloc: Global,
     script: &Script,
     places: &[FormPlace],
-    halt: &Halt,
+    replayed: &Replayed,
 ) -> Result<String, AllocError>
     requires blocked { All (IsBlockedAtQueueBelow (length (queue_names (meaning script.now))))
-        halt.now.blocked.items }
-    requires passed { IfSome halt.now.passed (λ told.
+        replayed.now.halt.blocked.items }
+    requires passed { IfSome replayed.now.passed (λ told.
         IsWhyAtQueueBelow (length (queue_names (meaning script.now))) told.first.why) }
     ensures { IfOk result (λ text. string_bytes text
-        ≡ replay_words (queue_names (meaning script.now)) halt.now.passed (positions_of places.now)
-        halt.now.blocked.items) }
+        ≡ replay_words (queue_names (meaning script.now)) replayed.now.passed (positions_of places.now)
+        replayed.now.halt.blocked.items) }
 {
-    let mut words = format_passed(alloc, script, halt.passed)?;
-    let waits = format_blocked(alloc, script, places, &halt.blocked)?;
+    let mut words = format_passed(alloc, script, replayed.passed)?;
+    let waits = format_blocked(alloc, script, places, &replayed.halt.blocked)?;
     words.push_str(&waits)?;
     Ok(words)
 }
@@ -117,13 +117,13 @@ fn report<'a, W: Write>(
     ensures { (expected : List ℕ) → Performs command.Replay source.now (meaning script.now) picks.now
         expected result out.old out.new }
 {
-    let halt = replay_to_halt(alloc, script, picks)?;
-    let places = places_of_blocked(alloc, script, source, &halt.blocked)?;
-    let words = format_words(alloc, script, &places, &halt)?;
-    let text = format_report(alloc, script, &halt.report)?;
+    let replayed = replay_to_halt(alloc, script, picks)?;
+    let places = places_of_blocked(alloc, script, source, &replayed.halt.blocked)?;
+    let words = format_words(alloc, script, &places, &replayed)?;
+    let text = format_report(alloc, script, &replayed.halt.report)?;
     out.write(&text)?;
     Ok(Performed {
-        status: status_after(&halt.report),
+        status: status_after(&replayed.halt.report),
         words,
     })
 }
@@ -141,13 +141,13 @@ fn trace<'a, W: Write>(
     ensures { (expected : List ℕ) → Performs command.Trace source.now (meaning script.now) picks.now
         expected result out.old out.new }
 {
-    let halt = replay_to_halt(alloc, script, picks)?;
-    let places = places_of_blocked(alloc, script, source, &halt.blocked)?;
-    let words = format_words(alloc, script, &places, &halt)?;
-    let text = format_traces(alloc, script, &halt.report)?;
+    let replayed = replay_to_halt(alloc, script, picks)?;
+    let places = places_of_blocked(alloc, script, source, &replayed.halt.blocked)?;
+    let words = format_words(alloc, script, &places, &replayed)?;
+    let text = format_traces(alloc, script, &replayed.halt.report)?;
     out.write(&text)?;
     Ok(Performed {
-        status: status_after(&halt.report),
+        status: status_after(&replayed.halt.report),
         words,
     })
 }
@@ -165,14 +165,14 @@ fn steps<'a, W: Write>(
     ensures { (expected : List ℕ) → Performs command.Steps source.now (meaning script.now) picks.now
         expected result out.old out.new }
 {
-    let halt = replay_to_halt(alloc, script, picks)?;
+    let replayed = replay_to_halt(alloc, script, picks)?;
     let places = places_in(alloc, script, source)?;
-    let words = format_words(alloc, script, &places, &halt)?;
+    let words = format_words(alloc, script, &places, &replayed)?;
     let told = tell_run(alloc, script, picks)?;
     let text = format_told(alloc, script, &places, &told)?;
     out.write(&text)?;
     Ok(Performed {
-        status: status_after(&halt.report),
+        status: status_after(&replayed.halt.report),
         words,
     })
 }

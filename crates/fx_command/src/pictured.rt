@@ -95,10 +95,10 @@ pub(crate) fn picture<'a, W: Write>(
     ensures { (expected : List ℕ) → Performs command.Picture source.now (meaning script.now) picks.now
         expected result out.old out.new }
 {
-    let halt = replay_to_halt(alloc, script, picks)?;
-    let places = places_of_blocked(alloc, script, source, &halt.blocked)?;
-    let words = format_words(alloc, script, &places, &halt)?;
-    let drawn = drawn_of(alloc, script, &halt.report, &halt.blocked, words)?;
+    let replayed = replay_to_halt(alloc, script, picks)?;
+    let places = places_of_blocked(alloc, script, source, &replayed.halt.blocked)?;
+    let words = format_words(alloc, script, &places, &replayed)?;
+    let drawn = drawn_of(alloc, script, &replayed.halt.report, &replayed.halt.blocked, words)?;
     out.write(&drawn.text)?;
     Ok(Performed {
         status: drawn.status,

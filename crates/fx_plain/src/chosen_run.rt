@@ -16,18 +16,17 @@ ghost use Rattle.fx_report.specs.Waits.{IsBlockedAtQueueBelow};
 use crate::passed::{PassedOver, told_after};
 use crate::plain_machine::PlainMachine;
 use fx_fiber::Report;
-use fx_report::Blocked;
+use fx_report::Halt;
 use fx_term::{CodeBrand, Memory};
 use fx_text::{Pick, Script};
 use std::alloc::Global;
 use std::marker::Brand;
 
-/// What there is once no fiber of a run can step any more: the report, what each fiber waits for that is
-/// blocked and where it stands, in the report's order, and what is told of the picks that were passed over.
+/// What there is once the run that the picks choose has halted, and what is told of the picks that were
+/// passed over.
 #[derive(Drop)]
-pub struct Halt {
-    pub report: Report,
-    pub blocked: Vec<Blocked>,
+pub struct Replayed {
+    pub halt: Halt,
     pub passed: Option<PassedOver>,
 }
 
@@ -36,21 +35,21 @@ fn replay_named<J: CodeBrand>(
     alloc: Global,
     script: &Script,
     picks: &[Pick],
-) -> Result<Halt, Memory>
+) -> Result<Replayed, Memory>
     requires code { script.now.code.nodes ≡ J.nodes }
-    ensures replayed { IfOk result (λ halt. IsReplayWithBlocked script.now.code.nodes
-        (script_of (meaning script.now)) picks.now halt.report halt.blocked.items) }
+    ensures replayed { IfOk result (λ it. IsReplayWithBlocked script.now.code.nodes
+        (script_of (meaning script.now)) picks.now it.halt.report it.halt.blocked.items) }
     ensures promised { IfOk result
-        (λ halt. KeepsWhatIsPromised (script_of (meaning script.now)) (λ f. true) halt.report) }
+        (λ it. KeepsWhatIsPromised (script_of (meaning script.now)) (λ f. true) it.halt.report) }
     ensures writable { script.now.code.queues ≤ length script.now.queues.items
-        → IfOk result (λ halt. IsWritable (queue_names (meaning script.now)) halt.report) }
+        → IfOk result (λ it. IsWritable (queue_names (meaning script.now)) it.halt.report) }
     ensures named { script.now.code.queues ≤ length script.now.queues.items
-        → IfOk result (λ halt. All
-        (IsBlockedAtQueueBelow (length (queue_names (meaning script.now)))) halt.blocked.items) }
+        → IfOk result (λ it. All
+        (IsBlockedAtQueueBelow (length (queue_names (meaning script.now)))) it.halt.blocked.items) }
     ensures passed { IfOk result
-        (λ halt. TellsPassed (script_of (meaning script.now)) picks.now halt.passed) }
+        (λ it. TellsPassed (script_of (meaning script.now)) picks.now it.passed) }
     ensures passed_named { script.now.code.queues ≤ length script.now.queues.items
-        → IfOk result (λ halt. IfSome halt.passed (λ told.
+        → IfOk result (λ it. IfSome it.passed (λ told.
         IsWhyAtQueueBelow (length (queue_names (meaning script.now))) told.first.why)) }
 {
     let mut machine: PlainMachine<J> = PlainMachine::opening(alloc, script)?;
@@ -63,9 +62,8 @@ fn replay_named<J: CodeBrand>(
     let waits = machine.waits(alloc, &script.code)?;
     let blocked = machine.all_blocked(alloc, &script.code, &waits)?;
     let report = machine.into_report(alloc)?;
-    Ok(Halt {
-        report,
-        blocked,
+    Ok(Replayed {
+        halt: Halt { report, blocked },
         passed,
     })
 }
@@ -73,20 +71,20 @@ fn replay_named<J: CodeBrand>(
 /// The report of the run that the picks choose, as [`replay`] gives it, what its blocked fibers wait for
 /// and where they stand, and what is told of the picks that were passed over. The writers take all three
 /// where the code names no queue that is not declared.
-pub fn replay_to_halt(alloc: Global, script: &Script, picks: &[Pick]) -> Result<Halt, Memory>
-    ensures replayed { IfOk result (λ halt. IsReplayWithBlocked script.now.code.nodes
-        (script_of (meaning script.now)) picks.now halt.report halt.blocked.items) }
+pub fn replay_to_halt(alloc: Global, script: &Script, picks: &[Pick]) -> Result<Replayed, Memory>
+    ensures replayed { IfOk result (λ it. IsReplayWithBlocked script.now.code.nodes
+        (script_of (meaning script.now)) picks.now it.halt.report it.halt.blocked.items) }
     ensures promised { IfOk result
-        (λ halt. KeepsWhatIsPromised (script_of (meaning script.now)) (λ f. true) halt.report) }
+        (λ it. KeepsWhatIsPromised (script_of (meaning script.now)) (λ f. true) it.halt.report) }
     ensures writable { script.now.code.queues ≤ length script.now.queues.items
-        → IfOk result (λ halt. IsWritable (queue_names (meaning script.now)) halt.report) }
+        → IfOk result (λ it. IsWritable (queue_names (meaning script.now)) it.halt.report) }
     ensures named { script.now.code.queues ≤ length script.now.queues.items
-        → IfOk result (λ halt. All
-        (IsBlockedAtQueueBelow (length (queue_names (meaning script.now)))) halt.blocked.items) }
+        → IfOk result (λ it. All
+        (IsBlockedAtQueueBelow (length (queue_names (meaning script.now)))) it.halt.blocked.items) }
     ensures passed { IfOk result
-        (λ halt. TellsPassed (script_of (meaning script.now)) picks.now halt.passed) }
+        (λ it. TellsPassed (script_of (meaning script.now)) picks.now it.passed) }
     ensures passed_named { script.now.code.queues ≤ length script.now.queues.items
-        → IfOk result (λ halt. IfSome halt.passed (λ told.
+        → IfOk result (λ it. IfSome it.passed (λ told.
         IsWhyAtQueueBelow (length (queue_names (meaning script.now))) told.first.why)) }
 {
     replay_named::<Brand>(alloc, script, picks)
@@ -112,6 +110,6 @@ pub fn replay(alloc: Global, script: &Script, picks: &[Pick]) -> Result<Report, 
     ensures writable { script.now.code.queues ≤ length script.now.queues.items
         → IfOk result (λ report. IsWritable (queue_names (meaning script.now)) report) }
 {
-    let halt = replay_to_halt(alloc, script, picks)?;
-    Ok(halt.report)
+    let replayed = replay_to_halt(alloc, script, picks)?;
+    Ok(replayed.halt.report)
 }

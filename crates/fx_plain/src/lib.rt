@@ -83,7 +83,7 @@ mod told_run;
 mod waiter_blocks;
 mod woken_classes;
 
-pub use chosen_run::{Halt, replay, replay_to_halt};
+pub use chosen_run::{Replayed, replay, replay_to_halt};
 pub use fx_report::{
     AnswerFault as PlainFault, BLOCKED, ENDED, MOST_OF_SCRIPT, OutFault, REFUSED, Wait,
     format_refusal, format_waits, read_text, status_after, write_report, write_text, write_trace,

@@ -12,7 +12,7 @@ ghost use Rattle.fx_plain.specs.ToldWay.{IsBeforeStep};
 use crate::plain_port::PlainPort;
 use crate::plain_world::PlainWorld;
 use fx_fiber::{Fiber, FiberReport, State, Stepped};
-use fx_report::Wait;
+use fx_report::{Wait, state_at_halt};
 use fx_term::{Code, CodeBrand, Event, Memory, NodeId, Stamped};
 use std::marker::Model;
 use std::snapshot::Snapshot;
@@ -201,11 +201,7 @@ impl<J: CodeBrand> Started<J> {
             Stage::Going(fiber) => FiberReport {
                 id: fiber.id(),
                 parent,
-                state: if fiber.has_ended() {
-                    State::Ended
-                } else {
-                    State::Blocked
-                },
+                state: state_at_halt(fiber.has_ended()),
                 trace: fiber.into_trace(),
             },
             Stage::Over(Ended { id, trace, .. }) => FiberReport {

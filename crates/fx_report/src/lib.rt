@@ -9,7 +9,7 @@
 //! | traces | an event of a fiber, with its stamp; fiber by fiber |
 //!
 //! Beside them there is a line for people for each blocked fiber, with where it stands and what it waits for
-//! ([`Blocked`]).
+//! ([`Blocked`]). A report and its blocked fibers are what there is once a run has halted ([`Halt`]).
 //!
 //! The text of a script has one answer, a status and a printed text, or a fault and none:
 //!
@@ -36,12 +36,14 @@
 mod answer;
 mod answer_fault;
 mod blocked;
+mod halt;
 mod input;
 pub mod laws;
 mod lines;
 mod out_fault;
 mod output;
 mod refusal;
+mod state;
 mod status;
 mod wait;
 mod waits;
@@ -50,11 +52,13 @@ mod write;
 pub use answer::Answer;
 pub use answer_fault::AnswerFault;
 pub use blocked::Blocked;
+pub use halt::Halt;
 pub use input::{MOST_OF_SCRIPT, read_text};
 pub use lines::push_event;
 pub use out_fault::OutFault;
 pub use output::write_text;
 pub use refusal::format_refusal;
+pub use state::state_at_halt;
 pub use status::{BLOCKED, ENDED, FAULT, OTHER_WORDS, REFUSED, UNREADABLE, status_after};
 pub use wait::Wait;
 pub use waits::format_waits;

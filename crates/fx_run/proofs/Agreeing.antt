@@ -18,7 +18,7 @@ use Rattle.fx_word.specs.declared.entry.Entry.{Entry}
 use Rattle.fx_word.specs.Entry.{new_entry, asking, looking, splitting, finished, peeked}
 use Rattle.fx_queue.specs.declared.entry.Entry as pass
 use Rattle.fx_run.specs.Agreement.{WordsAgree, QueueAgrees, PortAgrees}
-use Rattle.fx_run.specs.Changes.{IsNewPass, IsSplitFor, HasOneMore, AreSplitFor, AddsEvent}
+use Rattle.fx_run.specs.PassChanges.{IsNewPass, IsSplitFor, HasOneMore, AreSplitFor, AddsEvent}
 
 last : (ds : List Deed) (d : Deed) → Among d (ds ++ d ∷ [])
 last ds d = Among-append_right ds (d ∷ []) d (inl refl)

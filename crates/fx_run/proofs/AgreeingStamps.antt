@@ -20,7 +20,7 @@ use Rattle.fx_word.specs.declared.entry.Entry.{Entry}
 use Rattle.fx_word.specs.Entry.{new_entry, asking, looking, splitting, finished, peeked}
 use Rattle.fx_queue.specs.declared.entry.Entry as pass
 use Rattle.fx_run.specs.Agreement.{StampsAgree, PortAgrees, StampedPortAgrees}
-use Rattle.fx_run.specs.Changes.{IsNewPass, AreSplitFor, AddsEvent}
+use Rattle.fx_run.specs.PassChanges.{IsNewPass, AreSplitFor, AddsEvent}
 use Rattle.fx_run.proofs.Agreeing.{first_agrees, port_starts, port_requests, port_asks_nobody, port_notes, port_sees, port_finds, port_puts, port_finds_full}
 use Rattle.fx_run.proofs.Agreeing.{port_takes, port_finds_empty, port_finishes, event_here, no_event}
 

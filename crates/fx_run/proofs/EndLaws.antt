@@ -20,14 +20,14 @@ use Rattle.fx_port.specs.Rows.{AreRests}
 use Rattle.fx_port.proofs.MarkLaws.{marked_within}
 use Rattle.fx_port.proofs.RunLaws.{queue_at}
 use Rattle.fx_run.specs.declared.gathered.Gathered.{Gathered}
-use Rattle.fx_run.specs.Apart.{Apart, entry_by}
-use Rattle.fx_run.specs.Parted.{Parted, bares_of, parted_at}
+use Rattle.fx_run.specs.FiberAndPort.{FiberAndPort, entry_by}
+use Rattle.fx_run.specs.RanFiber.{RanFiber, bares_of, ran_at}
 use Rattle.fx_run.specs.Gathered.{AreGathered, AreEntries, ArePasses, IsGathered, AreAllowed}
 use Rattle.fx_run.specs.Reported.{RanCode, AreAscending, report_of, NoneIsLost, IsReported}
 use Rattle.fx_run.specs.EndOfRun.{AreNoted, QueueEnd, IsUntouched, EndsWithReport}
 use Rattle.fx_run.specs.Closing.{AreMarked, IsReportOf}
 use Rattle.fx_run.proofs.Members.{all_among, found_is}
-use Rattle.fx_run.proofs.Apart.{parted_of}
+use Rattle.fx_run.proofs.FiberAndPort.{ran_of}
 use Rattle.fx_run.proofs.WholeEntries.{seat_is_whole, pass_is_whole}
 
 -- members of a list that was mapped
@@ -75,23 +75,23 @@ capacity_at (j ∷ queues) (suc k) i e = capacity_at queues k i e
 
 module _ (nodes : List Node) (words : word.WordsId) (queues : List QueueId) (g : Gathered) (h : IsGathered nodes words queues g) where
   abbrev Left : Type 0
-  Left = Apart nodes words queues
+  Left = FiberAndPort nodes words queues
 
-  abbrev pub parted : List Parted
-  parted = map (parted_of nodes words queues) h.fibers
+  abbrev pub parted : List RanFiber
+  parted = map (ran_of nodes words queues) h.fibers
 
   pub bares_same : bares_of parted ≡ g.bares.items
-  bares_same = map_twice (λ (p : Parted). p.bare) (parted_of nodes words queues) h.fibers ∙ h.bares
+  bares_same = map_twice (λ (p : RanFiber). p.bare) (ran_of nodes words queues) h.fibers ∙ h.bares
 
   entries : AreEntries parted g.seat.view
-  entries = gathered_as (parted_of nodes words queues) (λ (p : Parted). p.words) h.fibers (seat.entries g.seat.view) h.entries
+  entries = gathered_as (ran_of nodes words queues) (λ (p : RanFiber). p.words) h.fibers (seat.entries g.seat.view) h.entries
 
   passes : (q : ℕ) (s : HeldPass) → slice_get g.passes q ≡ Some s → ArePasses q parted s.view
-  passes q s at = gathered_as (parted_of nodes words queues) (λ (p : Parted). p.passes q) h.fibers (queue.entries s.view) (h.passes q s at)
+  passes q s at = gathered_as (ran_of nodes words queues) (λ (p : RanFiber). p.passes q) h.fibers (queue.entries s.view) (h.passes q s at)
 
   -- whose it is
-  pub whose : (f : ℕ) (p : Parted) → parted_at parted f ≡ Some p → (a : Left) × Among a h.fibers × (p ≡ parted_of nodes words queues a)
-  whose f p at = among_mapped (parted_of nodes words queues) h.fibers p (found_is (λ (x : Parted). x.bare.id == f) parted p at).1
+  pub whose : (f : ℕ) (p : RanFiber) → ran_at parted f ≡ Some p → (a : Left) × Among a h.fibers × (p ≡ ran_of nodes words queues a)
+  whose f p at = among_mapped (ran_of nodes words queues) h.fibers p (found_is (λ (x : RanFiber). x.bare.id == f) parted p at).1
 
   pub ran_so : RanCode nodes g.bares.items
   ran_so = subst (RanCode nodes) h.bares (all_among (λ (x : BareView). x.nodes ≡ nodes) (map (λ (a : Left). a.bare) h.fibers)
@@ -129,13 +129,13 @@ module _ (nodes : List Node) (words : word.WordsId) (queues : List QueueId) (g :
           let t = whose f p at in
           let many = t.0.of_run.passes.as_many in
           let long = queues_long in
-          ap (λ (x : Parted). (x.passes q).acts) t.2
+          ap (λ (x : RanFiber). (x.passes q).acts) t.2
           ∙ ap (λ o. (entry_by t.0.port.words.own.id o).acts) (none_at t.0.port.passes q (omega (arith, le, many, long)))
 
       noted_so : (outside : List ℕ) → AreMarked (total s) g.noted outside → AreNoted parted outside
       noted_so outside told i p at f m =
           let t = whose i p at in
-          let marked = (h.noted f).1 (t.0, t.1, sym (ap (λ (x : Parted). x.noted f) t.2) ∙ m) in
+          let marked = (h.noted f).1 (t.0, t.1, sym (ap (λ (x : RanFiber). x.noted f) t.2) ∙ m) in
           let lt = marked_within g.noted f marked in
           let long = h.marks in
           (told f).1 (omega (arith, lt, long, fibers), marked)

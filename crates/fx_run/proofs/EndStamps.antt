@@ -39,7 +39,7 @@ use Rattle.fx_word.specs.declared.entry.Entry.{Entry}
 use Rattle.fx_queue.specs.declared.entry.Entry as pass
 use Rattle.fx_queue.specs.PassView as queue
 use Rattle.fx_port.specs.PortView.{beginning_in}
-use Rattle.fx_run.specs.Parted.{Parted, bares_of, parted_at}
+use Rattle.fx_run.specs.RanFiber.{RanFiber, bares_of, ran_at}
 use Rattle.fx_run.specs.Reported.{RanCode, AreAscending, NoneIsLost, NoneIsUnsettled}
 use Rattle.fx_run.specs.EndOfRun.{AreNamed, AreNoted, WordsEnd, QueueEnd, IsUntouched, EndsWithReport}
 use Rattle.fx_run.specs.LawfulRun.{HasStamps}
@@ -142,7 +142,7 @@ no_entry = record { began = 0; parts = []; asked = []; loaded = []; stored = Non
 abbrev part_with : ℕ × Begin → ℕ × ℕ
 part_with x = (x.0, x.1.stamp)
 
-abbrev entry_with : Parted → StampsEntry
+abbrev entry_with : RanFiber → StampsEntry
 entry_with p = record {
   began = (beginning_in p.bare.nodes p.words.begin).stamp;
   parts = map part_with p.words.parts;
@@ -153,15 +153,15 @@ entry_with p = record {
 }
 
 -- the stamps of the fiber that was found
-abbrev stamps_of_parted : Option Parted → List ℕ
-stamps_of_parted None = []
-stamps_of_parted (Some p) = p.bare.stamps
+abbrev stamps_of_ran : Option RanFiber → List ℕ
+stamps_of_ran None = []
+stamps_of_ran (Some p) = p.bare.stamps
 
-abbrev entry_by : Option Parted → StampsEntry
+abbrev entry_by : Option RanFiber → StampsEntry
 entry_by None = no_entry
 entry_by (Some p) = entry_with p
 
-module _ (p : Parted) where
+module _ (p : RanFiber) where
   abbrev began : ℕ
   began = (beginning_in p.bare.nodes p.words.begin).stamp
 
@@ -258,19 +258,19 @@ module _ (p : Parted) where
       ∙ numbers_told p.bare.nodes q p.bare.id began (shown labels) p.bare.stamps p.lawful.causes p.lawful.deeds proper p.lawful.stamped
       ∙ ap (λ (es : List Event). queue_events q p.bare.id (stamped stamp cause es)) (shown_events labels ∙ p.lawful.traced)
 
-module _ (s : ScriptView) (nodes : List Node) (ps : List Parted) (left : List (List Item)) (outside : List ℕ) (late : ℕ)
+module _ (s : ScriptView) (nodes : List Node) (ps : List RanFiber) (left : List (List Item)) (outside : List ℕ) (late : ℕ)
     (ran : RanCode nodes (bares_of ps)) (ascending : AreAscending (bares_of ps)) (lost : NoneIsLost (bares_of ps)) (words : WordsEnd ps) where
   abbrev report : ReportView
   report = told s nodes ps left outside late ran ascending lost words
 
-  cause_by : (f : ℕ) (o : Option Parted) → parted_at ps f ≡ o → ℕ → ℕ
+  cause_by : (f : ℕ) (o : Option RanFiber) → ran_at ps f ≡ o → ℕ → ℕ
   cause_by f None e i = 0
   cause_by f (Some p) e i = number_in p.lawful.causes i
 
-  abbrev stamp_by : Option Parted → ℕ → ℕ
-  stamp_by o = number_in (stamps_of_parted o)
+  abbrev stamp_by : Option RanFiber → ℕ → ℕ
+  stamp_by o = number_in (stamps_of_ran o)
 
-  own_by : (f : ℕ) (o : Option Parted) (e : parted_at ps f ≡ o) → OwnStamps (trace_in report f) (entry_by o).began (stamp_by o) (cause_by f o e)
+  own_by : (f : ℕ) (o : Option RanFiber) (e : ran_at ps f ≡ o) → OwnStamps (trace_in report f) (entry_by o).began (stamp_by o) (cause_by f o e)
   unfolding cause_by
   own_by f None e =
       subst (λ (es : List Event). OwnStamps es 0 (λ i. 0) (λ i. 0)) (sym (trace_nowhere s nodes ps left outside late ran ascending lost words f e))
@@ -280,7 +280,7 @@ module _ (s : ScriptView) (nodes : List Node) (ps : List Parted) (left : List (L
       (sym (trace_at s nodes ps left outside late ran ascending lost words f p e)) (own_so p)
 
   module _ (noted_outside : AreNoted ps outside) where
-    agree_by : (f : ℕ) (o : Option Parted) (e : parted_at ps f ≡ o)
+    agree_by : (f : ℕ) (o : Option RanFiber) (e : ran_at ps f ≡ o)
         → EntryAgrees (trace_in report f) (labels_at s o) (stamp_by o) (cause_by f o e) (Contains outside) (entry_by o)
     unfolding cause_by
     agree_by f None e =
@@ -312,16 +312,16 @@ module _ (s : ScriptView) (nodes : List Node) (ps : List Parted) (left : List (L
   -- what the words tell
   module _ where
     abbrev entry : ℕ → StampsEntry
-    entry f = entry_by (parted_at ps f)
+    entry f = entry_by (ran_at ps f)
 
     main_so : (entry 0).began ≡ 0
     main_so =
         let m = main_is_given ps lost in
         let none = none_before_main nodes ps ran ascending lost words m.0 m.1 in
-        ap (λ (o : Option Parted). (entry_by o).began) m.1 ∙ ap (λ o. (beginning_in m.0.bare.nodes o).stamp) none
+        ap (λ (o : Option RanFiber). (entry_by o).began) m.1 ∙ ap (λ o. (beginning_in m.0.bare.nodes o).stamp) none
         ∙ ap (λ (ns : List Node). (main_begin_of ns).stamp) (its_code nodes ps ran ascending lost words 0 m.0 m.1)
 
-    split_by : (f g t : ℕ) (o : Option Parted) → parted_at ps f ≡ o → Among (g, t) (entry_by o).parts → (entry g).began ≡ t
+    split_by : (f g t : ℕ) (o : Option RanFiber) → ran_at ps f ≡ o → Among (g, t) (entry_by o).parts → (entry g).began ≡ t
     split_by f g t None e i = absurd i
     split_by f g t (Some p) e i =
         let x = among_mapped part_with p.words.parts (g, t) i in
@@ -332,10 +332,10 @@ module _ (s : ScriptView) (nodes : List Node) (ps : List Parted) (left : List (L
         let begun : z.0.words.begin ≡ Some (p.words.id, x.0.1) =
         words.settled.began p.words (in_seat nodes ps ran ascending lost words f p e) x.0.0 x.0.1 x.1 z.0.words
         (in_seat nodes ps ran ascending lost words x.0.0 z.0 z.1) (number_at ps x.0.0 z.0 z.1) in
-        ap (λ (h : ℕ). (entry_by (parted_at ps h)).began) number ∙ ap (λ (o : Option Parted). (entry_by o).began) z.1
+        ap (λ (h : ℕ). (entry_by (ran_at ps h)).began) number ∙ ap (λ (o : Option RanFiber). (entry_by o).began) z.1
         ∙ ap (λ o. (beginning_in z.0.bare.nodes o).stamp) begun ∙ sym stamp
 
-    seen_by : (f t : ℕ) (o : Option Parted) → parted_at ps f ≡ o → Among t (entry_by o).loaded → (d : ℕ) × Among (f, t) (entry d).asked
+    seen_by : (f t : ℕ) (o : Option RanFiber) → ran_at ps f ≡ o → Among t (entry_by o).loaded → (d : ℕ) × Among (f, t) (entry d).asked
     seen_by f t None e i = absurd i
     seen_by f t (Some p) e i =
         let d = words.settled.requested_with p.words (in_seat nodes ps ran ascending lost words f p e) t i in
@@ -343,30 +343,30 @@ module _ (s : ScriptView) (nodes : List Node) (ps : List Parted) (left : List (L
         let asked : Among (f, t) has.fiber.words.asked_with =
         subst (λ (w : Entry). Among (f, t) w.asked_with) has.is
         (subst (λ (n : ℕ). Among (n, t) d.0.asked_with) (number_at ps f p e) d.2) in
-        (d.0.id, subst (λ (o : Option Parted). Among (f, t) (entry_by o).asked) (sym has.at) asked)
+        (d.0.id, subst (λ (o : Option RanFiber). Among (f, t) (entry_by o).asked) (sym has.at) asked)
 
-    learnt_by : (f g t : ℕ) (o : Option Parted) → parted_at ps f ≡ o → Among (g, t) (entry_by o).learnt → (entry g).stored ≡ Some t
+    learnt_by : (f g t : ℕ) (o : Option RanFiber) → ran_at ps f ≡ o → Among (g, t) (entry_by o).learnt → (entry g).stored ≡ Some t
     learnt_by f g t None e i = absurd i
     learnt_by f g t (Some p) e i =
         let d = words.settled.ended_with p.words (in_seat nodes ps ran ascending lost words f p e) g t i in
         let has = entry_of nodes ps ran ascending lost words g d.0 d.1 d.2 in
-        ap (λ (o : Option Parted). (entry_by o).stored) has.at ∙ ap (λ (w : Entry). w.stored_stamp) (sym has.is) ∙ d.3
+        ap (λ (o : Option RanFiber). (entry_by o).stored) has.at ∙ ap (λ (w : Entry). w.stored_stamp) (sym has.is) ∙ d.3
 
     closed_so : ClosedStamps entry
     closed_so = record {
       main = main_so;
-      split = λ f g t. split_by f g t (parted_at ps f) refl;
-      seen = λ f t. seen_by f t (parted_at ps f) refl;
-      learnt = λ f g t. learnt_by f g t (parted_at ps f) refl;
+      split = λ f g t. split_by f g t (ran_at ps f) refl;
+      seen = λ f t. seen_by f t (ran_at ps f) refl;
+      learnt = λ f g t. learnt_by f g t (ran_at ps f) refl;
     }
 
   -- what a queue tells that was closed
-  closed_cuts : (q capacity : ℕ) (c : QueueEnd q capacity ps (slice_index_or left q [])) (f : ℕ) (o : Option Parted) (e : parted_at ps f ≡ o)
+  closed_cuts : (q capacity : ℕ) (c : QueueEnd q capacity ps (slice_index_or left q [])) (f : ℕ) (o : Option RanFiber) (e : ran_at ps f ≡ o)
       → cut f c.rest.stamps ≡ queue_events q f (stamped (stamp_by o) (cause_by f o e) (trace_in report f))
   unfolding cause_by
   closed_cuts q capacity c f (Some p) e =
       ap (λ (n : ℕ). cut n c.rest.stamps) (sym (pass_number_at ps q f p e))
-      ∙ c.rest.cuts_stamps (p.passes q) (gathered_of ps ascending (λ (z : Parted). z.passes q) (queue.entries c.view) c.gathered f p e)
+      ∙ c.rest.cuts_stamps (p.passes q) (gathered_of ps ascending (λ (z : RanFiber). z.passes q) (queue.entries c.view) c.gathered f p e)
       ∙ acts_so p q
       ∙ ap (λ (n : ℕ). queue_events q n (stamped (number_in p.bare.stamps) (number_in p.lawful.causes) p.bare.trace)) (id_at ps f p e)
       ∙ ap (λ (es : List Event). queue_events q f (stamped (number_in p.bare.stamps) (number_in p.lawful.causes) es))
@@ -378,12 +378,12 @@ module _ (s : ScriptView) (nodes : List Node) (ps : List Parted) (left : List (L
     where
       apart : (x : pass.Entry) → queue.In x c.view → x.id ≢ f
       apart x i same =
-          let o = whose ps ascending (λ (z : Parted). z.passes q) (queue.entries c.view) c.gathered x i in
+          let o = whose ps ascending (λ (z : RanFiber). z.passes q) (queue.entries c.view) c.gathered x i in
           let number : o.fiber.bare.id ≡ f =
           sym (pass_number_at ps q o.fiber.bare.id o.fiber o.at) ∙ sym (ap (λ (w : pass.Entry). w.id) o.is) ∙ same in
-          none-some o.fiber (sym e ∙ ap (parted_at ps) (sym number) ∙ o.at)
+          none-some o.fiber (sym e ∙ ap (ran_at ps) (sym number) ∙ o.at)
 
-  none_cuts : (q f : ℕ) → IsUntouched q ps → (o : Option Parted) (e : parted_at ps f ≡ o)
+  none_cuts : (q f : ℕ) → IsUntouched q ps → (o : Option RanFiber) (e : ran_at ps f ≡ o)
       → [] ≡ queue_events q f (stamped (stamp_by o) (cause_by f o e) (trace_in report f))
   none_cuts q f untouched None e =
       sym (nothing_there q f (stamp_by None) (cause_by f None e) (trace_in report f)
@@ -400,10 +400,10 @@ module _ (s : ScriptView) (nodes : List Node) (ps : List Parted) (left : List (L
     lawful = report_is_lawful s nodes ps left outside late ran ascending lost words unsettled term noted_outside may named by_queue queues undeclared
 
     abbrev stamp_at : ℕ → ℕ → ℕ
-    stamp_at f = stamp_by (parted_at ps f)
+    stamp_at f = stamp_by (ran_at ps f)
 
     abbrev cause_at : ℕ → ℕ → ℕ
-    cause_at f = cause_by f (parted_at ps f) refl
+    cause_at f = cause_by f (ran_at ps f) refl
 
     abbrev history_is : (q : ℕ) (history : List QueueEvent) → Type 0
     history_is q history =
@@ -418,37 +418,37 @@ module _ (s : ScriptView) (nodes : List Node) (ps : List Parted) (left : List (L
           alike = subst (λ (log : List QueueEvent). AreAlike log c.rest.stamps) (sym e) c.rest.alike;
           last = c.rest.legal_stamps.last;
           legal = subst (λ (n : ℕ). replayed n c.rest.stamps ≡ Some c.rest.legal_stamps.last) c.sized c.rest.legal_stamps.legal;
-          cuts = λ f. closed_cuts q (capacity_of s q) c f (parted_at ps f) refl;
+          cuts = λ f. closed_cuts q (capacity_of s q) c f (ran_at ps f) refl;
         }
     history_by q history (of_none le e) = record {
       stamps = [];
       alike = subst (λ (log : List QueueEvent). AreAlike log []) (sym e) refl;
       last = empty_queue;
       legal = refl;
-      cuts = λ f. none_cuts q f (undeclared q le) (parted_at ps f) refl;
+      cuts = λ f. none_cuts q f (undeclared q le) (ran_at ps f) refl;
     }
 
-    all_told : AreTold s may report lawful (λ f. entry_by (parted_at ps f)) stamp_at cause_at
+    all_told : AreTold s may report lawful (λ f. entry_by (ran_at ps f)) stamp_at cause_at
     all_told = record {
-      own = λ f. own_by f (parted_at ps f) refl;
+      own = λ f. own_by f (ran_at ps f) refl;
       agree = λ f.
-          subst (λ (ls : List Label). EntryAgrees (trace_in report f) ls (stamp_at f) (cause_at f) (Contains outside) (entry_by (parted_at ps f)))
+          subst (λ (ls : List Label). EntryAgrees (trace_in report f) ls (stamp_at f) (cause_at f) (Contains outside) (entry_by (ran_at ps f)))
           (sym (labels_told s nodes ps left outside late ran ascending lost words unsettled term noted_outside may named by_queue queues undeclared f))
-          (agree_by noted_outside f (parted_at ps f) refl);
+          (agree_by noted_outside f (ran_at ps f) refl);
       closed = closed_so;
       queues = λ q. history_by q (lawful.histories q).history
           (history_of s nodes ps left outside late ran ascending lost words unsettled term noted_outside may named by_queue queues undeclared q);
     }
 
     -- they are those that the report tells
-    stamps_told : (f : ℕ) (o : Option Parted) → parted_at ps f ≡ o → stamps_of_parted o ≡ stamps_in report f
+    stamps_told : (f : ℕ) (o : Option RanFiber) → ran_at ps f ≡ o → stamps_of_ran o ≡ stamps_in report f
     stamps_told f None e = sym (ap stamps_of_report (report_nowhere ps left outside late f e))
     stamps_told f (Some p) e = sym (ap stamps_of_report (report_in ps left outside late f p e))
 
     stamps_same : stamp_at ≡ stamp_in report
-    stamps_same = λ i f. number_in (stamps_told f (parted_at ps f) refl i)
+    stamps_same = λ i f. number_in (stamps_told f (ran_at ps f) refl i)
 
-    one_each : (f : ℕ) (o : Option Parted) → parted_at ps f ≡ o → length (stamps_in report f) ≡ length (trace_in report f)
+    one_each : (f : ℕ) (o : Option RanFiber) → ran_at ps f ≡ o → length (stamps_in report f) ≡ length (trace_in report f)
     one_each f None e =
         ap length (sym (stamps_told f None e)) ∙ sym (ap length (trace_nowhere s nodes ps left outside late ran ascending lost words f e))
     one_each f (Some p) e =
@@ -461,11 +461,11 @@ module _ (s : ScriptView) (nodes : List Node) (ps : List Parted) (left : List (L
     -- so these are stamps of the definition, and put the events in one order
     has_stamps : HasStamps s may report lawful
     has_stamps =
-        let began : ℕ → ℕ = λ f. (entry_by (parted_at ps f)).began in
-        let are = told_is_stamped s may report lawful (λ f. entry_by (parted_at ps f)) stamp_at cause_at all_told in
+        let began : ℕ → ℕ = λ f. (entry_by (ran_at ps f)).began in
+        let are = told_is_stamped s may report lawful (λ f. entry_by (ran_at ps f)) stamp_at cause_at all_told in
         let labels = lawful.runs.labels in
         record {
-          one_each = λ f. one_each f (parted_at ps f) refl;
+          one_each = λ f. one_each f (ran_at ps f) refl;
           began = began;
           cause = cause_at;
           are = subst (λ (stamp : ℕ → ℕ → ℕ). IsStamped (trace_in report) labels (LeavesQueue s may report lawful) (Contains outside) began stamp cause_at)

@@ -3,7 +3,7 @@ use Rattle.std.proofs.Common.{◌≡◌, ℕ, Bool, Some}
 use Rattle.fx_term.specs.Script.{ScriptView}
 use Rattle.fx_model.specs.Report.{ReportView}
 use Rattle.fx_model.specs.LawfulReport.{IsLawfulReport}
-use Rattle.fx_run.specs.Parted.{Parted, parted_at}
+use Rattle.fx_run.specs.RanFiber.{RanFiber, ran_at}
 use Rattle.fx_fiber.specs.Bare.{reached}
 use Rattle.fx_run.specs.EndOfRun.{EndsWithReport}
 use Rattle.fx_run.proofs.GivenFibers.{report}
@@ -19,7 +19,7 @@ module _ (s : ScriptView) (may : ℕ → Bool) (answer : ReportView) (h : EndsWi
       h.term h.noted may h.named h.left_by_queue h.queues h.undeclared
 
   -- its runs have come to where the fibers stand
-  pub end_progress : (f : ℕ) (p : Parted) → parted_at h.fibers f ≡ Some p → end_is_lawful.runs.progress f ≡ reached p.bare
+  pub end_progress : (f : ℕ) (p : RanFiber) → ran_at h.fibers f ≡ Some p → end_is_lawful.runs.progress f ≡ reached p.bare
   end_progress =
       progress_told s h.nodes h.fibers h.left h.outside h.late h.ran h.ascending h.answered.none_lost h.words h.answered.none_unsettled
       h.term h.noted may h.named h.left_by_queue h.queues h.undeclared

@@ -39,8 +39,8 @@ use Rattle.fx_queue.specs.History.{Begins}
 use Rattle.fx_queue.specs.declared.entry.Handed.{Handed}
 use Rattle.fx_queue.specs.Told.{IsHandedOn, IsRest}
 use Rattle.fx_run.specs.Agreement.{StampedPortAgrees}
-use Rattle.fx_run.specs.Changes.{IsNewPass, AreSplitFor, AddsEvent}
-use Rattle.fx_run.specs.Parted.{Parted}
+use Rattle.fx_run.specs.PassChanges.{IsNewPass, AreSplitFor, AddsEvent}
+use Rattle.fx_run.specs.RanFiber.{RanFiber}
 use Rattle.fx_run.specs.Reported.{bare_at, IsLost, NoneIsUnsettled}
 use Rattle.fx_run.specs.EndOfRun.{WordsEnd, QueueEnd, IsUntouched, EndsWithReport}
 use Rattle.fx_run.specs.Example.{example_nodes, example_script, example_report}
@@ -312,8 +312,8 @@ child_bare = record {
   focus = focus.Ended Canceled;
 }
 
-main_parted : Parted
-main_parted = record {
+main_ran : RanFiber
+main_ran = record {
   bare = main_bare;
   words = main_entry;
   noted = nobody;
@@ -331,8 +331,8 @@ main_parted = record {
   };
 }
 
-child_parted : Parted
-child_parted = record {
+child_ran : RanFiber
+child_ran = record {
   bare = child_bare;
   words = child_entry;
   noted = nobody;
@@ -349,8 +349,8 @@ child_parted = record {
   };
 }
 
-abbrev fibers : List Parted
-fibers = main_parted ∷ child_parted ∷ []
+abbrev fibers : List RanFiber
+fibers = main_ran ∷ child_ran ∷ []
 
 abbrev bares : List BareView
 bares = main_bare ∷ child_bare ∷ []
@@ -406,11 +406,11 @@ settled = record {
 }
 
 words_end : WordsEnd fibers
-unfolding main_parted child_parted
+unfolding main_ran child_ran
 words_end = record {
   view = seat_view;
-  gathered = gathers_one (λ (p : Parted). p.words) (main_parted ∷ []) child_parted main_entry []
-      (gathers_first (λ (p : Parted). p.words) main_parted);
+  gathered = gathers_one (λ (p : RanFiber). p.words) (main_ran ∷ []) child_ran main_entry []
+      (gathers_first (λ (p : RanFiber). p.words) main_ran);
   settled = settled;
 }
 
@@ -461,12 +461,12 @@ rest = record {
 }
 
 queue_end : QueueEnd 0 1 fibers []
-unfolding main_parted child_parted
+unfolding main_ran child_ran
 queue_end = record {
   view = queue_view;
   sized = refl;
-  gathered = gathers_one (λ (p : Parted). p.passes 0) (main_parted ∷ []) child_parted main_view.own []
-      (gathers_first (λ (p : Parted). p.passes 0) main_parted);
+  gathered = gathers_one (λ (p : RanFiber). p.passes 0) (main_ran ∷ []) child_ran main_view.own []
+      (gathers_first (λ (p : RanFiber). p.passes 0) main_ran);
   rest = rest;
 }
 
@@ -516,14 +516,14 @@ by_queue zero lt = queue_end
 by_queue (suc q) lt = absurd (omega arith)
 
 untouched : (q : ℕ) → 1 ≤ q → IsUntouched q fibers
-unfolding main_parted child_parted
+unfolding main_ran child_ran
 untouched zero le = absurd (omega arith)
 untouched (suc q) le = λ f p at.
-    of_two (λ (z : Parted). (z.passes (suc q)).acts ≡ []) main_parted child_parted refl refl p
-    (found_is (λ (z : Parted). z.bare.id == f) fibers p at).1
+    of_two (λ (z : RanFiber). (z.passes (suc q)).acts ≡ []) main_ran child_ran refl refl p
+    (found_is (λ (z : RanFiber). z.bare.id == f) fibers p at).1
 
 pub ends_with_report : EndsWithReport example_script (λ f. false) example_report
-unfolding main_parted child_parted
+unfolding main_ran child_ran
 ends_with_report = record {
   nodes = example_nodes;
   fibers = fibers;
@@ -534,8 +534,8 @@ ends_with_report = record {
   ran = all_among (λ (x : BareView). x.nodes ≡ example_nodes) bares (of_two (λ (x : BareView). x.nodes ≡ example_nodes) main_bare child_bare refl refl);
   ascending = λ k lt. ascends k lt;
   noted = λ g p at f i. absurd
-      (of_two (λ (q : Parted). q.noted f ≡ true → ⊥) main_parted child_parted (λ (j : false ≡ true). cc) (λ (j : false ≡ true). cc) p
-      (found_is (λ (q : Parted). q.bare.id == g) fibers p at).1 i);
+      (of_two (λ (q : RanFiber). q.noted f ≡ true → ⊥) main_ran child_ran (λ (j : false ≡ true). cc) (λ (j : false ≡ true). cc) p
+      (found_is (λ (q : RanFiber). q.bare.id == g) fibers p at).1 i);
   named = record { ascending = λ k lt. absurd (omega arith); named = λ f i. absurd (let lt = i.1 in omega arith) };
   words = words_end;
   left_by_queue = refl;

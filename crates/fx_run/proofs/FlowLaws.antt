@@ -8,7 +8,7 @@ use Rattle.std.proofs.lemmas.List.{length-set, length-replicate, get_or-replicat
 use Rattle.std.proofs.lemmas.List.Sums.{sum_by-cons}
 use Rattle.fx_term.specs.declared.event.Event.{Event}
 use Rattle.fx_term.specs.declared.event.Event.TheVariants as event
-use Rattle.fx_run.specs.ClosedAs.{in_word}
+use Rattle.fx_run.specs.ClosedAs.{within_32_bits}
 use Rattle.fx_run.specs.Flows.{is_put_into, is_got_from, counted, rest_of, rests_of, FlowsView, no_flows, with_one, with_move, with_moves, rest_in, rests_in}
 
 counted_more : (a b : ℕ) → counted (counted a + b) ≡ counted (a + b)
@@ -94,7 +94,7 @@ counted_rests n es =
         puts_after q es (no_flows n) 0 within first ∙ ap counted (omega arith) in
         let g : slice_index (with_moves es (no_flows n)).gots q ≡ counted (count_by (is_got_from q) es) =
         gots_after q es (no_flows n) 0 within first ∙ ap counted (omega arith) in
-        ap (λ k. in_word (k - slice_index (with_moves es (no_flows n)).gots q)) p ∙ ap (λ k. in_word (counted (count_by (is_put_into q) es) - k)) g
+        ap (λ k. within_32_bits (k - slice_index (with_moves es (no_flows n)).gots q)) p ∙ ap (λ k. within_32_bits (counted (count_by (is_put_into q) es) - k)) g
 
 -- events are counted one after the other
 pub moves_append : (es fs : List Event) (w : FlowsView) → with_moves (es ++ fs) w ≡ with_moves fs (with_moves es w)

@@ -26,9 +26,9 @@ use Rattle.fx_queue.specs.Queues.{QueueId, HeldPass}
 use Rattle.fx_port.specs.PassesAgree.{Refusal, Full, Empty, held_at, WasFound, HasRefused, IsBacked, acts_by}
 use Rattle.fx_port.proofs.RunLaws.{queue_at, numbers_are}
 use Rattle.fx_run.specs.declared.gathered.Gathered.{Gathered}
-use Rattle.fx_run.specs.Apart.{Apart, entry_by, entry_at}
+use Rattle.fx_run.specs.FiberAndPort.{FiberAndPort, entry_by, entry_at}
 use Rattle.fx_run.specs.Gathered.{IsGathered}
-use Rattle.fx_run.specs.Parted.{Parted, parted_at}
+use Rattle.fx_run.specs.RanFiber.{RanFiber, ran_at}
 use Rattle.fx_run.specs.Refusals.{refused, held}
 use Rattle.fx_run.proofs.GivenFibers.{id_at}
 use Rattle.fx_run.proofs.EndLaws.{parted, whose, capacity_at}
@@ -114,8 +114,8 @@ found_nowhere s k q f before small none = record {
 }
 
 -- what the passes of fibers had found that were parted from their ports
-abbrev pub AllFound : ScriptView → List Parted → Type 0
-AllFound s ps = (f : ℕ) (p : Parted) → parted_at ps f ≡ Some p → (k : Refusal) (q : ℕ) (before after : List Event)
+abbrev pub AllFound : ScriptView → List RanFiber → Type 0
+AllFound s ps = (f : ℕ) (p : RanFiber) → ran_at ps f ≡ Some p → (k : Refusal) (q : ℕ) (before after : List Event)
     → p.bare.trace ≡ before ++ refused k q ∷ after → FoundBy s k q f (p.passes q) before
 
 module _ (nodes : List Node) (words : word.WordsId) (queues : List QueueId) (s : ScriptView)
@@ -129,7 +129,7 @@ module _ (nodes : List Node) (words : word.WordsId) (queues : List QueueId) (s :
   no_capacity : (q : ℕ) → length queues ≤ q → capacity_of s q ≡ 0
   no_capacity q le = let many = as_many in get_or_past s.capacities q 0 (omega (arith, le, many))
 
-  found_of : (a : Apart nodes words queues) (k : Refusal) (q : ℕ) (before after : List Event) → a.bare.trace ≡ before ++ refused k q ∷ after
+  found_of : (a : FiberAndPort nodes words queues) (k : Refusal) (q : ℕ) (before after : List Event) → a.bare.trace ≡ before ++ refused k q ∷ after
       → FoundBy s k q a.port.words.own.id (entry_at q a.port) before
   found_of a k q before after is = by_pass (slice_get a.port.passes q) refl (backed_by k f q a.port.passes at.earlier backed)
     where
@@ -165,19 +165,19 @@ module _ (nodes : List Node) (words : word.WordsId) (queues : List QueueId) (s :
       let t = whose nodes words queues g h f p at in
       let a = t.0 in
       let number : a.port.words.own.id ≡ f =
-      sym a.number ∙ (ap (λ (x : Parted). x.bare.id) (sym t.2) ∙ id_at (parted nodes words queues g h) f p at) in
-      let here = found_of a k q before after (ap (λ (x : Parted). x.bare.trace) (sym t.2) ∙ is) in
-      subst (λ (e : Entry). FoundBy s k q f e before) (ap (λ (x : Parted). x.passes q) (sym t.2))
+      sym a.number ∙ (ap (λ (x : RanFiber). x.bare.id) (sym t.2) ∙ id_at (parted nodes words queues g h) f p at) in
+      let here = found_of a k q before after (ap (λ (x : RanFiber). x.bare.trace) (sym t.2) ∙ is) in
+      subst (λ (e : Entry). FoundBy s k q f e before) (ap (λ (x : RanFiber). x.passes q) (sym t.2))
       (subst (λ (i : ℕ). FoundBy s k q i (entry_at q a.port) before) number here)
 
 -- and what the passes of fibers handed out with each start
-abbrev pub AllHanded : ScriptView → List Parted → Type 0
-AllHanded s ps = (g : ℕ) (p : Parted) → parted_at ps g ≡ Some p → (f : ℕ) (before after : List Event) → p.bare.trace ≡ before ++ event.Start f ∷ after
+abbrev pub AllHanded : ScriptView → List RanFiber → Type 0
+AllHanded s ps = (g : ℕ) (p : RanFiber) → ran_at ps g ≡ Some p → (f : ℕ) (before after : List Event) → p.bare.trace ≡ before ++ event.Start f ∷ after
     → (q : ℕ) → q < length s.capacities → (h : Handed) × Among h (p.passes q).handed × (h.id ≡ f) × (cut g h.seen ≡ queue_events q g before)
 
 module _ (nodes : List Node) (words : word.WordsId) (queues : List QueueId) (s : ScriptView)
     (capacities : map (λ (i : QueueId). i.cap) queues ≡ s.capacities) where
-  handed_of : (a : Apart nodes words queues) (f : ℕ) (before after : List Event) → a.bare.trace ≡ before ++ event.Start f ∷ after → (q : ℕ)
+  handed_of : (a : FiberAndPort nodes words queues) (f : ℕ) (before after : List Event) → a.bare.trace ≡ before ++ event.Start f ∷ after → (q : ℕ)
       → q < length s.capacities
       → (h : Handed) × Among h (entry_at q a.port).handed × (h.id ≡ f) × (cut a.port.words.own.id h.seen ≡ queue_events q a.port.words.own.id before)
   handed_of a f before after is q lt = by_pass (slice_get a.port.passes q) refl
@@ -205,10 +205,10 @@ module _ (nodes : List Node) (words : word.WordsId) (queues : List QueueId) (s :
       let t = whose nodes words queues g h i p at in
       let a = t.0 in
       let number : a.port.words.own.id ≡ i =
-      sym a.number ∙ (ap (λ (x : Parted). x.bare.id) (sym t.2) ∙ id_at (parted nodes words queues g h) i p at) in
-      let x = handed_of a f before after (ap (λ (x : Parted). x.bare.trace) (sym t.2) ∙ is) q lt in (
+      sym a.number ∙ (ap (λ (x : RanFiber). x.bare.id) (sym t.2) ∙ id_at (parted nodes words queues g h) i p at) in
+      let x = handed_of a f before after (ap (λ (x : RanFiber). x.bare.trace) (sym t.2) ∙ is) q lt in (
         x.0,
-        subst (λ (e : Entry). Among x.0 e.handed) (ap (λ (y : Parted). y.passes q) (sym t.2)) x.1,
+        subst (λ (e : Entry). Among x.0 e.handed) (ap (λ (y : RanFiber). y.passes q) (sym t.2)) x.1,
         x.2,
         subst (λ (n : ℕ). cut n x.0.seen ≡ queue_events q n before) number x.3,
       )

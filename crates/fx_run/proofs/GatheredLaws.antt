@@ -22,7 +22,7 @@ use Rattle.fx_port.specs.PortView.{PortView}
 use Rattle.fx_port.proofs.MarkLaws.{marked_within, joined_long, joined_from, joined_keeps, joined_takes}
 use Rattle.fx_port.proofs.RunLaws.{queue_at}
 use Rattle.fx_run.specs.declared.gathered.Gathered.{Gathered}
-use Rattle.fx_run.specs.Apart.{Apart, without_port, entry_by, entry_at}
+use Rattle.fx_run.specs.FiberAndPort.{FiberAndPort, without_port, entry_by, entry_at}
 use Rattle.fx_run.specs.Reported.{AreAscending, bare_at, IsLost, IsLeast}
 use Rattle.fx_run.specs.Gathered.{AreGathered, IsGathered, AreAllowed}
 use Rattle.fx_run.proofs.Members.{found_is, among_map}
@@ -58,10 +58,10 @@ map_more f (y ∷ xs) x = ap (λ l. f y ∷ l) (map_more f xs x)
 
 module _ (nodes : List Node) (words : word.WordsId) (queues : List QueueId) where
   -- the pass of a port is the fiber's own, and had taken in none
-  entry_is : (a : Apart nodes words queues) (q : ℕ) (s : HeldPass) → slice_get a.port.passes q ≡ Some s → s.view.own ≡ entry_at q a.port
+  entry_is : (a : FiberAndPort nodes words queues) (q : ℕ) (s : HeldPass) → slice_get a.port.passes q ≡ Some s → s.view.own ≡ entry_at q a.port
   entry_is a q s at = sym (ap (entry_by a.port.words.own.id) at)
 
-  pass_alone : (a : Apart nodes words queues) (q : ℕ) (s : HeldPass) → slice_get a.port.passes q ≡ Some s
+  pass_alone : (a : FiberAndPort nodes words queues) (q : ℕ) (s : HeldPass) → slice_get a.port.passes q ≡ Some s
       → (s.view.own.id ≡ a.port.words.own.id) × (s.view.taken ≡ [])
   pass_alone a q s at =
       let of = a.of_run.passes in
@@ -69,14 +69,14 @@ module _ (nodes : List Node) (words : word.WordsId) (queues : List QueueId) wher
       let e = of.each q s i.0 at i.1 in
       (e.1, e.4)
 
-  row_of : (a : Apart nodes words queues) → IsRowOf queues a.port.passes
+  row_of : (a : FiberAndPort nodes words queues) → IsRowOf queues a.port.passes
   row_of a = let of = a.of_run.passes in record { as_many = of.as_many; each = λ q s i hs hi. (of.each q s i hs hi).0 }
 
   -- some of these ports noted the number
-  abbrev SomeNoted : List (Apart nodes words queues) → ℕ → Type 0
-  SomeNoted fibers f = (a : Apart nodes words queues) × Among a fibers × (is_marked a.port.noted f ≡ true)
+  abbrev SomeNoted : List (FiberAndPort nodes words queues) → ℕ → Type 0
+  SomeNoted fibers f = (a : FiberAndPort nodes words queues) × Among a fibers × (is_marked a.port.noted f ≡ true)
 
-  noted_more : (marks : List Bool) (fibers : List (Apart nodes words queues)) (a : Apart nodes words queues) → length marks ≡ words.fibers
+  noted_more : (marks : List Bool) (fibers : List (FiberAndPort nodes words queues)) (a : FiberAndPort nodes words queues) → length marks ≡ words.fibers
       → ((f : ℕ) → (is_marked marks f ≡ true) ↔ SomeNoted fibers f)
       → (f : ℕ) → (is_marked (joined_marks marks a.port.noted) f ≡ true) ↔ SomeNoted (fibers ++ a ∷ []) f
   noted_more marks fibers a long h f = (told, back)
@@ -87,9 +87,9 @@ module _ (nodes : List Node) (words : word.WordsId) (queues : List QueueId) wher
         | inr m ↦ (a, Among-append_right fibers (a ∷ []) a (inl refl), m)
       ]
 
-      its_own : (b : Apart nodes words queues) → is_marked b.port.noted f ≡ true → b ≡ a → is_marked (joined_marks marks a.port.noted) f ≡ true
+      its_own : (b : FiberAndPort nodes words queues) → is_marked b.port.noted f ≡ true → b ≡ a → is_marked (joined_marks marks a.port.noted) f ≡ true
       its_own b m e =
-          let n = subst (λ (x : Apart nodes words queues). is_marked x.port.noted f ≡ true) e m in
+          let n = subst (λ (x : FiberAndPort nodes words queues). is_marked x.port.noted f ≡ true) e m in
           let lt = marked_within a.port.noted f n in
           let short = a.of_run.marks in
           joined_takes marks a.port.noted f (omega (arith, lt, short, long)) n
@@ -101,7 +101,7 @@ module _ (nodes : List Node) (words : word.WordsId) (queues : List QueueId) wher
       ]
 
   -- of the main fiber what it had itself
-  pub gathered_first : (a : Apart nodes words queues) (g : Gathered) (before : List BareView) → a.port.words.own.id ≡ 0 → before ≡ []
+  pub gathered_first : (a : FiberAndPort nodes words queues) (g : Gathered) (before : List BareView) → a.port.words.own.id ≡ 0 → before ≡ []
       → g.bares.items ≡ before ++ a.bare ∷ [] → word.IsOf g.seat words
       → g.seat.view ≡ a.port.words → g.passes ≡ a.port.passes → g.noted ≡ a.port.noted → IsGathered nodes words queues g
   gathered_first a g before main none bares seat_of seat passes noted = record {
@@ -109,17 +109,17 @@ module _ (nodes : List Node) (words : word.WordsId) (queues : List QueueId) wher
     bares = sym (bares ∙ ap (λ (l : List BareView). l ++ a.bare ∷ []) none);
     seat_of = seat_of;
     main = ap (λ (v : SeatView). v.own.id) seat ∙ main;
-    entries = first_of (λ (x : Apart nodes words queues). x.port.words.own) a g.seat.view.own g.seat.view.taken
+    entries = first_of (λ (x : FiberAndPort nodes words queues). x.port.words.own) a g.seat.view.own g.seat.view.taken
         (ap (λ (v : SeatView). v.own) seat) (ap (λ (v : SeatView). v.taken) seat ∙ a.of_run.alone);
     row = subst (IsRowOf queues) (sym passes) (row_of a);
     mains = λ q s at. (pass_alone a q s (here q s at)).0 ∙ main;
-    passes = λ q s at. first_of (λ (x : Apart nodes words queues). entry_at q x.port) a s.view.own s.view.taken
+    passes = λ q s at. first_of (λ (x : FiberAndPort nodes words queues). entry_at q x.port) a s.view.own s.view.taken
         (entry_is a q s (here q s at)) (pass_alone a q s (here q s at)).1;
     marks = ap length noted ∙ a.of_run.marks;
     noted = λ f. (
       (λ m. (a, inl refl, sym (ap (λ l. is_marked l f) noted) ∙ m)),
       (λ t. elim t.1 [
-        | inl e ↦ ap (λ l. is_marked l f) noted ∙ subst (λ (x : Apart nodes words queues). is_marked x.port.noted f ≡ true) e t.2
+        | inl e ↦ ap (λ l. is_marked l f) noted ∙ subst (λ (x : FiberAndPort nodes words queues). is_marked x.port.noted f ≡ true) e t.2
         | inr none ↦ absurd none
       ]),
     );
@@ -130,22 +130,22 @@ module _ (nodes : List Node) (words : word.WordsId) (queues : List QueueId) wher
 
   module _ (g : Gathered) (h : IsGathered nodes words queues g) where
     -- one more fiber is taken in
-    pub gathered_more : (a : Apart nodes words queues) (g' : Gathered) → g'.bares.items ≡ g.bares.items ++ a.bare ∷ [] → word.IsOf g'.seat words
+    pub gathered_more : (a : FiberAndPort nodes words queues) (g' : Gathered) → g'.bares.items ≡ g.bares.items ++ a.bare ∷ [] → word.IsOf g'.seat words
         → g'.seat.view ≡ seat.joined g.seat.view a.port.words → g'.passes ≡ joined_row g.passes a.port.passes → IsRowOf queues g'.passes
         → g'.noted ≡ joined_marks g.noted a.port.noted → IsGathered nodes words queues g'
     gathered_more a g' bares seat_of seat_is passes row noted = record {
       fibers = h.fibers ++ a ∷ [];
-      bares = map_more (λ (x : Apart nodes words queues). x.bare) h.fibers a ∙ ap (λ l. l ++ a.bare ∷ []) h.bares ∙ sym bares;
+      bares = map_more (λ (x : FiberAndPort nodes words queues). x.bare) h.fibers a ∙ ap (λ l. l ++ a.bare ∷ []) h.bares ∙ sym bares;
       seat_of = seat_of;
       main = ap (λ (v : SeatView). v.own.id) seat_is ∙ h.main;
-      entries = subst (λ (v : SeatView). AreGathered (λ (x : Apart nodes words queues). x.port.words.own) (h.fibers ++ a ∷ []) (seat.entries v)) (sym seat_is)
-          (one_more_of (λ (x : Apart nodes words queues). x.port.words.own) h.fibers a g.seat.view.own g.seat.view.taken
+      entries = subst (λ (v : SeatView). AreGathered (λ (x : FiberAndPort nodes words queues). x.port.words.own) (h.fibers ++ a ∷ []) (seat.entries v)) (sym seat_is)
+          (one_more_of (λ (x : FiberAndPort nodes words queues). x.port.words.own) h.fibers a g.seat.view.own g.seat.view.taken
           a.port.words.own a.port.words.taken h.entries refl a.of_run.alone);
       row = row;
       mains = λ q u at. let j = joined q u at in ap (λ (s : HeldPass). s.view.own.id) j.is ∙ h.mains q j.one j.at;
       passes = λ q u at. let j = joined q u at in
-          subst (λ (s : HeldPass). AreGathered (λ (x : Apart nodes words queues). entry_at q x.port) (h.fibers ++ a ∷ []) (queue.entries s.view)) (sym j.is)
-          (one_more_of (λ (x : Apart nodes words queues). entry_at q x.port) h.fibers a j.one.view.own j.one.view.taken
+          subst (λ (s : HeldPass). AreGathered (λ (x : FiberAndPort nodes words queues). entry_at q x.port) (h.fibers ++ a ∷ []) (queue.entries s.view)) (sym j.is)
+          (one_more_of (λ (x : FiberAndPort nodes words queues). entry_at q x.port) h.fibers a j.one.view.own j.one.view.taken
           j.other.view.own j.other.view.taken (h.passes q j.one j.at) (entry_is a q j.other j.other_at) (pass_alone a q j.other j.other_at).1);
       marks = ap length noted ∙ joined_long g.noted a.port.noted ∙ h.marks;
       noted = subst (λ (l : List Bool). (f : ℕ) → (is_marked l f ≡ true) ↔ SomeNoted (h.fibers ++ a ∷ []) f) (sym noted)

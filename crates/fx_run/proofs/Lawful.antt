@@ -35,7 +35,7 @@ use Rattle.fx_queue.specs.declared.entry.Entry as pass
 use Rattle.fx_queue.specs.History.{Begins}
 use Rattle.fx_queue.specs.PassView as queue
 use Rattle.fx_port.specs.PortView.{beginning_in}
-use Rattle.fx_run.specs.Parted.{Parted, bares_of, parted_at}
+use Rattle.fx_run.specs.RanFiber.{RanFiber, bares_of, ran_at}
 use Rattle.fx_run.specs.Reported.{RanCode, AreAscending, report_of_bare, NoneIsLost, NoneIsUnsettled}
 use Rattle.fx_run.specs.EndOfRun.{AreNamed, AreNoted, WordsEnd, QueueEnd, IsUntouched, EndsWithReport}
 use Rattle.fx_run.proofs.Members.{all_among, any_among, found_passes, contained_passes}
@@ -48,36 +48,36 @@ use Rattle.fx_run.proofs.WholeEntries.{pass_number_at, main_is_given}
 use Rattle.fx_run.proofs.Starters.{its_code, in_seat, entry_of, child_of, none_before_main, starters_told}
 
 -- what a fiber began with, its run, and how far it is; where there is no such fiber it does not matter
-abbrev begin_in : Parted → Origin
+abbrev begin_in : RanFiber → Origin
 begin_in p = origin_of p.bare.nodes (beginning_in p.bare.nodes p.words.begin)
 
 module _ (s : ScriptView) where
-  abbrev pub origin_at : Option Parted → Origin
+  abbrev pub origin_at : Option RanFiber → Origin
   origin_at None = main_origin s.term
   origin_at (Some p) = begin_in p
 
-  abbrev pub labels_at : Option Parted → List Label
+  abbrev pub labels_at : Option RanFiber → List Label
   labels_at None = []
   labels_at (Some p) = p.lawful.labels
 
-  abbrev pub counts_at : Option Parted → Counts
+  abbrev pub counts_at : Option RanFiber → Counts
   counts_at None = first_counts (main_origin s.term)
   counts_at (Some p) = p.bare.counts
 
-  abbrev pub progress_at : Option Parted → Progress
+  abbrev pub progress_at : Option RanFiber → Progress
   progress_at None = HasEnded Canceled
   progress_at (Some p) = reached p.bare
 
-module _ (s : ScriptView) (nodes : List Node) (ps : List Parted) (left : List (List Item)) (outside : List ℕ) (late : ℕ)
+module _ (s : ScriptView) (nodes : List Node) (ps : List RanFiber) (left : List (List Item)) (outside : List ℕ) (late : ℕ)
     (ran : RanCode nodes (bares_of ps)) (ascending : AreAscending (bares_of ps)) (lost : NoneIsLost (bares_of ps)) (words : WordsEnd ps) where
   abbrev pub told : ReportView
   told = report ps left outside late
 
   abbrev origin_in : ℕ → Origin
-  origin_in f = origin_at s (parted_at ps f)
+  origin_in f = origin_at s (ran_at ps f)
 
   -- what fibers begin with
-  begins_as : (g : ℕ) (p : Parted) → parted_at ps g ≡ Some p → (l : Label) → Among l p.lawful.labels → BeginsAs origin_in l
+  begins_as : (g : ℕ) (p : RanFiber) → ran_at ps g ≡ Some p → (l : Label) → Among l p.lawful.labels → BeginsAs origin_in l
   begins_as g p at (Starts f b) i = let c = child_of nodes ps ran ascending lost words g f b p at i in ap (origin_at s) c.at ∙ c.is
   begins_as g p at Silent i = tt
   begins_as g p at (Shows e) i = tt
@@ -91,20 +91,20 @@ module _ (s : ScriptView) (nodes : List Node) (ps : List Parted) (left : List (L
       ∙ main_begins m.0.bare.nodes ∙ ap (λ (ns : List Node). main_origin (root_term ns)) (its_code nodes ps ran ascending lost words 0 m.0 m.1)
       ∙ ap main_origin (sym term)
 
-  pub trace_at : (f : ℕ) (p : Parted) → parted_at ps f ≡ Some p → trace_in told f ≡ p.bare.trace
+  pub trace_at : (f : ℕ) (p : RanFiber) → ran_at ps f ≡ Some p → trace_in told f ≡ p.bare.trace
   trace_at f p at = ap trace_of_report (report_in ps left outside late f p at)
 
-  pub trace_nowhere : (f : ℕ) → parted_at ps f ≡ None → trace_in told f ≡ []
+  pub trace_nowhere : (f : ℕ) → ran_at ps f ≡ None → trace_in told f ≡ []
   trace_nowhere f e = ap trace_of_report (report_nowhere ps left outside late f e)
 
   -- what was learnt
-  ended_as : (f : ℕ) (p : Parted) → parted_at ps f ≡ Some p → (o : Outcome) → p.words.ended ≡ Some o → EndsWith (trace_in told f) o
+  ended_as : (f : ℕ) (p : RanFiber) → ran_at ps f ≡ Some p → (o : Outcome) → p.words.ended ≡ Some o → EndsWith (trace_in told f) o
   ended_as f p at o e =
       let src = end_shown p.bare.nodes p.lawful.labels (deeds_of p.lawful.deeds) p.lawful.are_deeds o (p.lawful.agreed.plain.words_agree.ended o e) in
       let ends = label_ends_trace (begin_in p) p.lawful.labels p.bare.counts (reached p.bare) src.item o p.lawful.run src.among src.gives in
       subst (λ (es : List Event). EndsWith es o) (p.lawful.traced ∙ sym (trace_at f p at)) ends
 
-  is_learnt : (g : ℕ) (p : Parted) → parted_at ps g ≡ Some p → (l : Label) → Among l p.lawful.labels → IsLearnt told l
+  is_learnt : (g : ℕ) (p : RanFiber) → ran_at ps g ≡ Some p → (l : Label) → Among l p.lawful.labels → IsLearnt told l
   is_learnt g p at (Learns f o e) i =
       let found = p.lawful.agreed.plain.words_agree.found f o (learnt_done p.bare.nodes p.lawful.labels (deeds_of p.lawful.deeds) p.lawful.are_deeds f o e i) in
       let d = words.settled.ended p.words (in_seat nodes ps ran ascending lost words g p at) f o found in
@@ -116,7 +116,7 @@ module _ (s : ScriptView) (nodes : List Node) (ps : List Parted) (left : List (L
 
   -- what was seen
   module _ (noted_outside : AreNoted ps outside) where
-    is_seen : (g : ℕ) (p : Parted) → parted_at ps g ≡ Some p → (l : Label) → Among l p.lawful.labels → IsSeenRightly told g l
+    is_seen : (g : ℕ) (p : RanFiber) → ran_at ps g ≡ Some p → (l : Label) → Among l p.lawful.labels → IsSeenRightly told g l
     is_seen g p at (Shows event.Seen) i =
         let saw = p.lawful.agreed.plain.words_agree.saw (saw_done p.bare.nodes p.lawful.labels (deeds_of p.lawful.deeds) p.lawful.are_deeds i) in
         let d = words.settled.requested p.words (in_seat nodes ps ran ascending lost words g p at) saw in
@@ -142,7 +142,7 @@ module _ (s : ScriptView) (nodes : List Node) (ps : List Parted) (left : List (L
     is_seen g p at (Starts f b) i = tt
 
   -- what a fiber's trace does to a queue is what its pass did
-  pub acts_told : (q f : ℕ) (p : Parted) → parted_at ps f ≡ Some p → (p.passes q).acts ≡ queue_events q f (trace_in told f)
+  pub acts_told : (q f : ℕ) (p : RanFiber) → ran_at ps f ≡ Some p → (p.passes q).acts ≡ queue_events q f (trace_in told f)
   acts_told q f p at =
       (p.lawful.agreed.plain.queues_agree q).acts
       ∙ queue_done p.bare.nodes q p.bare.id _ p.bare.counts _ (reached p.bare) p.lawful.labels (deeds_of p.lawful.deeds) p.lawful.run p.lawful.are_deeds
@@ -155,25 +155,25 @@ module _ (s : ScriptView) (nodes : List Node) (ps : List Parted) (left : List (L
     history = c.rest.log;
     leaves = subst (λ (xs : List Element). Leaves capacity c.rest.log xs) (sym (left_is left q))
         (subst (λ (n : ℕ). Leaves n c.rest.log (elements_of (slice_index_or left q []))) c.sized c.rest.legal);
-    cuts = λ f. by_fiber f (parted_at ps f) refl;
+    cuts = λ f. by_fiber f (ran_at ps f) refl;
   }
     where
-      has : Parted → pass.Entry
+      has : RanFiber → pass.Entry
       has p = p.passes q
 
-      by_fiber : (f : ℕ) (o : Option Parted) → parted_at ps f ≡ o → cut f c.rest.log ≡ queue_events q f (trace_in told f)
+      by_fiber : (f : ℕ) (o : Option RanFiber) → ran_at ps f ≡ o → cut f c.rest.log ≡ queue_events q f (trace_in told f)
       by_fiber f (Some p) at =
           ap (λ (n : ℕ). cut n c.rest.log) (sym (pass_number_at ps q f p at))
-          ∙ c.rest.cuts (p.passes q) (gathered_of ps ascending (λ (z : Parted). z.passes q) (queue.entries c.view) c.gathered f p at)
+          ∙ c.rest.cuts (p.passes q) (gathered_of ps ascending (λ (z : RanFiber). z.passes q) (queue.entries c.view) c.gathered f p at)
           ∙ acts_told q f p at
       by_fiber f None none = c.rest.only f apart ∙ sym (ap (queue_events q f) (trace_nowhere f none))
         where
           apart : (e : pass.Entry) → queue.In e c.view → e.id ≢ f
           apart e i same =
-              let o = whose ps ascending (λ (z : Parted). z.passes q) (queue.entries c.view) c.gathered e i in
+              let o = whose ps ascending (λ (z : RanFiber). z.passes q) (queue.entries c.view) c.gathered e i in
               let number : o.fiber.bare.id ≡ f =
               sym (pass_number_at ps q o.fiber.bare.id o.fiber o.at) ∙ sym (ap (λ (w : pass.Entry). w.id) o.is) ∙ same in
-              none-some o.fiber (sym none ∙ ap (parted_at ps) (sym number) ∙ o.at)
+              none-some o.fiber (sym none ∙ ap (ran_at ps) (sym number) ∙ o.at)
 
   -- a queue that the script does not declare
   no_history : (q : ℕ) → length left ≤ q → IsUntouched q ps → HasHistory told q (capacity_of s q)
@@ -181,17 +181,17 @@ module _ (s : ScriptView) (nodes : List Node) (ps : List Parted) (left : List (L
     history = [];
     leaves = subst (λ (xs : List Element). Leaves (capacity_of s q) [] xs) (sym (left_is left q ∙ ap elements_of (get_or_past left q [] past)))
         (leaves_nothing (capacity_of s q));
-    cuts = λ f. by_fiber f (parted_at ps f) refl;
+    cuts = λ f. by_fiber f (ran_at ps f) refl;
   }
     where
-      by_fiber : (f : ℕ) (o : Option Parted) → parted_at ps f ≡ o → [] ≡ queue_events q f (trace_in told f)
+      by_fiber : (f : ℕ) (o : Option RanFiber) → ran_at ps f ≡ o → [] ≡ queue_events q f (trace_in told f)
       by_fiber f (Some p) at = sym (untouched f p at) ∙ acts_told q f p at
       by_fiber f None none = sym (ap (queue_events q f) (trace_nowhere f none))
 
   -- each fiber has a run of its own
   module _ (settled : NoneIsUnsettled s (bares_of ps) told) where
     run_told : (f : ℕ) (x : FiberReportView) → fiber_in told f ≡ Some x
-        → HasRun s told f x (origin_at s (parted_at ps f)) (labels_at s (parted_at ps f)) (counts_at s (parted_at ps f)) (progress_at s (parted_at ps f))
+        → HasRun s told f x (origin_at s (ran_at ps f)) (labels_at s (ran_at ps f)) (counts_at s (ran_at ps f)) (progress_at s (ran_at ps f))
     run_told f x e =
         let o = of_report ps left outside late f x e in
         let p = o.fiber in
@@ -206,15 +206,15 @@ module _ (s : ScriptView) (nodes : List Node) (ps : List Parted) (left : List (L
 
     unfoldable all_runs : HasRuns s told
     all_runs = record {
-      origin = λ f. origin_at s (parted_at ps f);
-      labels = λ f. labels_at s (parted_at ps f);
-      counts = λ f. counts_at s (parted_at ps f);
-      progress = λ f. progress_at s (parted_at ps f);
+      origin = λ f. origin_at s (ran_at ps f);
+      labels = λ f. labels_at s (ran_at ps f);
+      counts = λ f. counts_at s (ran_at ps f);
+      progress = λ f. progress_at s (ran_at ps f);
       run = run_told;
     }
 
     -- what holds of each label of a fiber's run
-    all_labels : (P : Label → Type 0) (f : ℕ) → ((p : Parted) → parted_at ps f ≡ Some p → (l : Label) → Among l p.lawful.labels → P l)
+    all_labels : (P : Label → Type 0) (f : ℕ) → ((p : RanFiber) → ran_at ps f ≡ Some p → (l : Label) → Among l p.lawful.labels → P l)
         → (x : FiberReportView) → fiber_in told f ≡ Some x → All P (all_runs.labels f)
     unfolding all_runs
     all_labels P f each x e = let o = of_report ps left outside late f x e in rw o.at (all_among P o.fiber.lawful.labels (each o.fiber o.at))
@@ -232,12 +232,12 @@ module _ (s : ScriptView) (nodes : List Node) (ps : List Parted) (left : List (L
       history_by q (inr le) = no_history q (subst (λ (n : ℕ). n ≤ q) (sym by_queue) le) (undeclared q le)
 
       -- the history of a queue that was closed goes on from all that a fiber saw of it
-      begins_by : (q f : ℕ) (p : Parted) → q < length s.capacities → parted_at ps f ≡ Some p
+      begins_by : (q f : ℕ) (p : RanFiber) → q < length s.capacities → ran_at ps f ≡ Some p
           → (o : (q < length s.capacities) ⊎ (length s.capacities ≤ q)) → Begins (history_by q o).history (p.passes q).seen
       unfolding closed_history history_by
       begins_by q f p some at (inl lt) =
           let c = queues q lt in
-          c.rest.begins (p.passes q) (gathered_of ps ascending (λ (z : Parted). z.passes q) (queue.entries c.view) c.gathered f p at)
+          c.rest.begins (p.passes q) (gathered_of ps ascending (λ (z : RanFiber). z.passes q) (queue.entries c.view) c.gathered f p at)
       begins_by q f p some at (inr le) = absurd (omega (arith, some, le))
 
       history_told : (q : ℕ) → HasHistory told q (capacity_of s q)
@@ -256,11 +256,11 @@ module _ (s : ScriptView) (nodes : List Node) (ps : List Parted) (left : List (L
         outside_named = named.named;
       }
 
-      pub progress_told : (f : ℕ) (p : Parted) → parted_at ps f ≡ Some p → report_is_lawful.runs.progress f ≡ reached p.bare
+      pub progress_told : (f : ℕ) (p : RanFiber) → ran_at ps f ≡ Some p → report_is_lawful.runs.progress f ≡ reached p.bare
       unfolding all_runs report_is_lawful
       progress_told f p at = ap (progress_at s) at
 
-      pub labels_told : (f : ℕ) → report_is_lawful.runs.labels f ≡ labels_at s (parted_at ps f)
+      pub labels_told : (f : ℕ) → report_is_lawful.runs.labels f ≡ labels_at s (ran_at ps f)
       unfolding all_runs report_is_lawful
       labels_told f = refl
 
@@ -278,7 +278,7 @@ module _ (s : ScriptView) (nodes : List Node) (ps : List Parted) (left : List (L
       unfolding history_told report_is_lawful
       history_of q = history_of_by q (cases_lt q (length s.capacities))
 
-      pub history_goes_on : (q f : ℕ) (p : Parted) → q < length s.capacities → parted_at ps f ≡ Some p
+      pub history_goes_on : (q f : ℕ) (p : RanFiber) → q < length s.capacities → ran_at ps f ≡ Some p
           → Begins (report_is_lawful.histories q).history (p.passes q).seen
       unfolding report_is_lawful history_told
       history_goes_on q f p some at = begins_by q f p some at (cases_lt q (length s.capacities))

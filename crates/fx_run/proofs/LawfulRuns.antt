@@ -18,7 +18,7 @@ use Rattle.fx_word.specs.SeatView as seat
 use Rattle.fx_queue.specs.Queues.{QueueId}
 use Rattle.fx_run.specs.declared.gathered.Gathered.{Gathered}
 use Rattle.fx_run.specs.Gathered.{IsGathered, AreAllowed}
-use Rattle.fx_run.specs.Parted.{bares_of}
+use Rattle.fx_run.specs.RanFiber.{bares_of}
 use Rattle.fx_run.specs.Reported.{AreAscending, NoneIsLost}
 use Rattle.fx_run.specs.EndOfRun.{EndsWithReport}
 use Rattle.fx_run.specs.Closing.{IsReportOf}

@@ -3,7 +3,7 @@ pub mod DeedLaws
 pub mod QueueDeeds
 pub mod StartsOnce
 pub mod RunEnds
-pub mod Apart
+pub mod FiberAndPort
 pub mod GivenFibers
 pub mod Gathering
 pub mod GatheredLaws
@@ -27,11 +27,11 @@ pub mod AgreeingStamps
 pub mod PassChanges
 pub mod LedgerLaws
 pub mod LostLaws
-pub mod ToldLaws
+pub mod TallyLaws
 pub mod ClosedLists
 pub mod Unsettled
 pub mod FlowLaws
-pub mod BetweenLaws
+pub mod SweepLaws
 pub mod Sweeps
 pub mod FalseRefusal
 pub mod ExampleRuns

@@ -9,7 +9,7 @@ use Rattle.fx_queue.specs.declared.pass_view.PassView.{PassView}
 use Rattle.fx_queue.specs.Entry.{acting}
 use Rattle.fx_queue.specs.PassView.{first_view, kept_part, given_part}
 use Rattle.fx_queue.specs.Told.{DidPut, DidGet}
-use Rattle.fx_run.specs.Changes.{IsNewPass, IsSplitFor, HasOneMore}
+use Rattle.fx_run.specs.PassChanges.{IsNewPass, IsSplitFor, HasOneMore}
 
 pub first_is_new : (capacity fibers : ℕ) → IsNewPass 0 (first_view capacity fibers).own
 first_is_new capacity fibers = record { number = refl; acts = refl; stamps = refl; parts = refl }

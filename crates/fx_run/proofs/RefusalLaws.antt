@@ -16,7 +16,7 @@ use Rattle.fx_queue.specs.History.{Begins}
 use Rattle.fx_queue.specs.PassView as queue
 use Rattle.fx_queue.proofs.Histories.{cut-append, Begins-trans}
 use Rattle.fx_fiber.specs.StampedDeed.{deeds_of}
-use Rattle.fx_run.specs.Parted.{Parted, bares_of, parted_at}
+use Rattle.fx_run.specs.RanFiber.{RanFiber, bares_of, ran_at}
 use Rattle.fx_run.specs.Reported.{report_of_bare}
 use Rattle.fx_run.specs.EndOfRun.{EndsWithReport}
 use Rattle.fx_run.specs.Ancestors.{ComesFrom, started, through}
@@ -57,7 +57,7 @@ has_none (x ∷ xs) h = absurd (h x (inl refl))
 -- by the histories of the report with which a run has ended
 module _ (s : ScriptView) (may : ℕ → Bool) (answer : ReportView) (h : EndsWithReport s may answer) (all : AllFound s h.fibers)
     (handed : AllHanded s h.fibers) where
-  abbrev ps : List Parted
+  abbrev ps : List RanFiber
   ps = h.fibers
 
   abbrev told : ReportView
@@ -66,41 +66,41 @@ module _ (s : ScriptView) (may : ℕ → Bool) (answer : ReportView) (h : EndsWi
   abbrev lawful : IsLawfulReport s may told
   lawful = end_is_lawful s may answer h
 
-  goes_on : (q f : ℕ) (p : Parted) → q < length s.capacities → parted_at ps f ≡ Some p → Begins (lawful.histories q).history (p.passes q).seen
+  goes_on : (q f : ℕ) (p : RanFiber) → q < length s.capacities → ran_at ps f ≡ Some p → Begins (lawful.histories q).history (p.passes q).seen
   goes_on =
       history_goes_on s h.nodes ps h.left h.outside h.late h.ran h.ascending h.answered.none_lost h.words h.answered.none_unsettled
       h.term h.noted may h.named h.left_by_queue h.queues h.undeclared
 
   -- a fiber that is the only one split its passes for nobody
-  no_parts : (q f : ℕ) (p : Parted) → parted_at ps f ≡ Some p → IsOnlyFiber told f → (p.passes q).parts ≡ []
+  no_parts : (q f : ℕ) (p : RanFiber) → ran_at ps f ≡ Some p → IsOnlyFiber told f → (p.passes q).parts ≡ []
   no_parts q f p at only = has_none (p.passes q).parts (λ g i.
       let d = (p.lawful.agreed.plain.queues_agree q).parts g i in
       starts_nobody told lawful.starters f only (report_of_bare (bares_of ps) p.bare) (report_in ps h.left h.outside h.late f p at) g
       (part_in_trace g d.0 p d.1))
 
-  shared_with : (q f : ℕ) (p : Parted) → parted_at ps f ≡ Some p → (seen : List QueueEvent)
+  shared_with : (q f : ℕ) (p : RanFiber) → ran_at ps f ≡ Some p → (seen : List QueueEvent)
       → (q < length s.capacities) × Begins (p.passes q).seen seen ⊎ (seen ≡ []) → Begins (lawful.histories q).history seen
   shared_with q f p at seen (inl (some, since)) = Begins-trans (lawful.histories q).history (p.passes q).seen seen (goes_on q f p some at) since
   shared_with q f p at seen (inr none) = ((lawful.histories q).history, ap (λ l. l ++ (lawful.histories q).history) (sym none))
 
   -- what a fiber began with has what those that it comes from had done before
-  record BeganWith (q f g : ℕ) (p : Parted) (earlier : List Event) : Type 0 where
+  record BeganWith (q f g : ℕ) (p : RanFiber) (earlier : List Event) : Type 0 where
     seen : List QueueEvent
     begun : Begins (p.passes q).began seen
     known : cut g seen ≡ queue_events q g earlier
-    fiber : Parted
-    at : parted_at ps g ≡ Some fiber
+    fiber : RanFiber
+    at : ran_at ps g ≡ Some fiber
     before : Begins seen (fiber.passes q).began
 
   -- of a fiber that another one started
-  started_with : (q : ℕ) → q < length s.capacities → (f : ℕ) (p : Parted) → parted_at ps f ≡ Some p → (g : ℕ) (x : FiberReportView)
+  started_with : (q : ℕ) → q < length s.capacities → (f : ℕ) (p : RanFiber) → ran_at ps f ≡ Some p → (g : ℕ) (x : FiberReportView)
       → fiber_in told g ≡ Some x → (before after : List Event) → x.trace ≡ before ++ event.Start f ∷ after → BeganWith q f g p before
   started_with q lt f p pat g x at before after is =
       let o = of_report ps h.left h.outside h.late g x at in
       let part = handed g o.fiber o.at f before after (ap (λ (y : FiberReportView). y.trace) (sym o.is) ∙ is) q lt in
       let c = h.queues q lt in
-      let member : (i : ℕ) (z : Parted) → parted_at ps i ≡ Some z → Among (z.passes q) (queue.entries c.view) =
-      gathered_of ps h.ascending (λ (z : Parted). z.passes q) (queue.entries c.view) c.gathered in
+      let member : (i : ℕ) (z : RanFiber) → ran_at ps i ≡ Some z → Among (z.passes q) (queue.entries c.view) =
+      gathered_of ps h.ascending (λ (z : RanFiber). z.passes q) (queue.entries c.view) c.gathered in
       let given = c.rest.handed (o.fiber.passes q) (p.passes q) (member g o.fiber o.at) (member f p pat) part.0 part.1
       (part.2 ∙ sym (pass_number_at ps q f p pat)) in
       record {
@@ -112,7 +112,7 @@ module _ (s : ScriptView) (may : ℕ → Bool) (answer : ReportView) (h : EndsWi
         before = given.1;
       }
 
-  began_with : (q : ℕ) → q < length s.capacities → (f : ℕ) (p : Parted) → parted_at ps f ≡ Some p → (g : ℕ) (earlier : List Event)
+  began_with : (q : ℕ) → q < length s.capacities → (f : ℕ) (p : RanFiber) → ran_at ps f ≡ Some p → (g : ℕ) (earlier : List Event)
       → ComesFrom told f g earlier → BeganWith q f g p earlier
   began_with q lt f p pat g earlier (started x after at is) = started_with q lt f p pat g x at earlier after is
   began_with q lt f p pat g earlier (through k between x after line at is) =
@@ -147,7 +147,7 @@ module _ (s : ScriptView) (may : ℕ → Bool) (answer : ReportView) (h : EndsWi
   comes_after_nothing q le f g earlier (started x after at is) = nothing_done q le g x at earlier (event.Start f ∷ after) is
   comes_after_nothing q le f g earlier (through h between x after line at is) = nothing_done q le g x at earlier (event.Start h ∷ after) is
 
-  ancestors_by : (q f : ℕ) (p : Parted) → parted_at ps f ≡ Some p → (seen : List QueueEvent) → Begins seen (p.passes q).began
+  ancestors_by : (q f : ℕ) (p : RanFiber) → ran_at ps f ≡ Some p → (seen : List QueueEvent) → Begins seen (p.passes q).began
       → (q < length s.capacities) ⊎ (length s.capacities ≤ q) → (g : ℕ) (earlier : List Event) → ComesFrom told f g earlier
       → Begins (cut g seen) (queue_events q g earlier)
   ancestors_by q f p at seen begun (inl lt) g earlier line =

@@ -26,7 +26,7 @@ use Rattle.fx_report.specs.declared.wait.Wait.{Wait}
 use Rattle.fx_report.specs.Waits.{WaitsAtQueueBelow}
 use Rattle.fx_report.proofs.BlockedFibers.{fibers_of, blocked_of, wait_from, one_blocked, source_named}
 use Rattle.fx_report.proofs.Keys.{all_found}
-use Rattle.fx_run.specs.Parted.{Parted, bares_of}
+use Rattle.fx_run.specs.RanFiber.{RanFiber, bares_of}
 use Rattle.fx_run.specs.Reported.{bare_at, report_of_bare}
 use Rattle.fx_run.specs.EndOfRun.{EndsWithReport}
 use Rattle.fx_run.specs.RunWaits.{AreWaitsAt, StandsAt, StandsAmong, wait_of, all_waits}
@@ -83,7 +83,7 @@ module _ (progress : ℕ → Progress) where
       (sources_are bares (All-tail IsAt x bares h))
 
 module _ (s : ScriptView) (may : ℕ → Bool) (answer : ReportView) (h : EndsWithReport s may answer) (scoped : IsScopedOver (λ f. true) s.term) where
-  abbrev ps : List Parted
+  abbrev ps : List RanFiber
   ps = h.fibers
 
   abbrev told : ReportView

@@ -22,7 +22,7 @@ use Rattle.fx_fiber.specs.Bare.{BareView, reached}
 use Rattle.fx_word.specs.declared.entry.Entry.{Entry}
 use Rattle.fx_word.specs.SeatView.{In, entries}
 use Rattle.fx_port.specs.PortView.{beginning_in}
-use Rattle.fx_run.specs.Parted.{Parted, bares_of, parted_at}
+use Rattle.fx_run.specs.RanFiber.{RanFiber, bares_of, ran_at}
 use Rattle.fx_run.specs.Reported.{RanCode, AreAscending, parent_of, report_of_bare, NoneIsLost}
 use Rattle.fx_run.specs.EndOfRun.{WordsEnd}
 use Rattle.fx_run.proofs.Members.{among_all, contains_among, any_among, found_passing, found_is, found_itself}
@@ -57,42 +57,42 @@ report_numbers bares (x ∷ xs) = ap (λ (ns : List ℕ). x.id ∷ ns) (report_n
 abbrev starts_fiber : ℕ → BareView → Bool
 starts_fiber f x = list_any (is_start_of f) x.trace
 
-module _ (nodes : List Node) (ps : List Parted) (ran : RanCode nodes (bares_of ps)) (ascending : AreAscending (bares_of ps))
+module _ (nodes : List Node) (ps : List RanFiber) (ran : RanCode nodes (bares_of ps)) (ascending : AreAscending (bares_of ps))
     (lost : NoneIsLost (bares_of ps)) (words : WordsEnd ps) where
   abbrev bares : List BareView
   bares = bares_of ps
 
   -- its entry is among those gathered, and an entry among these is of a fiber given
-  pub in_seat : (f : ℕ) (p : Parted) → parted_at ps f ≡ Some p → In p.words words.view
-  in_seat f p at = gathered_of ps ascending (λ (z : Parted). z.words) (entries words.view) words.gathered f p at
+  pub in_seat : (f : ℕ) (p : RanFiber) → ran_at ps f ≡ Some p → In p.words words.view
+  in_seat f p at = gathered_of ps ascending (λ (z : RanFiber). z.words) (entries words.view) words.gathered f p at
 
   pub record EntryOf (f : ℕ) (e : Entry) : Type 0 where
-    pub fiber : Parted
-    pub at : parted_at ps f ≡ Some fiber
+    pub fiber : RanFiber
+    pub at : ran_at ps f ≡ Some fiber
     pub is : e ≡ fiber.words
 
   pub entry_of : (f : ℕ) (e : Entry) → In e words.view → e.id ≡ f → EntryOf f e
   entry_of f e i same =
-      let o = whose ps ascending (λ (z : Parted). z.words) (entries words.view) words.gathered e i in
+      let o = whose ps ascending (λ (z : RanFiber). z.words) (entries words.view) words.gathered e i in
       let number : o.fiber.bare.id ≡ f =
       sym (number_at ps o.fiber.bare.id o.fiber o.at) ∙ sym (ap (λ (w : Entry). w.id) o.is) ∙ same in
-      record { fiber = o.fiber; at = sym (ap (parted_at ps) number) ∙ o.at; is = o.is }
+      record { fiber = o.fiber; at = sym (ap (ran_at ps) number) ∙ o.at; is = o.is }
 
   -- it ran the same code
-  pub its_code : (f : ℕ) (p : Parted) → parted_at ps f ≡ Some p → p.bare.nodes ≡ nodes
+  pub its_code : (f : ℕ) (p : RanFiber) → ran_at ps f ≡ Some p → p.bare.nodes ≡ nodes
   its_code f p at =
       let found = found_is (λ (y : BareView). y.id == f) bares p.bare (bare_in ps f p at) in
       among_all (λ (x : BareView). x.nodes ≡ nodes) bares p.bare ran found.1
 
   -- a fiber that a run starts, as it is given
   pub record ChildOf (g f : ℕ) (b : Origin) : Type 0 where
-    pub fiber : Parted
-    pub at : parted_at ps f ≡ Some fiber
+    pub fiber : RanFiber
+    pub at : ran_at ps f ≡ Some fiber
     pub begin : Begin
     pub by : fiber.words.begin ≡ Some (g, begin)
     pub is : origin_of fiber.bare.nodes (beginning_in fiber.bare.nodes fiber.words.begin) ≡ b
 
-  pub child_of : (g f : ℕ) (b : Origin) (p : Parted) → parted_at ps g ≡ Some p → Among (Starts f b) p.lawful.labels → ChildOf g f b
+  pub child_of : (g f : ℕ) (b : Origin) (p : RanFiber) → ran_at ps g ≡ Some p → Among (Starts f b) p.lawful.labels → ChildOf g f b
   child_of g f b p at i =
       let done = start_done p.bare.nodes p.lawful.labels (deeds_of p.lawful.deeds) p.lawful.are_deeds f b i in
       let part = p.lawful.agreed.plain.words_agree.started f done.begin done.done in
@@ -109,20 +109,20 @@ module _ (nodes : List Node) (ps : List Parted) (ran : RanCode nodes (bares_of p
       }
 
   -- nobody split the main fiber off
-  pub none_before_main : (p : Parted) → parted_at ps 0 ≡ Some p → p.words.begin ≡ None
+  pub none_before_main : (p : RanFiber) → ran_at ps 0 ≡ Some p → p.words.begin ≡ None
   none_before_main p at = words.settled.main p.words (in_seat 0 p at) (number_at ps 0 p at)
 
   -- fiber g, which starts fiber f
   record StarterOf (f g : ℕ) : Type 0 where
-    pub fiber : Parted
-    pub at : parted_at ps f ≡ Some fiber
+    pub fiber : RanFiber
+    pub at : ran_at ps f ≡ Some fiber
     pub begin : Begin
     pub by : fiber.words.begin ≡ Some (g, begin)
-    pub starter : Parted
-    pub starter_at : parted_at ps g ≡ Some starter
+    pub starter : RanFiber
+    pub starter_at : ran_at ps g ≡ Some starter
     pub starts : starts_fiber f starter.bare ≡ true
 
-  starter_of : (g f : ℕ) (p : Parted) → parted_at ps g ≡ Some p → starts_fiber f p.bare ≡ true → StarterOf f g
+  starter_of : (g f : ℕ) (p : RanFiber) → ran_at ps g ≡ Some p → starts_fiber f p.bare ≡ true → StarterOf f g
   starter_of g f p at e = by_count (starts_of f p.bare.trace) refl
     where
       by_count : (n : ℕ) → starts_of f p.bare.trace ≡ n → StarterOf f g
@@ -137,7 +137,7 @@ module _ (nodes : List Node) (ps : List Parted) (ran : RanCode nodes (bares_of p
   same_starter : (g h f : ℕ) → StarterOf f g → StarterOf f h → g ≡ h
   same_starter g h f a b =
       let same : a.fiber ≡ b.fiber = same_Some a.fiber b.fiber (sym a.at ∙ b.at) in
-      let pair : (g, a.begin) ≡ (h, b.begin) = same_Some (g, a.begin) (h, b.begin) (sym a.by ∙ ap (λ (z : Parted). z.words.begin) same ∙ b.by) in
+      let pair : (g, a.begin) ≡ (h, b.begin) = same_Some (g, a.begin) (h, b.begin) (sym a.by ∙ ap (λ (z : RanFiber). z.words.begin) same ∙ b.by) in
       ap (λ (x : ℕ × Begin). x.0) pair
 
   starts_here : (f : ℕ) (x : BareView) → find (starts_fiber f) bares ≡ Some x → StarterOf f x.id
@@ -155,7 +155,7 @@ module _ (nodes : List Node) (ps : List Parted) (ran : RanCode nodes (bares_of p
       by_found (Some x) is n = subst (λ (k : ℕ). StarterOf f k) (same_Some x.id h n) (starts_here f x is)
 
   -- who started the fiber is reported as its parent
-  starter_is_parent : (g f : ℕ) (p : Parted) → parted_at ps g ≡ Some p → starts_fiber f p.bare ≡ true → parent_of bares f ≡ Some g
+  starter_is_parent : (g f : ℕ) (p : RanFiber) → ran_at ps g ≡ Some p → starts_fiber f p.bare ≡ true → parent_of bares f ≡ Some g
   starter_is_parent g f p at e =
       let here = (found_is (λ (y : BareView). y.id == g) bares p.bare (bare_in ps g p at)).1 in
       let found = found_passing (starts_fiber f) bares (any_among (starts_fiber f) bares p.bare here e) in
@@ -170,10 +170,10 @@ module _ (nodes : List Node) (ps : List Parted) (ran : RanCode nodes (bares_of p
   record SomeParent (f : ℕ) : Type 0 where
     pub number : ℕ
     pub is : parent_of bares f ≡ Some number
-    pub fiber : Parted
-    pub at : parted_at ps number ≡ Some fiber
+    pub fiber : RanFiber
+    pub at : ran_at ps number ≡ Some fiber
 
-  has_parent : (f : ℕ) (p : Parted) → parted_at ps f ≡ Some p → f ≢ 0 → SomeParent f
+  has_parent : (f : ℕ) (p : RanFiber) → ran_at ps f ≡ Some p → f ≢ 0 → SomeParent f
   has_parent f p at ne =
       let same : p.words.id ≡ f = number_at ps f p at in
       let o = words.settled.started p.words (in_seat f p at) (λ e. ne (sym same ∙ e)) in
@@ -189,36 +189,36 @@ module _ (nodes : List Node) (ps : List Parted) (ran : RanCode nodes (bares_of p
     abbrev told : ReportView
     told = report ps left outside late
 
-    abbrev view_of : Parted → FiberReportView
+    abbrev view_of : RanFiber → FiberReportView
     view_of p = report_of_bare bares p.bare
 
-    in_report : (f : ℕ) (p : Parted) → parted_at ps f ≡ Some p → fiber_in told f ≡ Some (view_of p)
+    in_report : (f : ℕ) (p : RanFiber) → ran_at ps f ≡ Some p → fiber_in told f ≡ Some (view_of p)
     in_report f p at = report_in ps left outside late f p at
 
-    parent_told : (f : ℕ) (p : Parted) → parted_at ps f ≡ Some p → (view_of p).parent ≡ parent_of bares f
+    parent_told : (f : ℕ) (p : RanFiber) → ran_at ps f ≡ Some p → (view_of p).parent ≡ parent_of bares f
     parent_told f p at = ap (parent_of bares) (id_at ps f p at)
 
-    parent_same : (f : ℕ) (p : Parted) → parted_at ps f ≡ Some p → parent_in told f ≡ parent_of bares f
+    parent_same : (f : ℕ) (p : RanFiber) → ran_at ps f ≡ Some p → parent_in told f ≡ parent_of bares f
     parent_same f p at = ap parent_of_report (in_report f p at) ∙ parent_told f p at
 
-    not_named : (f g : ℕ) (p : Parted) → parted_at ps g ≡ Some p → starts_of f p.bare.trace ≡ 0 → (o : Option ℕ) → parent_in told f ≡ o
+    not_named : (f g : ℕ) (p : RanFiber) → ran_at ps g ≡ Some p → starts_of f p.bare.trace ≡ 0 → (o : Option ℕ) → parent_in told f ≡ o
         → is_parent o g ≡ false
     not_named f g p at none None e = refl
     not_named f g p at none (Some h) e = by_test (h == g) refl
       where
-        by_told : (z : Option Parted) → parted_at ps f ≡ z → g ≡ h → ⊥
+        by_told : (z : Option RanFiber) → ran_at ps f ≡ z → g ≡ h → ⊥
         by_told None is same = none-some h (sym (ap parent_of_report (report_nowhere ps left outside late f is)) ∙ e)
         by_told (Some z) is same =
             let a = parent_starts f h (sym (parent_same f z is) ∙ e) in
-            let one : p ≡ a.starter = same_Some p a.starter (sym at ∙ ap (parted_at ps) same ∙ a.starter_at) in
-            let some = starts_some f p.bare.trace (ap (λ (y : Parted). starts_fiber f y.bare) one ∙ a.starts) in
+            let one : p ≡ a.starter = same_Some p a.starter (sym at ∙ ap (ran_at ps) same ∙ a.starter_at) in
+            let some = starts_some f p.bare.trace (ap (λ (y : RanFiber). starts_fiber f y.bare) one ∙ a.starts) in
             omega arith
 
         by_test : (b : Bool) → (h == g) ≡ b → (h == g) ≡ false
         by_test false is = is
-        by_test true is = absurd (by_told (parted_at ps f) refl (sym (eqb-true h g is)))
+        by_test true is = absurd (by_told (ran_at ps f) refl (sym (eqb-true h g is)))
 
-    starts_as_told : (g f : ℕ) (p : Parted) → parted_at ps g ≡ Some p
+    starts_as_told : (g f : ℕ) (p : RanFiber) → ran_at ps g ≡ Some p
         → starts_of f p.bare.trace ≡ (if is_parent (parent_in told f) g then 1 else 0)
     starts_as_told g f p at = by_count (starts_of f p.bare.trace) refl
       where

@@ -9,10 +9,10 @@ use Rattle.fx_term.specs.declared.outcome.Outcome.{Outcome}
 use Rattle.fx_term.specs.Script.{ScriptView}
 use Rattle.fx_fiber.specs.Fiber.{FiberView}
 use Rattle.fx_port.specs.PortView.{PortView}
-use Rattle.fx_run.specs.Between.{ClosedLists, can_go, is_unable, closed_of, NoneCanGo, IsSwept, events_of}
-use Rattle.fx_run.specs.Told.{ToldView, nothing_told, with_live, with_lives}
+use Rattle.fx_run.specs.Sweep.{ClosedLists, can_go, is_unable, closed_of, NoneCanGo, IsSwept, events_of}
+use Rattle.fx_run.specs.Tally.{TallyView, empty_tally, with_live, with_lives}
 use Rattle.fx_run.specs.Flows.{with_moves, rests_in, rests_of}
-use Rattle.fx_run.proofs.BetweenLaws.{told_outcomes, told_requested}
+use Rattle.fx_run.proofs.SweepLaws.{told_outcomes, told_requested}
 use Rattle.fx_run.proofs.FlowLaws.{counted_rests, moves_append}
 
 -- what passes of the next one comes after what passed of those before it
@@ -56,22 +56,22 @@ module _ (nodes : List Node) (s : ScriptView) (unable : List (FiberView PortView
   none_can_go = subst (λ (fs : List (FiberView PortView)). NoneCanGo nodes s fs) all_unable none.each
 
 -- the queues' counters have what the events of all fibers told
-pub lives_moved : (fs : List (FiberView PortView)) (t : ToldView) → (with_lives fs t).flows ≡ with_moves (events_of fs) t.flows
+pub lives_moved : (fs : List (FiberView PortView)) (t : TallyView) → (with_lives fs t).flows ≡ with_moves (events_of fs) t.flows
 lives_moved [] t = refl
 lives_moved (f ∷ fs) t = lives_moved fs (with_live f t) ∙ sym (moves_append f.trace (events_of fs) t.flows)
 
 -- the rests that they tell
 pub told_rests : (s : ScriptView) (fs : List (FiberView PortView))
-    → rests_in (with_lives fs (nothing_told s)).flows ≡ rests_of (length s.capacities) (events_of fs)
-told_rests s fs = ap rests_in (lives_moved fs (nothing_told s)) ∙ counted_rests (length s.capacities) (events_of fs)
+    → rests_in (with_lives fs (empty_tally s)).flows ≡ rests_of (length s.capacities) (events_of fs)
+told_rests s fs = ap rests_in (lives_moved fs (empty_tally s)) ∙ counted_rests (length s.capacities) (events_of fs)
 
 -- lists that are what the fibers told are what they have come to
-pub closed_parts : (s : ScriptView) (fs : List (FiberView PortView)) (c : ClosedLists) (t : ToldView) → t ≡ with_lives fs (nothing_told s)
+pub closed_parts : (s : ScriptView) (fs : List (FiberView PortView)) (c : ClosedLists) (t : TallyView) → t ≡ with_lives fs (empty_tally s)
     → c.caps ≡ s.capacities → c.rests ≡ rests_in t.flows → c.outcomes ≡ t.ledger.outcomes → c.requested ≡ t.ledger.requested → c ≡ closed_of s fs
 closed_parts s fs c t told caps rests outcomes requested =
-    by_parts caps (rests ∙ ap (λ (t : ToldView). rests_in t.flows) told ∙ told_rests s fs)
-    (outcomes ∙ ap (λ (t : ToldView). t.ledger.outcomes) told ∙ told_outcomes s fs)
-    (requested ∙ ap (λ (t : ToldView). t.ledger.requested) told ∙ told_requested s fs)
+    by_parts caps (rests ∙ ap (λ (t : TallyView). rests_in t.flows) told ∙ told_rests s fs)
+    (outcomes ∙ ap (λ (t : TallyView). t.ledger.outcomes) told ∙ told_outcomes s fs)
+    (requested ∙ ap (λ (t : TallyView). t.ledger.requested) told ∙ told_requested s fs)
   where
     by_parts : {a a' b b' : List ℕ} {d d' : List (Option Outcome)} {e e' : List Bool} → a ≡ a' → b ≡ b' → d ≡ d' → e ≡ e'
         → ◌≡◌ {A = ClosedLists} (record { caps = a; rests = b; outcomes = d; requested = e }) (record { caps = a'; rests = b'; outcomes = d'; requested = e' })

@@ -23,36 +23,36 @@ use Rattle.fx_text.specs.declared.queue_decl.QueueDecl.{QueueDecl}
 use Rattle.fx_text.specs.QueuesView.{view_queues}
 use Rattle.fx_run.specs.Reported.{AreAscending, bare_at, report_of_bare, report_of, NoneIsLost, IsUnsettled, NoneIsUnsettled, IsLeast, IsReported}
 use Rattle.fx_run.specs.Ledger.{LedgerView, empty_ledger, with_fibers, with_requests}
-use Rattle.fx_run.specs.ClosedAs.{in_word, lengths_of, IsClosedAs, can_step_by, report_by}
+use Rattle.fx_run.specs.ClosedAs.{within_32_bits, lengths_of, IsClosedAs, can_step_by, report_by}
 use Rattle.fx_run.proofs.Members.{among_all, found_is, found_itself}
 use Rattle.fx_run.proofs.GivenFibers.{report_at}
 use Rattle.fx_run.proofs.LostLaws.{nowhere_past, parent_told}
-use Rattle.fx_run.proofs.ToldLaws.{requested_at, fibers_long, fibers_requested, requests_requested, requests_outcomes, requests_parents, outcome_at, outcome_of}
-use Rattle.fx_run.proofs.ToldLaws.{fibers_outcome, fibers_ends_long}
+use Rattle.fx_run.proofs.TallyLaws.{requested_at, fibers_long, fibers_requested, requests_requested, requests_outcomes, requests_parents, outcome_at, outcome_of}
+use Rattle.fx_run.proofs.TallyLaws.{fibers_outcome, fibers_ends_long}
 use Rattle.fx_run.proofs.ClosedLists.{closed_lists_tell}
 
 any_map : {A B : Type 0} (test : B → Bool) (h : A → B) (xs : List A) → list_any test (map h xs) ≡ list_any (λ x. test (h x)) xs
 any_map test h [] = refl
 any_map test h (x ∷ xs) = ap (λ (b : Bool). test (h x) || b) (any_map test h xs)
 
--- a length in a word compares as it is
-in_word_below : (n c : ℕ) → c < 2 ^ 32 → nat_lt (in_word n) c ≡ nat_lt n c
-in_word_below n c fits = elim (cases_lt n (2 ^ 32 - 1)) [
+-- a length within 32 bits compares as it is
+within_32_bits_below : (n c : ℕ) → c < 2 ^ 32 → nat_lt (within_32_bits n) c ≡ nat_lt n c
+within_32_bits_below n c fits = elim (cases_lt n (2 ^ 32 - 1)) [
   | inl lt ↦ ap (λ (b : Bool). nat_lt (if b then n else 2 ^ 32 - 1) c) (lt-ltb n (2 ^ 32 - 1) lt)
   | inr le ↦
       ap (λ (b : Bool). nat_lt (if b then n else 2 ^ 32 - 1) c) (le-ltb n (2 ^ 32 - 1) le)
       ∙ le-ltb (2 ^ 32 - 1) c (omega (arith, fits)) ∙ sym (le-ltb n c (omega (arith, fits, le)))
 ]
 
-in_word_some : (n : ℕ) → nat_lt 0 (in_word n) ≡ nat_lt 0 n
-in_word_some n = elim (cases_lt n (2 ^ 32 - 1)) [
+within_32_bits_some : (n : ℕ) → nat_lt 0 (within_32_bits n) ≡ nat_lt 0 n
+within_32_bits_some n = elim (cases_lt n (2 ^ 32 - 1)) [
   | inl lt ↦ ap (λ (b : Bool). nat_lt 0 (if b then n else 2 ^ 32 - 1)) (lt-ltb n (2 ^ 32 - 1) lt)
   | inr le ↦ ap (λ (b : Bool). nat_lt 0 (if b then n else 2 ^ 32 - 1)) (le-ltb n (2 ^ 32 - 1) le) ∙ sym (lt-ltb 0 n (omega (arith, le)))
 ]
 
-length_at : (left : List (List Item)) (q : ℕ) → slice_index (lengths_of left) q ≡ in_word (length (slice_index_or (map elements_of left) q []))
+length_at : (left : List (List Item)) (q : ℕ) → slice_index (lengths_of left) q ≡ within_32_bits (length (slice_index_or (map elements_of left) q []))
 length_at [] q = refl
-length_at (xs ∷ left) zero = ap in_word (sym (length-map xs element_of))
+length_at (xs ∷ left) zero = ap within_32_bits (sym (length-map xs element_of))
 length_at (xs ∷ left) (suc q) = length_at left q
 
 each_fits : (ns : List ℕ) (q : ℕ) → All (λ (n : ℕ). n < 2 ^ 32) ns → slice_index ns q < 2 ^ 32
@@ -139,10 +139,10 @@ module _ (s : ScriptView) (bares : List BareView) (left : List (List Item)) (out
     is_closed_as = record {
       room = λ q.
           ap (λ (n : ℕ). nat_lt n (slice_index c.caps.items q)) (ap (λ (ns : List ℕ). slice_index ns q) rests ∙ length_at left q)
-          ∙ in_word_below (length (left_in r q)) (slice_index c.caps.items q) (each_fits c.caps.items q fits)
+          ∙ within_32_bits_below (length (left_in r q)) (slice_index c.caps.items q) (each_fits c.caps.items q fits)
           ∙ ap (λ (ns : List ℕ). nat_lt (length (left_in r q)) (slice_index ns q)) caps;
       element = λ q.
-          ap (nat_lt 0) (ap (λ (ns : List ℕ). slice_index ns q) rests ∙ length_at left q) ∙ in_word_some (length (left_in r q));
+          ap (nat_lt 0) (ap (λ (ns : List ℕ). slice_index ns q) rests ∙ length_at left q) ∙ within_32_bits_some (length (left_in r q));
       outcomes = λ f. ap (λ (os : List (Option Outcome)). slice_index_or os f None) outcomes ∙ outcomes_told f;
       requested = λ f lt. ap (λ (bs : List Bool). slice_index_or bs f false) requested ∙ requested_told f lt;
     }

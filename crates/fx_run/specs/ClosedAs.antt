@@ -9,12 +9,12 @@ use Rattle.fx_model.specs.Outside.{can_step}
 use Rattle.fx_model.specs.Report.{FiberReportView, ReportView, trace_in, left_in, capacity_of, outcome_shown, is_requested_in}
 use Rattle.fx_fiber.specs.Bare.{BareView, reached}
 
--- the number, or the greatest that a word has
-abbrev pub in_word : ℕ → ℕ
-in_word n = if nat_lt n (2 ^ 32 - 1) then n else 2 ^ 32 - 1
+-- the number, or the greatest of 32 bits
+abbrev pub within_32_bits : ℕ → ℕ
+within_32_bits n = if nat_lt n (2 ^ 32 - 1) then n else 2 ^ 32 - 1
 
 abbrev pub lengths_of : List (List Item) → List ℕ
-lengths_of left = map (λ (xs : List Item). in_word (length xs)) left
+lengths_of left = map (λ (xs : List Item). within_32_bits (length xs)) left
 
 -- the lists tell which queues have room and which have an element, how each fiber has ended, and who is requested, as the report does
 pub record IsClosedAs (s : ScriptView) (r : ReportView) (c : Closed) : Type 0 where

@@ -10,7 +10,7 @@ use Rattle.fx_word.specs.declared.seat_view.SeatView.{SeatView}
 use Rattle.fx_word.specs.SeatView.{IsSettled}
 use Rattle.fx_queue.specs.declared.pass_view.PassView.{PassView}
 use Rattle.fx_queue.specs.Told.{IsRest}
-use Rattle.fx_run.specs.Parted.{Parted, bares_of, parted_at}
+use Rattle.fx_run.specs.RanFiber.{RanFiber, bares_of, ran_at}
 use Rattle.fx_run.specs.Reported.{RanCode, AreAscending, report_of, IsReported}
 use Rattle.fx_run.specs.Gathered.{AreEntries, ArePasses}
 
@@ -20,30 +20,30 @@ pub record AreNamed (s : ScriptView) (may : ℕ → Bool) (outside : List ℕ) :
   pub named : (f : ℕ) → Contains outside f → (f < total s) × (may f ≡ true)
 
 -- each number that a port noted is among those
-abbrev pub AreNoted : List Parted → List ℕ → Type 0
-AreNoted ps outside = (g : ℕ) (p : Parted) → parted_at ps g ≡ Some p → (f : ℕ) → p.noted f ≡ true → Contains outside f
+abbrev pub AreNoted : List RanFiber → List ℕ → Type 0
+AreNoted ps outside = (g : ℕ) (p : RanFiber) → ran_at ps g ≡ Some p → (f : ℕ) → p.noted f ≡ true → Contains outside f
 
 -- the words were closed with the entries of all these fibers
-pub record WordsEnd (ps : List Parted) : Type 0 where
+pub record WordsEnd (ps : List RanFiber) : Type 0 where
   pub view : SeatView
   pub gathered : AreEntries ps view
   pub settled : IsSettled view
 
 -- queue q was closed with the passes of all these fibers, and this was left
-pub record QueueEnd (q capacity : ℕ) (ps : List Parted) (left : List Item) : Type 0 where
+pub record QueueEnd (q capacity : ℕ) (ps : List RanFiber) (left : List Item) : Type 0 where
   pub view : PassView
   pub sized : view.cap ≡ capacity
   pub gathered : ArePasses q ps view
   pub rest : IsRest view left
 
 -- no fiber did anything to queue q
-abbrev pub IsUntouched : ℕ → List Parted → Type 0
-IsUntouched q ps = (f : ℕ) (p : Parted) → parted_at ps f ≡ Some p → (p.passes q).acts ≡ []
+abbrev pub IsUntouched : ℕ → List RanFiber → Type 0
+IsUntouched q ps = (f : ℕ) (p : RanFiber) → ran_at ps f ≡ Some p → (p.passes q).acts ≡ []
 
 -- the fibers of a script's run were parted from their ports, what these had was gathered and closed, and this report was answered
 pub record EndsWithReport (s : ScriptView) (may_be_requested : ℕ → Bool) (answer : ReportView) : Type 0 where
   pub nodes : List Node
-  pub fibers : List Parted
+  pub fibers : List RanFiber
   pub left : List (List Item)
   pub outside : List ℕ
   pub late : ℕ

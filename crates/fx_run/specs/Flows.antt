@@ -3,7 +3,7 @@ use Rattle.std.specs.Prelude.{ℕ, ◌+◌, ◌-◌, ◌^◌, ◌==◌, min, Boo
 use Rattle.std.specs.List.{count_by, range_with_len}
 use Rattle.fx_term.specs.declared.event.Event.{Event}
 use Rattle.fx_term.specs.declared.event.Event.TheVariants as event
-use Rattle.fx_run.specs.ClosedAs.{in_word}
+use Rattle.fx_run.specs.ClosedAs.{within_32_bits}
 
 abbrev pub is_put_into : ℕ → Event → Bool
 is_put_into q (event.Put r n) = r == q
@@ -19,7 +19,7 @@ counted n = min n (2 ^ 64 - 1)
 
 -- how many elements these events leave in queue q, in whatever order they came
 abbrev pub rest_of : ℕ → List Event → ℕ
-rest_of q es = in_word (counted (count_by (is_put_into q) es) - counted (count_by (is_got_from q) es))
+rest_of q es = within_32_bits (counted (count_by (is_put_into q) es) - counted (count_by (is_got_from q) es))
 
 -- the same of each of n queues
 abbrev pub rests_of : ℕ → List Event → List ℕ
@@ -49,7 +49,7 @@ with_moves (e ∷ es) w = with_moves es (with_move e w)
 
 -- what is left in a queue, and in each, by the counters
 abbrev pub rest_in : FlowsView → ℕ → ℕ
-rest_in w q = in_word (slice_index w.puts q - slice_index w.gots q)
+rest_in w q = within_32_bits (slice_index w.puts q - slice_index w.gots q)
 
 abbrev pub rests_in : FlowsView → List ℕ
 rests_in w = map (rest_in w) (range_with_len 0 (length w.puts))

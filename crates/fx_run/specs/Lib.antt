@@ -1,8 +1,8 @@
 pub mod Agreement
-pub mod Changes
-pub mod Parted
+pub mod PassChanges
+pub mod RanFiber
 pub mod Reported
-pub mod Apart
+pub mod FiberAndPort
 pub mod Gathered
 pub mod Ledger
 pub mod RunFault
@@ -11,8 +11,8 @@ pub mod Closing
 pub mod ClosedAs
 pub mod EndOfRun
 pub mod Flows
-pub mod Told
-pub mod Between
+pub mod Tally
+pub mod Sweep
 pub mod Ancestors
 pub mod Refusals
 pub mod FalseRefusal

@@ -13,7 +13,6 @@ ghost use Rattle.fx_run.specs.LawfulRun.{IsLawfulHalt};
 ghost use Rattle.fx_run.specs.Closing.{AreMarked, IsReportOf, IsCloseFault};
 
 use crate::gathered::Gathered;
-use crate::halt::Halt;
 use crate::lost::test_for_lost;
 use crate::run_fault::RunFault;
 use crate::waits::all_blocked;
@@ -21,6 +20,7 @@ use crate::whole_report::report;
 use fx_fiber::main_begin;
 use fx_port::{Marks, close_queues};
 use fx_queue::FiberQueue;
+use fx_report::Halt;
 use fx_term::Memory;
 use fx_text::Script;
 use fx_word::Words;

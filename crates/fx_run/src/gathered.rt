@@ -4,7 +4,7 @@ ghost use Rattle.std.specs.List.Sorted.{IsStrictlyIncreasing};
 ghost use Rattle.std.specs.Vec.Iter.{into_iter_items};
 ghost use Rattle.fx_fiber.specs.Fiber.{FiberView};
 ghost use Rattle.fx_port.specs.PortView.{PortView};
-ghost use Rattle.fx_run.specs.Apart.{without_port};
+ghost use Rattle.fx_run.specs.FiberAndPort.{without_port};
 ghost use Rattle.fx_run.specs.Reported.{AreAscending};
 ghost use Rattle.fx_run.specs.RunFault.{IsLostFault};
 ghost use Rattle.fx_run.specs.Gathered.{IsGathered, AreAllowed};

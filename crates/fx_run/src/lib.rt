@@ -56,19 +56,17 @@
 mod closing;
 mod flows;
 mod gathered;
-mod halt;
 pub mod laws;
 mod ledger;
 mod lost;
 mod rounds;
 mod run_fault;
 mod sweep;
-mod told;
+mod tally;
 mod waits;
 mod whole_report;
 mod whole_run;
 
-pub use halt::Halt;
 pub use lost::test_for_lost;
 pub use run_fault::RunFault;
 pub use whole_report::report;

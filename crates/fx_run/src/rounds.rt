@@ -6,7 +6,7 @@ ghost use Rattle.fx_text.specs.View.{meaning};
 ghost use Rattle.fx_report.specs.Script.{script_of};
 ghost use Rattle.fx_fiber.specs.Fiber.{FiberView};
 ghost use Rattle.fx_port.specs.PortView.{PortView};
-ghost use Rattle.fx_run.specs.Between.{NoneCanGo, IsSwept};
+ghost use Rattle.fx_run.specs.Sweep.{NoneCanGo, IsSwept};
 
 use crate::sweep::{Swept, closed_between, sweep};
 use fx_fiber::Fiber;

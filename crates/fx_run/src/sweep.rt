@@ -3,9 +3,9 @@ ghost use Rattle.std.specs.Prelude.{◌≡◌, ◌++◌, ◌∷◌, [], IfOk, On
 ghost use Rattle.std.specs.List.{filter};
 ghost use Rattle.fx_text.specs.View.{meaning};
 ghost use Rattle.fx_report.specs.Script.{script_of};
-ghost use Rattle.fx_run.specs.Between.{lists_of, closed_of, can_go, can_go_by, is_unable, is_unable_by};
+ghost use Rattle.fx_run.specs.Sweep.{lists_of, closed_of, can_go, can_go_by, is_unable, is_unable_by};
 
-use crate::told::Told;
+use crate::tally::Tally;
 use crate::whole_report::capacities;
 use fx_fiber::{Closed, Fiber, Port};
 use fx_port::{RunBrand, ThreadPort};
@@ -49,9 +49,9 @@ pub(crate) fn closed_between<'a, R: Wait, N: RunBrand>(
     ensures { IfOk result
         (λ closed. lists_of closed ≡ closed_of (script_of (meaning script.now)) fibers.now) }
 {
-    let mut told = Told::new(alloc, script)?;
-    told.fibers(fibers);
-    let (rests, outcomes, requested) = told.into_lists(alloc)?;
+    let mut tally = Tally::new(alloc, script)?;
+    tally.fibers(fibers);
+    let (rests, outcomes, requested) = tally.into_lists(alloc)?;
     Ok(Closed {
         caps: capacities(alloc, &script.queues)?,
         rests,

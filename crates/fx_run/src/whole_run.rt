@@ -17,13 +17,13 @@ ghost use Rattle.fx_run.specs.declared.run_fault.RunFault.TheVariants.{Workers};
 
 use crate::closing::close_run;
 use crate::gathered::{Gathered, gather_all};
-use crate::halt::Halt;
 use crate::rounds::run_rounds;
 use crate::run_fault::RunFault;
 use crate::whole_report::capacities;
 use fx_fiber::{Fiber, Report};
 use fx_port::{Notes, Passes, RunBrand, Sources, ThreadPort, open_queues};
 use fx_queue::FiberQueue;
+use fx_report::Halt;
 use fx_sched::Gate;
 use fx_term::Memory;
 use fx_text::Script;

@@ -21,8 +21,8 @@ ghost use Rattle.fx_port.specs.Marks.{is_marked};
 ghost use Rattle.fx_port.specs.PortView.{PortView, IsOfRun};
 ghost use Rattle.fx_port.specs.ThreadCalls.{ThreadAgrees};
 ghost use Rattle.fx_run.specs.Agreement.{PortAgrees, StampedPortAgrees};
-ghost use Rattle.fx_run.specs.Apart.{entry_at};
-ghost use Rattle.fx_run.specs.Changes.{IsNewPass, IsSplitFor, HasOneMore, AreSplitFor, AddsEvent};
+ghost use Rattle.fx_run.specs.FiberAndPort.{entry_at};
+ghost use Rattle.fx_run.specs.PassChanges.{IsNewPass, IsSplitFor, HasOneMore, AreSplitFor, AddsEvent};
 
 /// What the words and the queues know of a fiber agrees with its deeds before its first step, and each
 /// call of its port keeps that, with what the call adds to both. A refusal adds nothing to what is

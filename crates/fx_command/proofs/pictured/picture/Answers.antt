@@ -11,7 +11,7 @@ returns-in_err-write g c expected =
     let drawn = rw (words, c.deref-3.ensures.value) at c.in_ok-drawn.ensures in
     let part = rw c.deref-4.ensures at c.in_err-write.ensures.part in
     rw (fault.1, fault.2) (cut_short _ _ _ _ _ _ _ _ _ _
-    (pictured {nodes = c.args.script.now.code.nodes} refl c.in_ok-halt.ensures.replayed c.in_ok-halt.ensures.passed c.in_ok-places.ensures drawn) part)
+    (pictured {nodes = c.args.script.now.code.nodes} refl c.in_ok-replayed.ensures.replayed c.in_ok-replayed.ensures.passed c.in_ok-places.ensures drawn) part)
 
 pub returns : goal.returns
 returns g c expected =
@@ -19,6 +19,6 @@ returns g c expected =
     let drawn = rw (words, c.deref-3.ensures.value) at c.in_ok-drawn.ensures in
     record {
       text = _;
-      answer = pictured {nodes = c.args.script.now.code.nodes} refl c.in_ok-halt.ensures.replayed c.in_ok-halt.ensures.passed c.in_ok-places.ensures drawn;
+      answer = pictured {nodes = c.args.script.now.code.nodes} refl c.in_ok-replayed.ensures.replayed c.in_ok-replayed.ensures.passed c.in_ok-places.ensures drawn;
       taken = rw c.deref-4.ensures at c.in_ok-write.ensures.whole;
     }

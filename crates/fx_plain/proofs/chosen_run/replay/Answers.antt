@@ -5,7 +5,7 @@ use Rattle.fx_plain.proofs.Waits.{without_waits}
 use Rattle.fx_plain.proofs.chosen_run.replay.Goals as goal
 
 pub returns-clause-replayed : goal.returns-clause-replayed
-returns-clause-replayed c = without_waits (script_of (meaning c.args.script.now)) c.args.picks.now _ _ c.in_ok-halt.ensures.replayed.replay
+returns-clause-replayed c = without_waits (script_of (meaning c.args.script.now)) c.args.picks.now _ _ c.in_ok-replayed.ensures.replayed.replay
 
 pub returns-clause-lawful : goal.returns-clause-lawful
 returns-clause-lawful c = replay_is_lawful (script_of (meaning c.args.script.now)) c.args.picks.now _ (returns-clause-replayed c)

@@ -1,5 +1,5 @@
 use Rattle.std.proofs.Common.{rules, ◌≡◌, Err, map, sym, subst}
-use Rattle.fx_run.specs.Apart.{without_port}
+use Rattle.fx_run.specs.FiberAndPort.{without_port}
 use Rattle.fx_run.specs.RunFault.{IsLostFault}
 use Rattle.fx_run.specs.declared.run_fault.RunFault.{RunFault}
 use Rattle.fx_run.proofs.GatheredLaws.{main_is_lost, all_without_ports, rises_so}

@@ -1,6 +1,6 @@
 use Rattle.fx_text.specs.View.{meaning}
 use Rattle.fx_report.specs.Script.{script_of}
-use Rattle.fx_run.specs.Between.{lists_of}
+use Rattle.fx_run.specs.Sweep.{lists_of}
 use Rattle.fx_run.proofs.Sweeps.{swept_so}
 use Rattle.fx_run.proofs.rounds.swept_round.Goals as goal
 

@@ -1,4 +1,4 @@
-use Rattle.fx_run.specs.Between.{can_go_by, is_unable_by}
+use Rattle.fx_run.specs.Sweep.{can_go_by, is_unable_by}
 use Rattle.fx_run.proofs.Sweeps.{next_passes}
 use Rattle.fx_run.proofs.sweep.sweep_any.Goals as goal
 

@@ -1,6 +1,6 @@
 use Rattle.std.proofs.Common.{◌≡◌, ◌++◌}
 use Rattle.std.specs.List.{filter}
-use Rattle.fx_run.specs.Between.{can_go_by, is_unable_by}
+use Rattle.fx_run.specs.Sweep.{can_go_by, is_unable_by}
 use Rattle.fx_run.proofs.sweep.sweep_any.Given as goal
 
 abbrev pub invariant-loop-fiber : goal.invariant-loop-fiber

@@ -1,7 +1,7 @@
 use Rattle.std.proofs.Common.{◌∙◌, sym, ap}
 use Rattle.fx_port.specs.Marks.{is_marked}
 use Rattle.fx_port.specs.PortView.{PortView}
-use Rattle.fx_run.proofs.Apart.{apart_of}
+use Rattle.fx_run.proofs.FiberAndPort.{with_port}
 use Rattle.fx_run.proofs.GatheredLaws.{gathered_first}
 use Rattle.fx_run.proofs.gathered.Gathered.of_main.Goals as goal
 
@@ -10,7 +10,7 @@ returns-clause-gathered g c =
     let part = c.part-bare.ensures in
     let told = c.into_parts-seat.ensures in
     gathered_first g.N.RunBrand.nodes g.N.RunBrand.words g.N.RunBrand.queues
-    (apart_of g.N.RunBrand.nodes g.N.RunBrand.words g.N.RunBrand.queues g.N.RunBrand.may c.args.main c.part-bare.result.0 c.part-bare.result.1
+    (with_port g.N.RunBrand.nodes g.N.RunBrand.words g.N.RunBrand.queues g.N.RunBrand.may c.args.main c.part-bare.result.0 c.part-bare.result.1
     part.bare part.port told.of_run part.lawful)
     (record { bares = c.push.new.self; seat = c.into_parts-seat.result.0; passes = c.into_parts-seat.result.1; noted = c.into_parts-seat.result.2 })
     c.new-bares.result.items (ap (λ (p : PortView). p.words.own.id) part.port ∙ c.requires.main)

@@ -1,6 +1,6 @@
 use Rattle.std.proofs.Common.{◌∙◌, ap}
 use Rattle.fx_port.specs.Marks.{joined_marks}
-use Rattle.fx_run.proofs.Apart.{apart_of}
+use Rattle.fx_run.proofs.FiberAndPort.{with_port}
 use Rattle.fx_run.proofs.GatheredLaws.{gathered_more, allowed_more}
 use Rattle.fx_run.proofs.gathered.Gathered.take_in.Goals as goal
 
@@ -9,7 +9,7 @@ returns-clause-gathered g c =
     let part = c.part-bare.ensures in
     let told = c.gather-noted.ensures in
     gathered_more g.N.RunBrand.nodes g.N.RunBrand.words g.N.RunBrand.queues c.args.self.now c.requires.gathered
-    (apart_of g.N.RunBrand.nodes g.N.RunBrand.words g.N.RunBrand.queues g.N.RunBrand.may c.args.fiber c.part-bare.result.0 c.part-bare.result.1
+    (with_port g.N.RunBrand.nodes g.N.RunBrand.words g.N.RunBrand.queues g.N.RunBrand.may c.args.fiber c.part-bare.result.0 c.part-bare.result.1
     part.bare part.port told.of_run part.lawful)
     (record { bares = c.push.new.self; seat = c.gather-noted.new.seat; passes = c.gather-noted.new.passes; noted = c.join.new.self })
     c.in_ok-push.ensures.items told.table told.seat told.passes told.row

@@ -1,5 +1,5 @@
 use Rattle.std.proofs.Common.{◌≡◌, ◌++◌, map}
-use Rattle.fx_run.specs.Apart.{without_port}
+use Rattle.fx_run.specs.FiberAndPort.{without_port}
 use Rattle.fx_run.specs.Gathered.{IsGathered, AreAllowed}
 use Rattle.fx_run.proofs.gathered.Gathered.take_in_all.Given as goal
 

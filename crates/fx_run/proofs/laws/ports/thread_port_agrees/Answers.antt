@@ -1,4 +1,4 @@
-use Rattle.fx_run.proofs.Apart.{agrees_so}
+use Rattle.fx_run.proofs.FiberAndPort.{agrees_so}
 use Rattle.fx_run.proofs.laws.ports.thread_port_agrees.Goals as goal
 
 pub returns : goal.returns

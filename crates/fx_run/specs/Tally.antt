@@ -1,4 +1,4 @@
--- What fibers tell between two rounds, one after the other.
+-- What fibers have done between two rounds, one after the other.
 use Rattle.std.specs.Prelude.{List, [], ◌∷◌, length}
 use Rattle.fx_term.specs.Script.{ScriptView, total}
 use Rattle.fx_fiber.specs.Fiber.{FiberView}
@@ -6,22 +6,22 @@ use Rattle.fx_port.specs.PortView.{PortView}
 use Rattle.fx_run.specs.Ledger.{LedgerView, empty_ledger, with_trace, with_marks}
 use Rattle.fx_run.specs.Flows.{FlowsView, no_flows, with_moves}
 
--- what is told by fiber number, and what the queues' counters have
-pub record ToldView : Type 0 where
+-- what traces say by fiber number, and what the queues' counters have
+pub record TallyView : Type 0 where
   pub ledger : LedgerView
   pub flows : FlowsView
 
--- nothing is told of a script's run
-abbrev pub nothing_told : ScriptView → ToldView
-nothing_told s = record { ledger = empty_ledger (total s); flows = no_flows (length s.capacities) }
+-- nothing is done yet in a script's run
+abbrev pub empty_tally : ScriptView → TallyView
+empty_tally s = record { ledger = empty_ledger (total s); flows = no_flows (length s.capacities) }
 
 -- the fiber is there, with its trace and what its port noted from outside
-abbrev pub with_live : FiberView PortView → ToldView → ToldView
+abbrev pub with_live : FiberView PortView → TallyView → TallyView
 with_live f t = record {
   ledger = with_marks 0 f.port.noted (with_trace f.port.words.own.id f.trace t.ledger);
   flows = with_moves f.trace t.flows;
 }
 
-abbrev pub with_lives : List (FiberView PortView) → ToldView → ToldView
+abbrev pub with_lives : List (FiberView PortView) → TallyView → TallyView
 with_lives [] t = t
 with_lives (f ∷ fs) t = with_lives fs (with_live f t)

@@ -1,4 +1,4 @@
--- What fibers tell that are between two rounds.
+-- What a sweep looks at: what fibers have come to between two rounds.
 use Rattle.std.specs.Prelude.{◌≡◌, ◌==◌, ◌||◌, cond, ℕ, Bool, false, not, Option, List, [], length, map, All}
 use Rattle.std.specs.List.{filter, flat_map, list_any, range_with_len}
 use Rattle.std.specs.List.Sorted.{IsStrictlyIncreasing}

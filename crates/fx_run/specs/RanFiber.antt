@@ -1,4 +1,4 @@
--- A fiber whose run is over, taken from its port.
+-- A fiber whose run is over, with what its port knew.
 use Rattle.std.specs.Prelude.{◌==◌, ℕ, Bool, Option, List, map}
 use Rattle.std.specs.List.{find}
 use Rattle.fx_fiber.specs.Fiber.{IsLawful}
@@ -10,7 +10,7 @@ use Rattle.fx_run.specs.Agreement.{StampedPortAgrees}
 
 -- a fiber, and what its port knew: the words' entry, which numbers it noted from outside, and an entry for each queue, by number. They agree with what the
 -- fiber did in its run, which began as the words say
-pub record Parted : Type 0 where
+pub record RanFiber : Type 0 where
   pub bare : BareView
   pub words : Entry
   pub noted : ℕ → Bool
@@ -19,9 +19,9 @@ pub record Parted : Type 0 where
       (reached bare)
 
 -- the fibers without what their ports knew
-abbrev pub bares_of : List Parted → List BareView
-bares_of ps = map (λ (p : Parted). p.bare) ps
+abbrev pub bares_of : List RanFiber → List BareView
+bares_of ps = map (λ (p : RanFiber). p.bare) ps
 
 -- the fiber with this number
-abbrev pub parted_at : List Parted → ℕ → Option Parted
-parted_at ps f = find (λ (p : Parted). p.bare.id == f) ps
+abbrev pub ran_at : List RanFiber → ℕ → Option RanFiber
+ran_at ps f = find (λ (p : RanFiber). p.bare.id == f) ps

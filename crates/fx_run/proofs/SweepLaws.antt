@@ -14,11 +14,11 @@ use Rattle.fx_fiber.specs.Fiber.{FiberView}
 use Rattle.fx_port.specs.Marks.{is_marked}
 use Rattle.fx_port.specs.PortView.{PortView}
 use Rattle.fx_run.specs.Ledger.{LedgerView, with_request, with_events, with_trace, with_marks}
-use Rattle.fx_run.specs.Between.{events_by, is_requested_by}
-use Rattle.fx_run.specs.Told.{ToldView, nothing_told, with_live, with_lives}
+use Rattle.fx_run.specs.Sweep.{events_by, is_requested_by}
+use Rattle.fx_run.specs.Tally.{TallyView, empty_tally, with_live, with_lives}
 use Rattle.fx_run.proofs.LedgerLaws.{or_first}
-use Rattle.fx_run.proofs.ToldLaws.{requested_at, outcome_at, or_false, or_or, request_requested, events_requested, events_outcome, events_elsewhere}
-use Rattle.fx_run.proofs.ToldLaws as told
+use Rattle.fx_run.proofs.TallyLaws.{requested_at, outcome_at, or_false, or_or, request_requested, events_requested, events_outcome, events_elsewhere}
+use Rattle.fx_run.proofs.TallyLaws as told
 
 -- marks
 marks_long : (n : ℕ) (ms : List Bool) (v : LedgerView) → length (with_marks n ms v).requested ≡ length v.requested
@@ -65,10 +65,10 @@ of_number x = x.port.words.own.id
 abbrev given : FiberView PortView → LedgerView → LedgerView
 given x v = record v { given = slice_set v.given (of_number x) true }
 
-live_long : (x : FiberView PortView) (t : ToldView) → length (with_live x t).ledger.requested ≡ length t.ledger.requested
+live_long : (x : FiberView PortView) (t : TallyView) → length (with_live x t).ledger.requested ≡ length t.ledger.requested
 live_long x t = marks_long 0 x.port.noted (with_trace (of_number x) x.trace t.ledger) ∙ told.events_long (of_number x) x.trace (given x t.ledger)
 
-live_requested : (f : ℕ) (x : FiberView PortView) (t : ToldView) → f < length t.ledger.requested
+live_requested : (f : ℕ) (x : FiberView PortView) (t : TallyView) → f < length t.ledger.requested
     → requested_at (with_live x t).ledger f ≡ (requested_at t.ledger f || (list_any (is_request_for f) x.trace || is_marked x.port.noted f))
 live_requested f x t lt =
     let u = with_trace (of_number x) x.trace t.ledger in
@@ -77,7 +77,7 @@ live_requested f x t lt =
     ∙ or_or (requested_at t.ledger f) (list_any (is_request_for f) x.trace) (marked_from 0 x.port.noted f)
     ∙ ap (λ (b : Bool). requested_at t.ledger f || (list_any (is_request_for f) x.trace || b)) (marked_is f 0 f x.port.noted (omega arith))
 
-lives_requested : (f : ℕ) (fs : List (FiberView PortView)) (t : ToldView) → f < length t.ledger.requested
+lives_requested : (f : ℕ) (fs : List (FiberView PortView)) (t : TallyView) → f < length t.ledger.requested
     → requested_at (with_lives fs t).ledger f ≡ (requested_at t.ledger f || is_requested_by fs f)
 lives_requested f [] t lt = or_false (requested_at t.ledger f)
 lives_requested f (x ∷ fs) t lt =
@@ -85,7 +85,7 @@ lives_requested f (x ∷ fs) t lt =
     ∙ ap (λ (b : Bool). b || is_requested_by fs f) (live_requested f x t lt)
     ∙ or_or (requested_at t.ledger f) (list_any (is_request_for f) x.trace || is_marked x.port.noted f) (is_requested_by fs f)
 
-lives_long : (fs : List (FiberView PortView)) (t : ToldView) → length (with_lives fs t).ledger.requested ≡ length t.ledger.requested
+lives_long : (fs : List (FiberView PortView)) (t : TallyView) → length (with_lives fs t).ledger.requested ≡ length t.ledger.requested
 lives_long [] t = refl
 lives_long (x ∷ fs) t = lives_long fs (with_live x t) ∙ live_long x t
 
@@ -105,19 +105,19 @@ kept_or : (o : Option Outcome) → o ≡ or_first o None
 kept_or None = refl
 kept_or (Some x) = refl
 
-live_ends_long : (x : FiberView PortView) (t : ToldView) → length (with_live x t).ledger.outcomes ≡ length t.ledger.outcomes
+live_ends_long : (x : FiberView PortView) (t : TallyView) → length (with_live x t).ledger.outcomes ≡ length t.ledger.outcomes
 live_ends_long x t =
     ap (λ (os : List (Option Outcome)). length os) (marks_outcomes 0 x.port.noted (with_trace (of_number x) x.trace t.ledger))
     ∙ told.ends_long (of_number x) x.trace (given x t.ledger)
 
-lives_ends_long : (fs : List (FiberView PortView)) (t : ToldView) → length (with_lives fs t).ledger.outcomes ≡ length t.ledger.outcomes
+lives_ends_long : (fs : List (FiberView PortView)) (t : TallyView) → length (with_lives fs t).ledger.outcomes ≡ length t.ledger.outcomes
 lives_ends_long [] t = refl
 lives_ends_long (x ∷ fs) t = lives_ends_long fs (with_live x t) ∙ live_ends_long x t
 
 abbrev events_if : ℕ → FiberView PortView → List Event
 events_if f x = cond (of_number x == f) x.trace []
 
-live_outcome : (f : ℕ) (x : FiberView PortView) (t : ToldView) → f < length t.ledger.outcomes
+live_outcome : (f : ℕ) (x : FiberView PortView) (t : TallyView) → f < length t.ledger.outcomes
     → outcome_at (with_live x t).ledger f ≡ or_first (outcome_at t.ledger f) (outcome_shown (events_if f x))
 live_outcome f x t lt =
     ap (λ (os : List (Option Outcome)). slice_index_or os f None) (marks_outcomes 0 x.port.noted (with_trace (of_number x) x.trace t.ledger))
@@ -131,7 +131,7 @@ live_outcome f x t lt =
           ∙ sym (ap (λ (b : Bool). or_first (outcome_at t.ledger f) (outcome_shown (cond b x.trace []))) (ne_eqb (of_number x) f apart))
     ]
 
-lives_outcome : (f : ℕ) (fs : List (FiberView PortView)) (t : ToldView) → f < length t.ledger.outcomes
+lives_outcome : (f : ℕ) (fs : List (FiberView PortView)) (t : TallyView) → f < length t.ledger.outcomes
     → outcome_at (with_lives fs t).ledger f ≡ or_first (outcome_at t.ledger f) (outcome_shown (events_by f fs))
 lives_outcome f [] t lt = kept_or (outcome_at t.ledger f)
 lives_outcome f (x ∷ fs) t lt =
@@ -148,33 +148,33 @@ as_map g a (x ∷ xs) d same = ap (λ y. y ∷ xs) (same 0 (omega arith) ∙ ap 
     ∙ ap (λ ys. g a ∷ ys) (as_map g (a + 1) xs d (λ k lt. same (suc k) (omega arith) ∙ ap g (omega arith)))
 
 pub told_outcomes : (s : ScriptView) (fs : List (FiberView PortView))
-    → (with_lives fs (nothing_told s)).ledger.outcomes ≡ map (λ f. outcome_shown (events_by f fs)) (range_with_len 0 (total s))
+    → (with_lives fs (empty_tally s)).ledger.outcomes ≡ map (λ f. outcome_shown (events_by f fs)) (range_with_len 0 (total s))
 told_outcomes s fs =
-    let v = (with_lives fs (nothing_told s)).ledger in
+    let v = (with_lives fs (empty_tally s)).ledger in
     let none : Option Outcome = None in
-    let long : length v.outcomes ≡ total s = lives_ends_long fs (nothing_told s) ∙ length-replicate (total s) none in
+    let long : length v.outcomes ≡ total s = lives_ends_long fs (empty_tally s) ∙ length-replicate (total s) none in
     as_map (λ f. outcome_shown (events_by f fs)) 0 v.outcomes None (λ k lt. each k (omega (arith, lt, long)))
     ∙ ap (λ n. map (λ f. outcome_shown (events_by f fs)) (range_with_len 0 n)) long
   where
-    each : (k : ℕ) → k < total s → outcome_at (with_lives fs (nothing_told s)).ledger k ≡ outcome_shown (events_by (0 + k) fs)
+    each : (k : ℕ) → k < total s → outcome_at (with_lives fs (empty_tally s)).ledger k ≡ outcome_shown (events_by (0 + k) fs)
     each k lt =
         let none : Option Outcome = None in
         let long = length-replicate (total s) none in
-        lives_outcome k fs (nothing_told s) (omega (arith, lt, long))
+        lives_outcome k fs (empty_tally s) (omega (arith, lt, long))
         ∙ ap (λ (o : Option Outcome). or_first o (outcome_shown (events_by k fs))) (get_or-replicate (total s) k none none lt)
         ∙ ap (λ f. outcome_shown (events_by f fs)) (omega arith)
 
 pub told_requested : (s : ScriptView) (fs : List (FiberView PortView))
-    → (with_lives fs (nothing_told s)).ledger.requested ≡ map (is_requested_by fs) (range_with_len 0 (total s))
+    → (with_lives fs (empty_tally s)).ledger.requested ≡ map (is_requested_by fs) (range_with_len 0 (total s))
 told_requested s fs =
-    let v = (with_lives fs (nothing_told s)).ledger in
-    let long : length v.requested ≡ total s = lives_long fs (nothing_told s) ∙ length-replicate (total s) false in
+    let v = (with_lives fs (empty_tally s)).ledger in
+    let long : length v.requested ≡ total s = lives_long fs (empty_tally s) ∙ length-replicate (total s) false in
     as_map (is_requested_by fs) 0 v.requested false (λ k lt. each k (omega (arith, lt, long)))
     ∙ ap (λ n. map (is_requested_by fs) (range_with_len 0 n)) long
   where
-    each : (k : ℕ) → k < total s → requested_at (with_lives fs (nothing_told s)).ledger k ≡ is_requested_by fs (0 + k)
+    each : (k : ℕ) → k < total s → requested_at (with_lives fs (empty_tally s)).ledger k ≡ is_requested_by fs (0 + k)
     each k lt =
         let long = length-replicate (total s) false in
-        lives_requested k fs (nothing_told s) (omega (arith, lt, long))
+        lives_requested k fs (empty_tally s) (omega (arith, lt, long))
         ∙ ap (λ (b : Bool). b || is_requested_by fs k) (get_or-replicate (total s) k false false lt)
         ∙ ap (is_requested_by fs) (omega arith)

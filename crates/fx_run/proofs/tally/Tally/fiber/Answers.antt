@@ -4,7 +4,7 @@ use Rattle.fx_term.specs.Stamped.{events_in}
 use Rattle.fx_port.specs.PortView.{PortView}
 use Rattle.fx_run.specs.Ledger.{with_trace, with_marks}
 use Rattle.fx_run.specs.Flows.{with_moves}
-use Rattle.fx_run.proofs.told.Told.fiber.Goals as goal
+use Rattle.fx_run.proofs.tally.Tally.fiber.Goals as goal
 
 pub returns : goal.returns
 returns g c =

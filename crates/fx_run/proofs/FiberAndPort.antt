@@ -19,8 +19,8 @@ use Rattle.fx_port.specs.PortView.{PortView, IsOfRun, beginning_in}
 use Rattle.fx_port.specs.ThreadCalls.{ThreadAgrees}
 use Rattle.fx_port.proofs.RunLaws.{numbers_are}
 use Rattle.fx_run.specs.Agreement.{QueueAgrees, StampedPortAgrees}
-use Rattle.fx_run.specs.Apart.{Apart, without_port, entry_by, entry_at}
-use Rattle.fx_run.specs.Parted.{Parted}
+use Rattle.fx_run.specs.FiberAndPort.{FiberAndPort, without_port, entry_by, entry_at}
+use Rattle.fx_run.specs.RanFiber.{RanFiber}
 use Rattle.fx_run.proofs.Members.{source}
 
 start_is : (d : Deed) (g : ℕ) → started_by d ≡ Some g → (b : Begin) × (Started g b ≡ d)
@@ -91,8 +91,8 @@ lawful_as nodes begin trace stamps counts progress weaker h = record {
 }
 
 module _ (nodes : List Node) (words : WordsId) (queues : List QueueId) where
-  abbrev pub parted_of : Apart nodes words queues → Parted
-  parted_of a = record {
+  abbrev pub ran_of : FiberAndPort nodes words queues → RanFiber
+  ran_of a = record {
     bare = a.bare;
     words = a.port.words.own;
     noted = is_marked a.port.noted;
@@ -103,11 +103,11 @@ module _ (nodes : List Node) (words : WordsId) (queues : List QueueId) where
   }
 
   -- what `part` tells of a fiber and its port
-  abbrev pub apart_of : (may : ℕ → Bool) (fiber : FiberView PortView) (bare : BareView) (port : PortView) → bare ≡ without_port nodes fiber
+  abbrev pub with_port : (may : ℕ → Bool) (fiber : FiberView PortView) (bare : BareView) (port : PortView) → bare ≡ without_port nodes fiber
       → port ≡ fiber.port → IsOfRun words queues may port
       → IsLawful nodes (beginning_in nodes port.words.own.begin) (ThreadAgrees port) bare.trace bare.stamps bare.counts (reached bare)
-      → Apart nodes words queues
-  apart_of may fiber bare port is whole of_run lawful = record {
+      → FiberAndPort nodes words queues
+  with_port may fiber bare port is whole of_run lawful = record {
     bare = bare;
     port = port;
     code = ap (λ (b : BareView). b.nodes) is;

@@ -1,4 +1,4 @@
--- A fiber on threads whose run is over, and the port that it was parted from.
+-- A fiber on threads whose run is over, and its port.
 use Rattle.std.specs.Prelude.{◌≡◌, ℕ, true, Option, Some, None, List, [], slice_get}
 use Rattle.fx_term.specs.declared.node.Node.{Node}
 use Rattle.fx_fiber.specs.Fiber.{FiberView, IsLawful}
@@ -24,7 +24,7 @@ abbrev pub entry_at : ℕ → PortView → Entry
 entry_at q p = entry_by p.words.own.id (slice_get p.passes q)
 
 -- the fiber and the port of a run of this code over these words and queues: the port knows exactly what the fiber did
-pub record Apart (nodes : List Node) (words : WordsId) (queues : List QueueId) : Type 0 where
+pub record FiberAndPort (nodes : List Node) (words : WordsId) (queues : List QueueId) : Type 0 where
   pub bare : BareView
   pub port : PortView
   pub code : bare.nodes ≡ nodes

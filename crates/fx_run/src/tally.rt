@@ -1,9 +1,9 @@
-//! What fibers tell between two rounds.
+//! What fibers have done between two rounds.
 ghost use Rattle.std.specs.Prelude.{◌≡◌, IfOk};
 ghost use Rattle.fx_text.specs.View.{meaning};
 ghost use Rattle.fx_report.specs.Script.{script_of};
 ghost use Rattle.fx_run.specs.Flows.{rests_in};
-ghost use Rattle.fx_run.specs.Told.{nothing_told, with_live, with_lives};
+ghost use Rattle.fx_run.specs.Tally.{empty_tally, with_live, with_lives};
 
 use crate::flows::Flows;
 use crate::ledger::Ledger;
@@ -18,25 +18,25 @@ use std::sync::Wait;
 /// What the traces of fibers tell by fiber number, and how many elements they put into each queue and
 /// got from it.
 #[derive(Drop)]
-pub(crate) struct Told {
+pub(crate) struct Tally {
     ledger: Ledger,
     flows: Flows,
 }
 
-impl Model for Told {
-    ghost use Rattle.fx_run.specs.Told.{ToldView};
+impl Model for Tally {
+    ghost use Rattle.fx_run.specs.Tally.{TallyView};
 
-    ghost Value = { ToldView };
+    ghost Value = { TallyView };
 
     ghost view = { λ t. record { ledger = t.ledger; flows = t.flows } };
 }
 
-impl Told {
+impl Tally {
     /// Of a script's run nothing is told.
-    pub fn new(alloc: Global, script: &Script) -> Result<Told, Memory>
-        ensures { IfOk result (λ told. told ≡ nothing_told (script_of (meaning script.now))) }
+    pub fn new(alloc: Global, script: &Script) -> Result<Tally, Memory>
+        ensures { IfOk result (λ tally. tally ≡ empty_tally (script_of (meaning script.now))) }
     {
-        Ok(Told {
+        Ok(Tally {
             ledger: Ledger::new(alloc, script.total())?,
             flows: Flows::new(alloc, script.queues.len())?,
         })
@@ -69,7 +69,7 @@ impl Told {
         ensures outcomes { IfOk result (λ lists. lists.1.items ≡ self.ledger.outcomes) }
         ensures requested { IfOk result (λ lists. lists.2.items ≡ self.ledger.requested) }
     {
-        let Told { ledger, flows } = self;
+        let Tally { ledger, flows } = self;
         let rests = flows.rests(alloc)?;
         let (_, requested, outcomes) = ledger.into_tables();
         Ok((rests, outcomes, requested))
