@@ -94,7 +94,8 @@ counted_rests n es =
         puts_after q es (no_flows n) 0 within first ∙ ap counted (omega arith) in
         let g : slice_index (with_moves es (no_flows n)).gots q ≡ counted (count_by (is_got_from q) es) =
         gots_after q es (no_flows n) 0 within first ∙ ap counted (omega arith) in
-        ap (λ k. within_32_bits (k - slice_index (with_moves es (no_flows n)).gots q)) p ∙ ap (λ k. within_32_bits (counted (count_by (is_put_into q) es) - k)) g
+        ap (λ k. within_32_bits (k - slice_index (with_moves es (no_flows n)).gots q)) p
+        ∙ ap (λ k. within_32_bits (counted (count_by (is_put_into q) es) - k)) g
 
 -- events are counted one after the other
 pub moves_append : (es fs : List Event) (w : FlowsView) → with_moves (es ++ fs) w ≡ with_moves fs (with_moves es w)

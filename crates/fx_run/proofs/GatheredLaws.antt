@@ -138,13 +138,15 @@ module _ (nodes : List Node) (words : word.WordsId) (queues : List QueueId) wher
       bares = map_more (λ (x : FiberAndPort nodes words queues). x.bare) h.fibers a ∙ ap (λ l. l ++ a.bare ∷ []) h.bares ∙ sym bares;
       seat_of = seat_of;
       main = ap (λ (v : SeatView). v.own.id) seat_is ∙ h.main;
-      entries = subst (λ (v : SeatView). AreGathered (λ (x : FiberAndPort nodes words queues). x.port.words.own) (h.fibers ++ a ∷ []) (seat.entries v)) (sym seat_is)
+      entries = subst (λ (v : SeatView). AreGathered (λ (x : FiberAndPort nodes words queues). x.port.words.own) (h.fibers ++ a ∷ []) (seat.entries v))
+          (sym seat_is)
           (one_more_of (λ (x : FiberAndPort nodes words queues). x.port.words.own) h.fibers a g.seat.view.own g.seat.view.taken
           a.port.words.own a.port.words.taken h.entries refl a.of_run.alone);
       row = row;
       mains = λ q u at. let j = joined q u at in ap (λ (s : HeldPass). s.view.own.id) j.is ∙ h.mains q j.one j.at;
       passes = λ q u at. let j = joined q u at in
-          subst (λ (s : HeldPass). AreGathered (λ (x : FiberAndPort nodes words queues). entry_at q x.port) (h.fibers ++ a ∷ []) (queue.entries s.view)) (sym j.is)
+          subst (λ (s : HeldPass). AreGathered (λ (x : FiberAndPort nodes words queues). entry_at q x.port) (h.fibers ++ a ∷ []) (queue.entries s.view))
+          (sym j.is)
           (one_more_of (λ (x : FiberAndPort nodes words queues). entry_at q x.port) h.fibers a j.one.view.own j.one.view.taken
           j.other.view.own j.other.view.taken (h.passes q j.one j.at) (entry_is a q j.other j.other_at) (pass_alone a q j.other j.other_at).1);
       marks = ap length noted ∙ joined_long g.noted a.port.noted ∙ h.marks;

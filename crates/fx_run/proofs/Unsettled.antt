@@ -27,7 +27,8 @@ use Rattle.fx_run.specs.ClosedAs.{within_32_bits, lengths_of, IsClosedAs, can_st
 use Rattle.fx_run.proofs.Members.{among_all, found_is, found_itself}
 use Rattle.fx_run.proofs.GivenFibers.{report_at}
 use Rattle.fx_run.proofs.LostLaws.{nowhere_past, parent_told}
-use Rattle.fx_run.proofs.TallyLaws.{requested_at, fibers_long, fibers_requested, requests_requested, requests_outcomes, requests_parents, outcome_at, outcome_of}
+use Rattle.fx_run.proofs.TallyLaws.{requested_at, fibers_long, fibers_requested, requests_requested, requests_outcomes, requests_parents}
+use Rattle.fx_run.proofs.TallyLaws.{outcome_at, outcome_of}
 use Rattle.fx_run.proofs.TallyLaws.{fibers_outcome, fibers_ends_long}
 use Rattle.fx_run.proofs.ClosedLists.{closed_lists_tell}
 

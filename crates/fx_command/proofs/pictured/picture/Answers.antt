@@ -19,6 +19,7 @@ returns g c expected =
     let drawn = rw (words, c.deref-3.ensures.value) at c.in_ok-drawn.ensures in
     record {
       text = _;
-      answer = pictured {nodes = c.args.script.now.code.nodes} refl c.in_ok-replayed.ensures.replayed c.in_ok-replayed.ensures.passed c.in_ok-places.ensures drawn;
+      answer = pictured {nodes = c.args.script.now.code.nodes} refl c.in_ok-replayed.ensures.replayed c.in_ok-replayed.ensures.passed
+          c.in_ok-places.ensures drawn;
       taken = rw c.deref-4.ensures at c.in_ok-write.ensures.whole;
     }
