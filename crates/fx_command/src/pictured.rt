@@ -98,7 +98,13 @@ pub(crate) fn picture<'a, W: Write>(
     let replayed = replay_to_halt(alloc, script, picks)?;
     let places = places_of_blocked(alloc, script, source, &replayed.halt.blocked)?;
     let words = format_words(alloc, script, &places, &replayed)?;
-    let drawn = drawn_of(alloc, script, &replayed.halt.report, &replayed.halt.blocked, words)?;
+    let drawn = drawn_of(
+        alloc,
+        script,
+        &replayed.halt.report,
+        &replayed.halt.blocked,
+        words,
+    )?;
     out.write(&drawn.text)?;
     Ok(Performed {
         status: drawn.status,

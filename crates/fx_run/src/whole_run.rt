@@ -124,7 +124,8 @@ fn run_by<R: Wait + Threads + Sync + RandomSource + AllocGlobal, G: Gate + Sync>
 }
 
 /// The report of a run of the script's fibers by so many workers, as [`run`] gives it, and what its
-/// blocked fibers wait for and where they stand. The writers take both where the code names no queue that is not declared.
+/// blocked fibers wait for and where they stand. The writers take both where the code names no queue that is
+/// not declared.
 pub fn run_to_halt<R: Wait + Threads + Sync + RandomSource + AllocGlobal, G: Gate + Sync>(
     rt: &R,
     alloc: Global,
