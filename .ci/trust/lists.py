@@ -6,11 +6,10 @@ from trust.pages import block, listed
 
 
 class List:
-    """A list of the docs: its name, the files of specs/ that it is to have, in reading order, those of src/, and the files of
-    specs/ that the lists before it have."""
+    """A list: its name, the files of specs/ that it has, in reading order, and those of src/."""
 
-    def __init__(self, name, specs, code=(), before=()):
-        self.name, self.specs, self.code, self.before = name, specs, code, before
+    def __init__(self, name, specs, code=()):
+        self.name, self.specs, self.code = name, specs, code
 
     def faults(self, page, repository):
         """Where what the page has for it differs."""
@@ -18,13 +17,13 @@ class List:
         if text is None:
             yield "it is not there"
             return
-        told = [it for it in listed(text) if self.code or "/specs/" in it]
+        told = listed(text)
         yield from (f"it has not {it}" for it in [*self.specs, *self.code] if it not in told)
         yield from (f"it has {it}, which no such contract reaches" for it in told if it not in self.specs and it not in self.code)
         yield from (f"it has {it} twice" for it in {it for it in told if told.count(it) > 1})
         if (count := re.search(r"(\d+) files", text)) and int(count[1]) != len(self.specs):
             yield f"it says {count[0]}, and there are {len(self.specs)}"
-        known = {*self.before}
+        known = set()
         for path in (it for it in told if it in self.specs):
             known.add(path)
             too_late = {it for it in repository.uses(path) if it in self.specs} - known
