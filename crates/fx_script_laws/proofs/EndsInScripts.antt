@@ -19,14 +19,14 @@ use Rattle.fx_script_laws.proofs.PutNeeds.{put_need}
 use Rattle.fx_script_laws.proofs.EachFollows.{EachFollows, itself, spot_by, one_leads, both_lead, HasNoRow, neither_steps, interchangeable}
 
 -- a leaf without rows has none in contexts
-none_placed : (gs : List Context) (t : Term) → HasNoRow t → HasNoRow (placed gs t)
+pub none_placed : (gs : List Context) (t : Term) → HasNoRow t → HasNoRow (placed gs t)
 none_placed gs t h = record { none = λ k c d l t1 r. one (row_of_placed gs t r) refl; going = λ w e. h.going w (result_placed gs t w (sym e)).1 }
   where
     one : {k : Bool} {c d : Counts} {l : Label} {x y : Term} → RowOfPlaced k c gs x l d y → x ≡ t → ⊥
     one {k} {c} {d} {l} (moves_in {w = w} r) is = h.none k c d l w (subst (λ (z : Term). Row k c z l d w) is r)
     one (result_in {w = w}) is = h.going w (sym is)
 
-never_rests : HasNoRow Never
+pub never_rests : HasNoRow Never
 never_rests = record { none = λ k c d l t1 r. one r; going = λ w e. cc }
   where
     one : {k : Bool} {c d : Counts} {l : Label} {t1 : Term} → Row k c Never l d t1 → ⊥

@@ -18,6 +18,7 @@ pub mod EndsInScripts
 pub mod ExampleScripts
 pub mod OwnNames
 pub mod KeptApart
+pub mod FirstLeavesApart
 pub mod PutOrder
 pub mod StepsBefore
 pub mod BesideEnds
@@ -25,6 +26,7 @@ pub mod MainReplaced
 pub mod MaskedMains
 pub mod AtClosedPlaces
 pub mod ClosedLaws
+pub mod StepsAtPlace
 pub mod Renumbered
 pub mod RenumberedRows
 pub mod RenumberedRuns

@@ -1,5 +1,5 @@
 pub mod Cover
 pub mod Filled
 pub mod Interchange
-pub mod BeginsAtOnce
+pub mod BeginsOpenly
 pub mod InScripts

@@ -5,8 +5,9 @@
 //! Where one term has a part that never runs, the law asks that this starts no fiber: fibers are numbered
 //! by the numbers that terms before them can use, so that the numbers of later fibers would differ.
 //!
-//! Where one term has a step of its own before the other, the law asks that this begins with a step too
-//! (`BeginsAtOnce`): else a request can be seen between the two ([`crate::refused`]).
+//! Where one term has a step of its own before the other, the law asks that the first leaf of this stands at
+//! the very place of the term (`BeginsOpenly`): else a request can be seen before that step which is not seen at
+//! the leaf, or is seen there with more clean-ups ([`crate::refused`]). The leaf may wait.
 ghost use Rattle.std.specs.Prelude.{◌≡◌, ℕ, Option, Some, None};
 ghost use Rattle.fx_term.specs.declared.node.Arg.{Arg};
 ghost use Rattle.fx_term.specs.declared.node.Arg.TheVariants.{Number, Slot};
@@ -18,7 +19,7 @@ ghost use Rattle.fx_term.specs.Scope.{with_name, with_named, IsScoped};
 ghost use Rattle.fx_model.specs.MaskLaws.{forced_after};
 ghost use Rattle.fx_laws.specs.Names.{without_names};
 ghost use Rattle.fx_script_laws.specs.Filled.{none_bound, and_bound, and_named};
-ghost use Rattle.fx_script_laws.specs.BeginsAtOnce.{BeginsAtOnce};
+ghost use Rattle.fx_script_laws.specs.BeginsOpenly.{BeginsOpenly};
 ghost use Rattle.fx_script_laws.specs.Interchange.{AreInterchangeable};
 
 /// `(forcer A (forcer B F))` for `(forcer (forcer A B) F)`.
@@ -96,30 +97,29 @@ pub fn value_of_a_release_in_scripts()
         (BracketCase x a u y (Let None s (Pure (Slot y))) z e d) (BracketCase x a u y s z e d) }
 {}
 
-/// `(forcer (pure n) A)` for `A`, where that begins with a step of its own.
+/// `(forcer (pure n) A)` for `A`, where the first leaf of that stands at the very place, and is not `(canceled)`.
 pub fn force_r_discards_pure_in_scripts()
-    ensures { (n : ℕ) (a : Term) → BeginsAtOnce a → AreInterchangeable none_bound (forced_after (Pure (Number n)) a) a }
+    ensures { (n : ℕ) (a : Term) → BeginsOpenly a → AreInterchangeable none_bound (forced_after (Pure (Number n)) a) a }
 {}
 
 /// `(forcer (raise n) A)` for `A`, in the same way.
 pub fn force_r_discards_error_in_scripts()
-    ensures { (n : ℕ) (a : Term) → BeginsAtOnce a → AreInterchangeable none_bound (forced_after (Raise (Number n)) a) a }
+    ensures { (n : ℕ) (a : Term) → BeginsOpenly a → AreInterchangeable none_bound (forced_after (Raise (Number n)) a) a }
 {}
 
 /// `(seq (cede) A)` for `A`, in the same way.
-pub fn cede_before_a_step_in_scripts()
-    ensures { (a : Term) → BeginsAtOnce a → AreInterchangeable none_bound (Let None Cede a) a }
+pub fn cede_before_a_term_in_scripts()
+    ensures { (a : Term) → BeginsOpenly a → AreInterchangeable none_bound (Let None Cede a) a }
 {}
 
-/// `(let x (pure n) B)` for B with n for x, where B begins with a step of its own. The name is the first
-/// term's own.
+/// `(let x (pure n) B)` for B with n for x, where B begins so. The name is the first term's own.
 pub fn flat_map_left_identity_in_scripts()
-    ensures { (x : Option ℕ) (n : ℕ) (b : Term) → BeginsAtOnce b
+    ensures { (x : Option ℕ) (n : ℕ) (b : Term) → BeginsOpenly b
         → AreInterchangeable (and_named x none_bound) (Let x (Pure (Number n)) b) (put_named x n b) }
 {}
 
 /// `(handle (raise n) x B)` for B with n for x, in the same way.
 pub fn handle_of_raise_in_scripts()
-    ensures { (x : Option ℕ) (n : ℕ) (b : Term) → BeginsAtOnce b
+    ensures { (x : Option ℕ) (n : ℕ) (b : Term) → BeginsOpenly b
         → AreInterchangeable (and_named x none_bound) (Handle (Raise (Number n)) x b) (put_named x n b) }
 {}

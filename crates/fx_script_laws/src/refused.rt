@@ -1,7 +1,7 @@
 //! Terms that cannot be put for one another, so that the laws say something.
 ghost use Rattle.std.specs.Prelude.{◌≡◌, ℕ, Bool, true, None};
 ghost use Rattle.fx_term.specs.declared.node.Arg.TheVariants.{Number, Slot};
-ghost use Rattle.fx_term.specs.Term.{Pure, Canceled, Never, Cede, Let, Mask, Poll, OnCancel, Offer};
+ghost use Rattle.fx_term.specs.Term.{Pure, Canceled, Never, Cede, Let, Mask, Poll, OnCancel, Bracket, Offer};
 ghost use Rattle.fx_model.specs.MaskLaws.{forced_after};
 ghost use Rattle.fx_script_laws.specs.Cover.{Cover, Sealed, is_closed};
 ghost use Rattle.fx_script_laws.specs.Interchange.{AreInterchangeable, AreInterchangeableWhere};
@@ -30,6 +30,19 @@ pub fn step_is_not_put_before_a_term()
     ensures polled { (own : ℕ → Bool)
         → AreInterchangeable own (Mask 0 (Poll (Slot 0) (OnCancel Canceled (Offer 0 (Number 1)))))
         (OnCancel Canceled (Offer 0 (Number 1))) → ⊥ }
+{}
+
+/// Where the first leaf of `A` is `(canceled)`, or a clean-up or an acquire part stands round it, so that `A` does
+/// not begin openly, a step before it is told. Not `(seq (cede) (canceled))` for `(canceled)`, which is canceled
+/// before it sees a request; not `(seq (cede) A)` for `A` where that is `(oncancel (never) (offer q 1))`, which runs
+/// the finalizer after each request, or `(bracket _ (never) ..)`, which sees none.
+pub fn first_leaf_tells_a_step_before_it()
+    ensures canceled { (own : ℕ → Bool) → AreInterchangeable own (Let None Cede Canceled) Canceled → ⊥ }
+    ensures finalizer { (own : ℕ → Bool)
+        → AreInterchangeable own (Let None Cede (OnCancel Never (Offer 0 (Number 1)))) (OnCancel Never (Offer 0 (Number 1))) → ⊥ }
+    ensures acquire { (own : ℕ → Bool)
+        → AreInterchangeable own (Let None Cede (Bracket None Never (Pure (Number 0)) (Pure (Number 0))))
+        (Bracket None Never (Pure (Number 0)) (Pure (Number 0))) → ⊥ }
 {}
 
 /// Not `(seq (canceled) A)` for `(canceled)`, which are the same at open places alone, nor `(mask p (oncancel A
