@@ -17,19 +17,14 @@ use Rattle.fx_script_laws.proofs.Interchanged.{PairsCome}
 use Rattle.fx_script_laws.proofs.WholeTerms.{either_puts, either_needs, put_there, need_there}
 use Rattle.fx_script_laws.proofs.SameReports.{reports_with_pairs, orders_with_pairs, lists_with_pairs}
 use Rattle.fx_script_laws.proofs.EachFollows.{numbered}
-use Rattle.fx_script_laws.proofs.Renumbered.{Shift, IsRenumbered, no_regions, plain_renumbered}
+use Rattle.fx_script_laws.proofs.Renumbered.{no_regions, plain_renumbered}
 use Rattle.fx_script_laws.proofs.RenumberedRuns.{runs}
-use Rattle.fx_script_laws.proofs.OwnRegions.{HasOwnRegions, own_kept, own_with}
+use Rattle.fx_script_laws.proofs.OwnRegions.{HasOwnRegions, own_kept, own_there}
 use Rattle.fx_script_laws.proofs.AtClosedPlaces.{AreEndsOfStops, stops_end}
 
 -- a whole term as a script has it has no region of its own
 own_at_first : (t : Term) → IsScriptTerm t → HasOwnRegions (first_counts (main_origin t)) (Runs t)
 own_at_first t h = runs (plain_renumbered no_regions (λ x. None) t h.0 h.1)
-
--- both have the same regions
-pub record HaveSameRegions (t u : Term) : Type 0 where
-  pub to : (m : Shift) → IsRenumbered m t t → IsRenumbered m u u
-  pub from : (m : Shift) → IsRenumbered m u u → IsRenumbered m t t
 
 -- a fiber without regions but its own comes to the same where it comes to the one or to the other there
 abbrev pub ComeToTheSameWithOwn : (Counts → Progress → Type 0) → Place → Term → Term → Type 0
@@ -38,7 +33,6 @@ ComeToTheSameWithOwn Ends place t u =
 
 module _ (there : Cover → Bool) (own : ℕ → Bool) (Pair : Term → Term → Type 0)
     (puts : (x n : ℕ) (t u : Term) → own x ≡ false → Pair t u → Pair (put x n t) (put x n u)) (needs : (t u : Term) → Pair t u → need t ≡ need u)
-    (regions : (t u : Term) → Pair t u → HaveSameRegions t u)
     (comes : (Ends : Counts → Progress → Type 0) → AreEndsOfStops Ends → (s : Cover) (place : Place) → there s ≡ true → IsCoveredBy s place
     → (t u : Term) → Pair t u → ComeToTheSameWithOwn Ends place t u) where
   module _ (t u : Term) (pair : Pair t u) where
@@ -49,14 +43,12 @@ module _ (there : Cover → Bool) (own : ℕ → Bool) (Pair : Term → Term →
     of_two (with_numbers numbers others apart) = numbered own Pair puts numbers others t u pair
 
     two_come : (o : Outside) (f : ℕ) (ended : Bool) → PairsCome (EitherWay Two) (StopsThere o f ended) HasOwnRegions
-    two_come o f ended s a b (as_is p) place at c now =
-        let two = of_two p.1 in
-        let come = comes (StopsThere o f ended) (stops_end o f ended) s place p.0 at a b two c in
-        (own_with place c a b (regions a b two).to now, λ ls. (come now ls).0)
-    two_come o f ended s a b (turned p) place at c now =
-        let two = of_two p.1 in
-        let come = comes (StopsThere o f ended) (stops_end o f ended) s place p.0 at b a two c in
-        let then = own_with place c a b (regions b a two).from now in
+    two_come o f ended s a b (as_is p) place place' at c now now' =
+        let come = comes (StopsThere o f ended) (stops_end o f ended) s place p.0 at a b (of_two p.1) c in
+        (own_there place place' c a b now now', λ ls. (come now ls).0)
+    two_come o f ended s a b (turned p) place place' at c now now' =
+        let come = comes (StopsThere o f ended) (stops_end o f ended) s place p.0 at b a (of_two p.1) c in
+        let then = own_there place place' c a b now now' in
         (then, λ ls. (come then ls).1)
 
     two_puts : ArePut (EitherWay Two)

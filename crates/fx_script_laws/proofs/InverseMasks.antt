@@ -29,9 +29,9 @@ use Rattle.fx_script_laws.proofs.RenumberedRuns.{IsProgressToo}
 use Rattle.fx_script_laws.proofs.OwnRegions.{HasOwnRegions, own_with}
 use Rattle.fx_script_laws.proofs.AtClosedPlaces.{AreEndsOfStops}
 use Rattle.fx_script_laws.proofs.MasksEntered.{masks_entered, silent_inside}
-use Rattle.fx_script_laws.proofs.RegionLaws.{used_as_poll, poll_leads}
-use Rattle.fx_script_laws.proofs.NestedMasks.{not_innermost, inside_come, shift, left_apart, right_apart, one, out_of_one, out_of_two, mask_inside}
-use Rattle.fx_script_laws.proofs.AlikeInScripts.{HaveSameRegions, ComeToTheSameWithOwn, alike_in_scripts}
+use Rattle.fx_script_laws.proofs.RegionLaws.{used_as_poll, mask_inside, poll_leads}
+use Rattle.fx_script_laws.proofs.NestedMasks.{not_innermost, inside_come, shift, left_apart, right_apart, one, out_of_one, out_of_two}
+use Rattle.fx_script_laws.proofs.AlikeInScripts.{ComeToTheSameWithOwn, alike_in_scripts}
 
 module _ (n : ℕ) where
   abbrev four : List Context
@@ -144,13 +144,9 @@ poll_inside (renumbered.poll v g) = g
 inverse_inside : {m : Shift} (p q : ℕ) (a : Term) → IsRenumbered m (in_inverse p q a) (in_inverse p q a) → IsRenumbered m a a
 inverse_inside p q a g = poll_inside (poll_inside (mask_inside (mask_inside g)))
 
-inverse_regions : (p q : ℕ) (t u : Term) → IsInverse p q t u → HaveSameRegions t u
-inverse_regions p q t u (inverse a h k) =
-    record {
-      to = λ m g. renumbered.mask (used_as_poll p a h) (inverse_inside p q a g);
-      from = λ m g. renumbered.mask (λ e. tt, (λ e. tt, used_as_poll p a h))
-          (renumbered.mask (λ e. tt, (λ e. tt, used_as_poll q a k)) (renumbered.poll slot (renumbered.poll slot (mask_inside g))));
-    }
+inverse_regions : (p q : ℕ) (a : Term) → IsUsedAs kind.OtherPoll p a → (m : Shift) → IsRenumbered m (in_inverse p q a) (in_inverse p q a)
+    → IsRenumbered m (Mask p a) (Mask p a)
+inverse_regions p q a h m g = renumbered.mask (used_as_poll p a h) (inverse_inside p q a g)
 
 module _ {Ends : Counts → Progress → Type 0} (ends : AreEndsOfStops Ends) (place : Place) (p q : ℕ) (other : p ≢ q) (a : Term)
     (unused : (n : ℕ) → put p n a ≡ a) (unused' : (n : ℕ) → put q n a ≡ a) where
@@ -201,13 +197,13 @@ inverse_come : (p q : ℕ) → p ≢ q → (Ends : Counts → Progress → Type 
 inverse_come p q other Ends ends s place any at t u (inverse a h k) c own ls =
     let unused : (n : ℕ) → put p n a ≡ a = λ n. put_unused p n a h in
     let unused' : (n : ℕ) → put q n a ≡ a = λ n. put_unused q n a k in
-    let regions = inverse_regions p q (in_inverse p q a) (Mask p a) (inverse a h k) in
+    let regions = inverse_regions p q a h in
     let part = Mask q (Poll (Slot p) (Poll (Slot q) a)) in (
       masks_entered p part a ends place
           (λ d o ms. inverse_to ends place p q other a unused unused' d (own_with place d (in_inverse p q a) a (λ m g. inverse_inside p q a g) o) ms) c own ls,
       masks_entered p a part ends place
           (λ d o ms. inverse_from ends place p q other a unused unused' d (own_with place d (Mask p a) a (λ m g. mask_inside g) o) ms) c
-          (own_with place c (in_inverse p q a) (Mask p a) regions.to own) ls,
+          (own_with place c (in_inverse p q a) (Mask p a) regions own) ls,
     )
 
 pub inverse_masks : (scope : ℕ → Option NameKind) (p q : ℕ) (a : Term) → p ≢ q → IsScopedWithout scope p q a
@@ -216,6 +212,6 @@ inverse_masks scope p q a other scoped =
     let last = with_name q kind.OtherPoll scope in
     let there = with_name p kind.OtherPoll last in
     let q_there : there q ≡ Some kind.OtherPoll = rw (ne_eqb q p (λ e. other (sym e))) (name_is q kind.OtherPoll scope) in
-    alike_in_scripts is_any (both_own p q) (IsInverse p q) (inverse_put p q) (inverse_need p q) (inverse_regions p q) (inverse_come p q other)
+    alike_in_scripts is_any (both_own p q) (IsInverse p q) (inverse_put p q) (inverse_need p q) (inverse_come p q other)
     (in_inverse p q a) (Mask p a)
     (inverse a (scoped_used p there kind.OtherPoll a (name_is p kind.OtherPoll last) scoped) (scoped_used q there kind.OtherPoll a q_there scoped))

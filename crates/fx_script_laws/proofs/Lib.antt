@@ -38,4 +38,5 @@ pub mod ClosedApart
 pub mod ShutInside
 pub mod MasksEntered
 pub mod NestedMasks
+pub mod MaskedFinalizers
 pub mod InverseMasks

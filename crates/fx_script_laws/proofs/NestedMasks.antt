@@ -30,8 +30,8 @@ use Rattle.fx_script_laws.proofs.OwnRegions.{HasOwnRegions, progress_by, shifted
 use Rattle.fx_script_laws.proofs.AtClosedPlaces.{AreEndsOfStops}
 use Rattle.fx_script_laws.proofs.ShutInside.{deeper, come_deeper, shut_come, shut_deeper}
 use Rattle.fx_script_laws.proofs.MasksEntered.{masks_entered, silent_inside}
-use Rattle.fx_script_laws.proofs.RegionLaws.{used_as_poll}
-use Rattle.fx_script_laws.proofs.AlikeInScripts.{HaveSameRegions, ComeToTheSameWithOwn, alike_in_scripts}
+use Rattle.fx_script_laws.proofs.RegionLaws.{used_as_poll, mask_inside}
+use Rattle.fx_script_laws.proofs.AlikeInScripts.{ComeToTheSameWithOwn, alike_in_scripts}
 
 -- a region that is not the innermost one takes nothing away
 pub not_innermost : (q r : ℕ) (cs : List Closing) → q ≢ r → without_region r (Region q ∷ cs) ≡ Region q ∷ cs
@@ -147,15 +147,9 @@ nested_put x n t u free (nested p q a h k) = nested p q (put x n a) (put_used p 
 nested_need : (t u : Term) → IsNested t u → need t ≡ need u
 nested_need t u (nested p q a h k) = refl
 
-pub mask_inside : {m : Shift} {i j : ℕ} {x y : Term} → IsRenumbered m (Mask i x) (Mask j y) → IsRenumbered m x y
-mask_inside (renumbered.mask u g) = g
-
-nested_regions : (t u : Term) → IsNested t u → HaveSameRegions t u
-nested_regions t u (nested p q a h k) =
-    record {
-      to = λ m g. renumbered.mask (used_as_poll p a h) (mask_inside (mask_inside g));
-      from = λ m g. renumbered.mask (used_as_poll p a h) (renumbered.mask (used_as_poll q a k) (mask_inside g));
-    }
+nested_regions : (p q : ℕ) (a : Term) → IsUsedAs kind.OtherPoll p a → (m : Shift) → IsRenumbered m (Mask p (Mask q a)) (Mask p (Mask q a))
+    → IsRenumbered m (Mask p a) (Mask p a)
+nested_regions p q a h m g = renumbered.mask (used_as_poll p a h) (mask_inside (mask_inside g))
 
 module _ {Ends : Counts → Progress → Type 0} (ends : AreEndsOfStops Ends) (place : Place) (p q : ℕ) (a : Term) (unused : (n : ℕ) → put p n a ≡ a)
     (unused' : (n : ℕ) → put q n a ≡ a) where
@@ -189,12 +183,12 @@ nested_come : (Ends : Counts → Progress → Type 0) → AreEndsOfStops Ends �
 nested_come Ends ends s place any at t u (nested p q a h k) c own ls =
     let unused : (n : ℕ) → put p n a ≡ a = λ n. put_unused p n a h in
     let unused' : (n : ℕ) → put q n a ≡ a = λ n. put_unused q n a k in
-    let regions = nested_regions (Mask p (Mask q a)) (Mask p a) (nested p q a h k) in (
+    let regions = nested_regions p q a h in (
       masks_entered p (Mask q a) a ends place
           (λ d o ms. nested_to ends place p q a unused unused' d (own_with place d (Mask p (Mask q a)) a (λ m g. mask_inside (mask_inside g)) o) ms) c own ls,
       masks_entered p a (Mask q a) ends place
           (λ d o ms. nested_from ends place p q a unused unused' d (own_with place d (Mask p a) a (λ m g. mask_inside g) o) ms) c
-          (own_with place c (Mask p (Mask q a)) (Mask p a) regions.to own) ls,
+          (own_with place c (Mask p (Mask q a)) (Mask p a) regions own) ls,
     )
 
 pub nested_masks : (scope : ℕ → Option NameKind) (p q : ℕ) (a : Term) → p ≢ q → IsScopedWithout scope p q a
@@ -203,5 +197,5 @@ nested_masks scope p q a other scoped =
     let last = with_name q kind.OtherPoll scope in
     let there = with_name p kind.OtherPoll last in
     let q_there : there q ≡ Some kind.OtherPoll = rw (ne_eqb q p (λ e. other (sym e))) (name_is q kind.OtherPoll scope) in
-    alike_in_scripts is_any none_bound IsNested nested_put nested_need nested_regions nested_come (Mask p (Mask q a)) (Mask p a)
+    alike_in_scripts is_any none_bound IsNested nested_put nested_need nested_come (Mask p (Mask q a)) (Mask p a)
     (nested p q a (scoped_used p there kind.OtherPoll a (name_is p kind.OtherPoll last) scoped) (scoped_used q there kind.OtherPoll a q_there scoped))

@@ -185,3 +185,8 @@ module _ {m : Shift} where
 pub own_with : (place : Place) (c : Counts) (t u : Term) → ((m : Shift) → IsRenumbered m t t → IsRenumbered m u u) → HasOwnRegions c (come_to place t)
     → HasOwnRegions c (come_to place u)
 own_with place c t u by h = let i = there_inside place t h in i.1 u (by (regions_below c.masks) i.0)
+
+-- of a fiber that comes to a term, where another one comes to another term, and has no regions but these either
+pub own_there : (place place' : Place) (c : Counts) (t u : Term) → HasOwnRegions c (come_to place t) → HasOwnRegions c (come_to place' u)
+    → HasOwnRegions c (come_to place u)
+own_there place place' c t u h k = let i = there_inside place t h in let j = there_inside place' u k in i.1 u j.0

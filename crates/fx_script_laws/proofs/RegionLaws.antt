@@ -36,7 +36,7 @@ use Rattle.fx_script_laws.proofs.Renumbered as renumbered
 use Rattle.fx_script_laws.proofs.OwnRegions.{own_with, one_more_entered}
 use Rattle.fx_script_laws.proofs.AtClosedPlaces.{AreEndsOfStops, leads_on, can_go, after_silent}
 use Rattle.fx_script_laws.proofs.ClosedLaws.{sealed_spot}
-use Rattle.fx_script_laws.proofs.AlikeInScripts.{HaveSameRegions, ComeToTheSameWithOwn, alike_in_scripts}
+use Rattle.fx_script_laws.proofs.AlikeInScripts.{ComeToTheSameWithOwn, alike_in_scripts}
 
 -- a name that may not be used is used as a poll where it is used
 module _ (x : ℕ) where
@@ -135,15 +135,8 @@ polls_put p x n t u free (polls a h) = rw (other_arg p x n free) (polls (put x n
 polls_need : (p : ℕ) (t u : Term) → PollsAtOnce p t u → need t ≡ need u
 polls_need p t u (polls a h) = refl
 
-polls_regions : (p : ℕ) (t u : Term) → PollsAtOnce p t u → HaveSameRegions t u
-polls_regions p t u (polls a h) =
-    record {
-      to = λ m g. into g;
-      from = λ m g. renumbered.mask (λ e. tt, used_as_poll p a h) (renumbered.poll slot g);
-    }
-  where
-    into : {m : Shift} {i j k l : ℕ} {x y : Term} → IsRenumbered m (Mask i (Poll (Slot j) x)) (Mask k (Poll (Slot l) y)) → IsRenumbered m x y
-    into (renumbered.mask u (renumbered.poll v g)) = g
+polled_inside : {m : Shift} {i j k l : ℕ} {x y : Term} → IsRenumbered m (Mask i (Poll (Slot j) x)) (Mask k (Poll (Slot l) y)) → IsRenumbered m x y
+polled_inside (renumbered.mask u (renumbered.poll v g)) = g
 
 number_put : (p r : ℕ) (a : Term) → IsUsedAs kind.OtherPoll p a → put p r (Poll (Slot p) a) ≡ Poll (Number r) a
 number_put p r a h = rw (eq-eqb p p refl, put_unused p r a h) refl
@@ -159,14 +152,14 @@ polls_come p Ends ends s place closed at t u (polls a h) c now ls =
     let follow = both_come_in Ends ends.told s place at (Masked r (Opened r a)) a
     (λ cs k. let f = opened_at_once cs (some_closed s cs closed k) r a in (f.to, f.from))
     (λ cs k. let f = opened_at_once cs (some_closed Sealed cs refl k) r a in (f.to, f.from)) d ls in
-    let own = own_with place c (Mask p (Poll (Slot p) a)) a (polls_regions p (Mask p (Poll (Slot p) a)) a (polls a h)).to now in
+    let own = own_with place c (Mask p (Poll (Slot p) a)) a (λ m g. polled_inside g) now in
     let less = one_more_entered ends c (come_to place a) own ls in
     (λ k. less.0 (follow.0 (opened.0 (entered.0 k))), λ k. entered.1 (opened.1 (follow.1 (less.1 k))))
 
 pub polled_at_once : (scope : ℕ → Option NameKind) (p : ℕ) (a : Term) → IsScoped (with_name p kind.OtherPoll scope) a
     → AreAlikeInScripts is_closed (and_bound p none_bound) (Mask p (Poll (Slot p) a)) a
 polled_at_once scope p a scoped =
-    alike_in_scripts is_closed (and_bound p none_bound) (PollsAtOnce p) (polls_put p) (polls_need p) (polls_regions p) (polls_come p)
+    alike_in_scripts is_closed (and_bound p none_bound) (PollsAtOnce p) (polls_put p) (polls_need p) (polls_come p)
     (Mask p (Poll (Slot p) a)) a (polls a (scoped_used p (with_name p kind.OtherPoll scope) kind.OtherPoll a (name_is p kind.OtherPoll scope) scoped))
 
 data HasMask : Term → Term → Type 0 where
@@ -178,11 +171,8 @@ mask_put x n t u free (a_mask p a h) = a_mask p (put x n a) (put_used p kind.Oth
 mask_need : (t u : Term) → HasMask t u → need t ≡ need u
 mask_need t u (a_mask p a h) = refl
 
-mask_regions : (t u : Term) → HasMask t u → HaveSameRegions t u
-mask_regions t u (a_mask p a h) = record { to = λ m g. into g; from = λ m g. renumbered.mask (used_as_poll p a h) g }
-  where
-    into : {m : Shift} {i j : ℕ} {x y : Term} → IsRenumbered m (Mask i x) (Mask j y) → IsRenumbered m x y
-    into (renumbered.mask u g) = g
+pub mask_inside : {m : Shift} {i j : ℕ} {x y : Term} → IsRenumbered m (Mask i x) (Mask j y) → IsRenumbered m x y
+mask_inside (renumbered.mask u g) = g
 
 sealed_is_closed : (s : Cover) → is_sealed s ≡ true → is_closed s ≡ true
 sealed_is_closed Sealed h = refl
@@ -203,12 +193,12 @@ mask_comes Ends ends s place sealed at t u (a_mask p a h) c now ls =
     let follow = both_come_in Ends ends.told s place at (Masked r a) a
     (λ cs k. let f = mask_is_nothing cs (sealed_by s cs sealed k) r a in (f.to, f.from))
     (λ cs k. let f = mask_is_nothing cs k r a in (f.to, f.from)) d ls in
-    let own = own_with place c (Mask p a) a (mask_regions (Mask p a) a (a_mask p a h)).to now in
+    let own = own_with place c (Mask p a) a (λ m g. mask_inside g) now in
     let less = one_more_entered ends c (come_to place a) own ls in
     (λ k. less.0 (follow.0 (entered.0 k)), λ k. entered.1 (follow.1 (less.1 k)))
 
 pub mask_of_sealed : (scope : ℕ → Option NameKind) (p : ℕ) (a : Term) → IsScoped (with_name p kind.OtherPoll scope) a
     → AreAlikeInScripts is_sealed none_bound (Mask p a) a
 mask_of_sealed scope p a scoped =
-    alike_in_scripts is_sealed none_bound HasMask mask_put mask_need mask_regions mask_comes (Mask p a) a
+    alike_in_scripts is_sealed none_bound HasMask mask_put mask_need mask_comes (Mask p a) a
     (a_mask p a (scoped_used p (with_name p kind.OtherPoll scope) kind.OtherPoll a (name_is p kind.OtherPoll scope) scoped))

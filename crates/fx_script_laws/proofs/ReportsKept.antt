@@ -103,23 +103,26 @@ module _ {Holds : Counts → Progress → Type 0} (is : IsKeptByRuns Holds) wher
 module _ {Pair : Cover → (ℕ → Bool) → Term → Term → Type 0} (puts : ArePut Pair)
     (needs : (s : Cover) (v : ℕ → Bool) (t u : Term) → Pair s v t u → need t ≡ need u) (kept : (o : Outside) (f : ℕ) (ended : Bool)
     → AreEndsKept Pair (StopsThere o f ended))
-    {Holds : Counts → Progress → Type 0} (is : IsKeptByRuns Holds) (pairs : (o : Outside) (f : ℕ) (ended : Bool)
+    {Holds : Counts → Progress → Type 0} (is_kept : IsKeptByRuns Holds) (pairs : (o : Outside) (f : ℕ) (ended : Bool)
     → PairsCome Pair (StopsThere o f ended) Holds) where
   same_first : (b b' : Origin) → AreFilledOrigins Pair b b' → first_counts b ≡ first_counts b'
   same_first b b' s = let p = s.next_is in let q = s.end_is in cc
 
   -- a run that ends where it cannot step has such a run of the other fiber
-  run_too : (o : Outside) (f : ℕ) (b b' : Origin) → Holds (first_counts b) (Runs b.term) → AreFilledOrigins Pair b b'
+  run_too : (o : Outside) (f : ℕ) (b b' : Origin) → Holds (first_counts b) (Runs b.term) → Holds (first_counts b') (Runs b'.term)
+      → AreFilledOrigins Pair b b'
       → (ls : List Label) (c : Counts) (p : Progress) → IsRun b ls c p
       → can_step o f c p ≡ false → CanComeLike Pair (StopsThere o f (has_ended p)) (first_counts b') (Runs b'.term) (shown ls)
-  run_too o f b b' now s ls c p run unable =
+  run_too o f b b' now now' s ls c p run unable =
+      let there = subst (λ (d : Counts). Holds d (Runs b'.term)) (sym (same_first b b' s)) now' in
       subst (λ (d : Counts). CanComeLike Pair (StopsThere o f (has_ended p)) d (Runs b'.term) (shown ls)) (same_first b b' s)
-      (filled_come puts needs (kept o f (has_ended p)) is.steps (pairs o f (has_ended p)) (first_counts b) (Runs b.term) (Runs b'.term)
-      (runs s.term) now ls c p run
+      (filled_come puts needs (kept o f (has_ended p)) is_kept.steps (pairs o f (has_ended p)) (first_counts b) (Runs b.term) (Runs b'.term)
+      (runs s.term) now there ls c p run
       (unable, refl))
 
   module _ (s : ScriptView) (other : Term) (may : ℕ → Bool) (r : ReportView) (lawful : IsLawfulReport s may r)
-      (terms : IsFilled Pair uncovered none_bound s.term other) (main : Holds (first_counts (main_origin s.term)) (Runs s.term)) where
+      (terms : IsFilled Pair uncovered none_bound s.term other) (main : Holds (first_counts (main_origin s.term)) (Runs s.term))
+      (main' : Holds (first_counts (main_origin other)) (Runs other)) where
     -- the script with the other term
     abbrev s' : ScriptView
     s' = record { term = other; capacities = s.capacities }
@@ -130,6 +133,7 @@ module _ {Pair : Cover → (ℕ → Bool) → Term → Term → Type 0} (puts : 
     -- what fiber f did, of which the report tells, does this run of the other script's fiber too
     record IsTold (f : ℕ) (origin : Origin) (labels : List Label) (counts : Counts) (progress : Progress) : Type 0 where
       pub begins : AreFilledOrigins Pair (lawful.runs.origin f) origin
+      pub holds : Holds (first_counts origin) (Runs origin.term)
       pub run : IsRun origin labels counts progress
       pub like : AllFilled Pair (shown (lawful.runs.labels f)) (shown labels)
       pub unable : can_step outside f counts progress ≡ false
@@ -143,7 +147,8 @@ module _ {Pair : Cover → (ℕ → Bool) → Term → Term → Type 0} (puts : 
       pub told : (x : FiberReportView) → fiber_in r f ≡ Some x → IsTold f origin labels counts progress
 
     -- what begins so
-    module _ (f : ℕ) (b : Origin) (begins : (x : FiberReportView) → fiber_in r f ≡ Some x → AreFilledOrigins Pair (lawful.runs.origin f) b) where
+    module _ (f : ℕ) (b : Origin) (begins : (x : FiberReportView) → fiber_in r f ≡ Some x → AreFilledOrigins Pair (lawful.runs.origin f) b)
+        (now : (x : FiberReportView) → fiber_in r f ≡ Some x → Holds (first_counts b) (Runs b.term)) where
       abbrev by_fiber : (o : Option FiberReportView) → fiber_in r f ≡ o → NewRun f
       by_fiber None e =
           record {
@@ -155,7 +160,7 @@ module _ {Pair : Cover → (ℕ → Bool) → Term → Term → Type 0} (puts : 
           }
       by_fiber (Some x) e =
           let h = lawful.runs.run f x e in
-          let k = run_too outside f (lawful.runs.origin f) b (holds_of is s may r lawful main f x e) (begins x e) (lawful.runs.labels f) (lawful.runs.counts f)
+          let k = run_too outside f (lawful.runs.origin f) b (holds_of is_kept s may r lawful main f x e) (now x e) (begins x e) (lawful.runs.labels f) (lawful.runs.counts f)
           (lawful.runs.progress f) h.run
           h.unable in
           record {
@@ -163,7 +168,7 @@ module _ {Pair : Cover → (ℕ → Bool) → Term → Term → Type 0} (puts : 
             labels = k.labels;
             counts = k.counts;
             progress = k.progress;
-            told = λ y at. record { begins = begins x e; run = k.run; like = k.like; unable = k.ends.0; state = k.ends.1 };
+            told = λ y at. record { begins = begins x e; holds = now x e; run = k.run; like = k.like; unable = k.ends.0; state = k.ends.1 };
           }
 
       by_fiber_origin : (o : Option FiberReportView) (e : fiber_in r f ≡ o) → (by_fiber o e).origin ≡ b
@@ -183,7 +188,7 @@ module _ {Pair : Cover → (ℕ → Bool) → Term → Term → Type 0} (puts : 
         subst (λ (b : Origin). AreFilledOrigins Pair b (main_origin other)) (sym lawful.origins.main) at
 
     abbrev main_run : NewRun 0
-    main_run = from_here 0 (main_origin other) (λ x at. main_begins)
+    main_run = from_here 0 (main_origin other) (λ x at. main_begins) (λ x at. main')
 
     -- what a child begins with, by the labels of its parent
     abbrev or_else : Origin → Option Origin → Origin
@@ -225,23 +230,35 @@ module _ {Pair : Cover → (ℕ → Bool) → Term → Term → Type 0} (puts : 
     found_is : (f p : ℕ) (n : NewRun p) (b : Origin) → find_start f n.labels ≡ Some b → child_origin_of f p n ≡ b
     found_is f p n b e = ap (or_else (lawful.runs.origin f)) e
 
+    child_begins_so : (f p : ℕ) → parent_in r f ≡ Some p → (n : NewRun p) (x : FiberReportView) → fiber_in r f ≡ Some x
+        → AreFilledOrigins Pair (lawful.runs.origin f) (child_origin_of f p n)
+    child_begins_so f p is n x at =
+        let k = child_like f p n x at is in
+        subst (λ (b : Origin). AreFilledOrigins Pair (lawful.runs.origin f) b) (sym (found_is f p n k.origin k.found)) k.like
+
+    child_holds : (f p : ℕ) → parent_in r f ≡ Some p → (n : NewRun p) (x : FiberReportView) → fiber_in r f ≡ Some x
+        → Holds (first_counts (child_origin_of f p n)) (Runs (child_origin_of f p n).term)
+    child_holds f p is n x at =
+        let k = child_like f p n x at is in
+        let y = parent_told f p x at is in
+        let t = n.told y.0 y.1 in
+        let all = all_hold is_kept n.labels (first_counts n.origin) n.counts (Runs n.origin.term) n.progress t.holds t.run in
+        subst (λ (b : Origin). Holds (first_counts b) (Runs b.term)) (sym (found_is f p n k.origin k.found))
+        (found_holds is_kept f k.origin n.labels all k.found)
+
     abbrev child_run : (f p : ℕ) → parent_in r f ≡ Some p → NewRun p → NewRun f
-    child_run f p is n =
-        from_here f (child_origin_of f p n)
-        (λ x at. let k = child_like f p n x at is in
-        subst (λ (b : Origin). AreFilledOrigins Pair (lawful.runs.origin f) b) (sym (found_is f p n k.origin k.found)) k.like)
+    child_run f p is n = from_here f (child_origin_of f p n) (child_begins_so f p is n) (child_holds f p is n)
 
     child_run_origin : (f p : ℕ) (is : parent_in r f ≡ Some p) (n : NewRun p) → (child_run f p is n).origin ≡ child_origin_of f p n
     child_run_origin f p is n =
-        from_here_origin f (child_origin_of f p n)
-        (λ x at. let k = child_like f p n x at is in
-        subst (λ (b : Origin). AreFilledOrigins Pair (lawful.runs.origin f) b) (sym (found_is f p n k.origin k.found)) k.like)
+        from_here_origin f (child_origin_of f p n) (child_begins_so f p is n) (child_holds f p is n)
 
     -- a fiber that is not in the report, or has no parent
     no_run : (f : ℕ) → f ≢ 0 → parent_in r f ≡ None → NewRun f
     no_run f ne is =
         from_here f (lawful.runs.origin f)
         (λ x at. absurd (let h = lawful.starters.others f x at ne in none-some h.0 (sym is ∙ ap parent_of_report at ∙ h.2)))
+        (λ x at. holds_of is_kept s may r lawful main f x at)
 
     parent_below : (f p : ℕ) → parent_in r f ≡ Some p → p < f
     parent_below f p is = by_report (fiber_in r f) refl
@@ -318,7 +335,7 @@ module _ {Pair : Cover → (ℕ → Bool) → Term → Term → Type 0} (puts : 
         (λ q e h. same_within (suc f) (suc f) p q e (earlier (suc f) (suc f) q (itself_below (suc f)) h))
 
     main_origin_is : (run_of 0).origin ≡ main_origin other
-    main_origin_is = from_here_origin 0 (main_origin other) (λ x at. main_begins)
+    main_origin_is = from_here_origin 0 (main_origin other) (λ x at. main_begins) (λ x at. main')
 
     trace_too : (f : ℕ) (x : FiberReportView) → fiber_in r f ≡ Some x → events (run_of f).labels ≡ x.trace
     trace_too f x at =
@@ -442,15 +459,15 @@ module _ {Pair : Cover → (ℕ → Bool) → Term → Term → Type 0} (puts : 
         }
 
   module _ (s : ScriptView) (other : Term) (may : ℕ → Bool) (r : ReportView) (terms : IsFilled Pair uncovered none_bound s.term other)
-      (main : Holds (first_counts (main_origin s.term)) (Runs s.term)) where
+      (main : Holds (first_counts (main_origin s.term)) (Runs s.term)) (main' : Holds (first_counts (main_origin other)) (Runs other)) where
     abbrev pub with_other : ScriptView
     with_other = record { term = other; capacities = s.capacities }
 
     pub report_kept : IsLawfulReport s may r → IsLawfulReport with_other may r
-    report_kept lawful = report_here s other may r lawful terms main
+    report_kept lawful = report_here s other may r lawful terms main main'
 
     abbrev order_here : IsLawfulInOneOrder s may r → IsLawfulInOneOrder with_other may r
-    order_here h = record { lawful = report_here s other may r h.lawful terms main; causes = causes_here s other may r h.lawful terms main h.causes }
+    order_here h = record { lawful = report_here s other may r h.lawful terms main main'; causes = causes_here s other may r h.lawful terms main main' h.causes }
 
     pub order_kept : IsLawfulInOneOrder s may r → IsLawfulInOneOrder with_other may r
     order_kept h = order_here h

@@ -63,42 +63,42 @@ module _ {Pair : Cover → (ℕ → Bool) → Term → Term → Type 0} (puts : 
   abbrev AreWithPairs : Term → Term → Type 0
   AreWithPairs = IsFilled (EitherWay Pair) uncovered none_bound
 
-  kept : (s : ScriptView) (b : Term) (may : ℕ → Bool) (r : ReportView) → AreWithPairs s.term b → HoldsAtFirst s.term → IsLawfulReport s may r
+  kept : (s : ScriptView) (b : Term) (may : ℕ → Bool) (r : ReportView) → AreWithPairs s.term b → HoldsAtFirst s.term → HoldsAtFirst b → IsLawfulReport s may r
       → IsLawfulReport (record { term = b; capacities = s.capacities }) may r
   kept = report_kept puts needs stops_kept is come
 
-  in_order_too : (s : ScriptView) (b : Term) (may : ℕ → Bool) (r : ReportView) → AreWithPairs s.term b → HoldsAtFirst s.term → IsLawfulInOneOrder s may r
+  in_order_too : (s : ScriptView) (b : Term) (may : ℕ → Bool) (r : ReportView) → AreWithPairs s.term b → HoldsAtFirst s.term → HoldsAtFirst b → IsLawfulInOneOrder s may r
       → IsLawfulInOneOrder (record { term = b; capacities = s.capacities }) may r
   in_order_too = order_kept puts needs stops_kept is come
 
-  in_list_too : (s : ScriptView) (b : Term) (may : ℕ → Bool) (r : ReportView) → AreWithPairs s.term b → HoldsAtFirst s.term → IsLawfulInOneList s may r
+  in_list_too : (s : ScriptView) (b : Term) (may : ℕ → Bool) (r : ReportView) → AreWithPairs s.term b → HoldsAtFirst s.term → HoldsAtFirst b → IsLawfulInOneList s may r
       → IsLawfulInOneList (record { term = b; capacities = s.capacities }) may r
   in_list_too = list_kept puts needs stops_kept is come
 
   module _ (s z : ScriptView) (may : ℕ → Bool) (r : ReportView) (terms : AreWithPairs s.term z.term) (capacities : s.capacities ≡ z.capacities)
-      (main : HoldsAtFirst s.term) where
+      (main : HoldsAtFirst s.term) (main' : HoldsAtFirst z.term) where
     same_script : record { term = z.term; capacities = s.capacities } ≡ z
     same_script = ap (λ (cs : List ℕ). record { term = z.term; capacities = cs }) capacities
 
     report_too : IsLawfulReport s may r → IsLawfulReport z may r
-    report_too h = subst (λ (x : ScriptView). IsLawfulReport x may r) same_script (kept s z.term may r terms main h)
+    report_too h = subst (λ (x : ScriptView). IsLawfulReport x may r) same_script (kept s z.term may r terms main main' h)
 
     order_too : IsLawfulInOneOrder s may r → IsLawfulInOneOrder z may r
-    order_too h = subst (λ (x : ScriptView). IsLawfulInOneOrder x may r) same_script (in_order_too s z.term may r terms main h)
+    order_too h = subst (λ (x : ScriptView). IsLawfulInOneOrder x may r) same_script (in_order_too s z.term may r terms main main' h)
 
     list_too : IsLawfulInOneList s may r → IsLawfulInOneList z may r
-    list_too h = subst (λ (x : ScriptView). IsLawfulInOneList x may r) same_script (in_list_too s z.term may r terms main h)
+    list_too h = subst (λ (x : ScriptView). IsLawfulInOneList x may r) same_script (in_list_too s z.term may r terms main main' h)
 
   module _ (s z : ScriptView) (may : ℕ → Bool) (r : ReportView) (terms : AreWithPairs s.term z.term) (capacities : s.capacities ≡ z.capacities)
       (main : HoldsAtFirst s.term) (main' : HoldsAtFirst z.term) where
     pub reports_with_pairs : IsLawfulReport s may r ↔ IsLawfulReport z may r
-    reports_with_pairs = (report_too s z may r terms capacities main, report_too z s may r (turned_filled terms) (sym capacities) main')
+    reports_with_pairs = (report_too s z may r terms capacities main main', report_too z s may r (turned_filled terms) (sym capacities) main' main)
 
     pub orders_with_pairs : IsLawfulInOneOrder s may r ↔ IsLawfulInOneOrder z may r
-    orders_with_pairs = (order_too s z may r terms capacities main, order_too z s may r (turned_filled terms) (sym capacities) main')
+    orders_with_pairs = (order_too s z may r terms capacities main main', order_too z s may r (turned_filled terms) (sym capacities) main' main)
 
     pub lists_with_pairs : IsLawfulInOneList s may r ↔ IsLawfulInOneList z may r
-    lists_with_pairs = (list_too s z may r terms capacities main, list_too z s may r (turned_filled terms) (sym capacities) main')
+    lists_with_pairs = (list_too s z may r terms capacities main main', list_too z s may r (turned_filled terms) (sym capacities) main' main)
 
 always_kept : IsKeptByRuns NothingElse
 always_kept = record { steps = λ c d p q l h s. tt; starts = λ c d p q l h s. always l }

@@ -60,15 +60,15 @@ module _ {Pair : Cover → (ℕ → Bool) → Term → Term → Type 0} where
 
   -- where nothing need hold
   pub either_come : {Ends : Counts → Progress → Type 0} → ComeWhereCovered Pair Ends → PairsCome (EitherWay Pair) Ends NothingElse
-  either_come come s t u (as_is p) place at c now = (tt, λ ls h. (come s t u p place at c ls).0 h)
-  either_come come s t u (turned p) place at c now = (tt, λ ls h. (come s u t p place at c ls).1 h)
+  either_come come s t u (as_is p) place place' at c now now' = (tt, λ ls h. (come s t u p place at c ls).0 h)
+  either_come come s t u (turned p) place place' at c now now' = (tt, λ ls h. (come s u t p place at c ls).1 h)
 
   pub whole_comes : {Ends : Counts → Progress → Type 0} → ArePut Pair → ((s : Cover) (v : ℕ → Bool) (t u : Term) → Pair s v t u → need t ≡ need u)
       → ComeWhereCovered Pair Ends → AreEndsKept (EitherWay Pair) Ends → (t u : Term) → IsFilled (EitherWay Pair) uncovered none_bound t u
       → (c : Counts) (ls : List Label) → CanComeTo Ends c (Runs t) ls
       → CanComeLike (EitherWay Pair) Ends c (Runs u) ls
   whole_comes {Ends} puts needs come kept t u filled c ls h =
-      let k = filled_come (either_puts puts) (either_needs needs) kept nothing_else (either_come come) c (Runs t) (Runs u) (runs filled) tt h.labels h.counts
+      let k = filled_come (either_puts puts) (either_needs needs) kept nothing_else (either_come come) c (Runs t) (Runs u) (runs filled) tt tt h.labels h.counts
       h.progress h.run h.ends in
       subst (λ (ms : List Label). CanComeLike (EitherWay Pair) Ends c (Runs u) ms) h.shown_is k
 

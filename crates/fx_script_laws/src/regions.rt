@@ -6,6 +6,7 @@ ghost use Rattle.fx_term.specs.declared.node.Arg.TheVariants.{Slot};
 ghost use Rattle.fx_term.specs.declared.name_kind.NameKind.{NameKind};
 ghost use Rattle.fx_term.specs.declared.name_kind.NameKind.TheVariants as kind;
 ghost use Rattle.fx_term.specs.Term.{Term, Canceled, Let, Mask, Poll, OnCancel};
+ghost use Rattle.fx_term.specs.Need.{need};
 ghost use Rattle.fx_term.specs.Scope.{with_name, IsScoped};
 ghost use Rattle.fx_model.specs.MaskLaws.{IsScopedWithout};
 ghost use Rattle.fx_model.specs.Report.{ReportView};
@@ -39,6 +40,13 @@ pub fn uncancelable_ignored_poll_eliminates_nesting_in_scripts()
 pub fn uncancelable_poll_inverse_nest_is_uncancelable_in_scripts()
     ensures { (scope : ℕ → Option NameKind) (p q : ℕ) (a : Term) → p ≢ q → IsScopedWithout scope p q a
         → AreAlikeInScripts is_any (and_bound p (and_bound q none_bound)) (Mask p (Mask q (Poll (Slot p) (Poll (Slot q) a)))) (Mask p a) }
+{}
+
+/// `uncancelableEliminatesOnCancel`: `(mask p (oncancel A F))` for `(mask p A)`, at each place, where `A` does not use
+/// `p` and `F` starts no fiber: nothing opens the mask, so that `F` never runs.
+pub fn uncancelable_eliminates_on_cancel_in_scripts()
+    ensures { (scope : ℕ → Option NameKind) (p : ℕ) (a f : Term) → IsScoped (with_name p kind.OtherPoll scope) a → need f ≡ 0
+        → AreAlikeInScripts is_any none_bound (Mask p (OnCancel a f)) (Mask p a) }
 {}
 
 /// `onCancelImpliesUncancelable`: `(oncancel A (mask p F))` for `(oncancel A F)`, at each place, where `F` does not
