@@ -19,6 +19,7 @@ pub mod ExampleScripts
 pub mod OwnNames
 pub mod KeptApart
 pub mod FirstLeavesApart
+pub mod ReportsApart
 pub mod PutOrder
 pub mod StepsBefore
 pub mod BesideEnds

@@ -3,3 +3,4 @@ pub mod Filled
 pub mod Interchange
 pub mod BeginsOpenly
 pub mod InScripts
+pub mod BlockedAlone

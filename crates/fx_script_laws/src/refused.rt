@@ -1,8 +1,11 @@
 //! Terms that cannot be put for one another, so that the laws say something.
-ghost use Rattle.std.specs.Prelude.{◌≡◌, ℕ, Bool, true, None};
+ghost use Rattle.std.specs.Prelude.{◌≡◌, ℕ, Bool, true, None, [], ◌∷◌};
 ghost use Rattle.fx_term.specs.declared.node.Arg.TheVariants.{Number, Slot};
 ghost use Rattle.fx_term.specs.Term.{Pure, Canceled, Never, Cede, Let, Mask, Poll, OnCancel, Bracket, Offer};
+ghost use Rattle.fx_term.specs.declared.event.Event.TheVariants as event;
+ghost use Rattle.fx_model.specs.LawfulReport.{IsLawfulReport};
 ghost use Rattle.fx_model.specs.MaskLaws.{forced_after};
+ghost use Rattle.fx_script_laws.specs.BlockedAlone.{blocked_alone};
 ghost use Rattle.fx_script_laws.specs.Cover.{Cover, Sealed, is_closed};
 ghost use Rattle.fx_script_laws.specs.Interchange.{AreInterchangeable, AreInterchangeableWhere};
 
@@ -11,10 +14,28 @@ pub fn never_is_not_put_for_canceled()
     ensures { (own : ℕ → Bool) → AreInterchangeable own Never Canceled → ⊥ }
 {}
 
+/// So scripts with the one have reports that those with the other have not: `(main (never))` can be blocked with
+/// nothing shown, and `(main (canceled))` cannot.
+pub fn reports_tell_never_from_canceled()
+    ensures never { (may : ℕ → Bool) → IsLawfulReport (record { term = Never; capacities = [] }) may (blocked_alone []) }
+    ensures canceled { (may : ℕ → Bool) → IsLawfulReport (record { term = Canceled; capacities = [] }) may (blocked_alone []) → ⊥ }
+{}
+
 /// Not `(mask p T)` for `T`, where that is `(seq (canceled) (offer q 1))`.
 pub fn mask_is_not_put_for_its_inside()
     ensures { (own : ℕ → Bool) → AreInterchangeable own (Mask 0 (Let None Canceled (Offer 0 (Number 1))))
         (Let None Canceled (Offer 0 (Number 1))) → ⊥ }
+{}
+
+/// So `(main (mask p (seq (canceled) (never))))` can be blocked after it requested itself, and
+/// `(main (seq (canceled) (never)))` cannot.
+pub fn reports_tell_a_mask_from_its_inside()
+    ensures mask { (may : ℕ → Bool) → IsLawfulReport (record {
+      term = Mask 0 (Let None Canceled Never);
+      capacities = [];
+    }) may (blocked_alone (event.SelfRequest ∷ [])) }
+    ensures inside { (may : ℕ → Bool)
+        → IsLawfulReport (record { term = Let None Canceled Never; capacities = [] }) may (blocked_alone (event.SelfRequest ∷ [])) → ⊥ }
 {}
 
 /// Not `(forcer (pure 0) A)` for `A`, where that is `(oncancel (canceled) (offer q 1))`: a request can be
