@@ -42,3 +42,4 @@ pub mod CaseLaws
 pub mod CaseReleases
 pub mod MonadLaws
 pub mod SeenBefore
+pub mod WithoutTurns

@@ -3,9 +3,11 @@ ghost use Rattle.std.specs.Prelude.{◌↔◌, Bool, None, []};
 ghost use Rattle.fx_term.specs.declared.node.Arg.TheVariants.{Number, Slot};
 ghost use Rattle.fx_term.specs.Term.{Term, Pure, Raise, Canceled, Never, Cede, Let, Handle, Mask, Poll, OnCancel, Offer};
 ghost use Rattle.fx_model.specs.Row.{Counts, Label, Row};
+ghost use Rattle.fx_model.specs.Step.{Progress, Step};
 ghost use Rattle.fx_model.specs.MaskLaws.{ShowTheSame, forced_after};
 ghost use Rattle.fx_laws.specs.Everywhere.{InCleanup, ShowTheSameAt, ShowTheSameEverywhere};
 ghost use Rattle.fx_laws.specs.Others.{LookTheSame};
+ghost use Rattle.fx_laws.specs.WithoutTurns.{progress_without_turns, label_without_turns};
 
 /// Others see what a finalizer does: `(oncancel (canceled) (offer q 1))` does not look to them as
 /// `(canceled)` does.
@@ -83,4 +85,11 @@ pub fn cede_is_pure_of_zero()
     ensures same { ShowTheSameEverywhere Cede (Pure (Number 0)) }
     ensures steps { (closed : Bool) (c d : Counts) (l : Label) (t : Term)
         → Row closed c Cede l d t ↔ Row closed c (Pure (Number 0)) l d t }
+{}
+
+/// Nor from there on, wherever they stand in a term: with `(pure 0)` for each `(cede)` in it, in what runs and in
+/// what does not run yet, a fiber makes the same steps, and what it starts begins with such a term.
+pub fn fibers_step_alike_without_turns()
+    ensures { (c d : Counts) (p q : Progress) (l : Label) → Step c p l d q
+        → Step c (progress_without_turns p) (label_without_turns l) d (progress_without_turns q) }
 {}

@@ -27,15 +27,15 @@ use Rattle.fx_laws.proofs.Doomed.{must_forced}
 use Rattle.fx_script_laws.specs.BlockedAlone.{blocked_alone}
 
 -- a fiber that shows only itself, and is blocked
-module _ (t : Term) (es : List Event) where
+module _ (t : Term) (es : List Event) (ts : List ℕ) where
   abbrev r : ReportView
-  r = blocked_alone es
+  r = blocked_alone es ts
 
   abbrev s : ScriptView
   s = record { term = t; capacities = [] }
 
   abbrev main : FiberReportView
-  main = record { id = 0; parent = None; has_ended = false; trace = es; stamps = [] }
+  main = record { id = 0; parent = None; has_ended = false; trace = es; stamps = ts }
 
   is_main : (f : ℕ) (x : FiberReportView) → fiber_in r f ≡ Some x → (f ≡ 0) × (x ≡ main)
   is_main f x e = by_test (0 == f) refl
@@ -116,9 +116,9 @@ abbrev script_of : Term → ScriptView
 script_of t = record { term = t; capacities = [] }
 
 -- who waits for good may be blocked, with nothing shown
-pub never_is_blocked : (may : ℕ → Bool) → IsLawfulReport (record { term = Never; capacities = [] }) may (blocked_alone [])
+pub never_is_blocked : (may : ℕ → Bool) → IsLawfulReport (record { term = Never; capacities = [] }) may (blocked_alone [] [])
 never_is_blocked may =
-    is_lawful Never [] (λ q. refl) (λ f. refl) [] (first_counts (main_origin Never)) (Runs Never) (refl, refl) refl refl refl (λ P a b. All-nil P) may
+    is_lawful Never [] [] (λ q. refl) (λ f. refl) [] (first_counts (main_origin Never)) (Runs Never) (refl, refl) refl refl refl (λ P a b. All-nil P) may
 
 -- who cancels itself shows that first
 cancels_first : (t : Term) (c d : Counts) (p : Progress) (ls : List Label) (es : List Event) → must_cancel c.known t ≡ true → Leads c (Runs t) ls d p
@@ -137,19 +137,19 @@ cancels_or_steps t c d p (l ∷ ls) must h is =
     let e : events (Shows event.Cancelled ∷ ls) ≡ [] = ap (λ (m : Label). events (m ∷ ls)) (sym o.0) ∙ is in
     absurd cc
 
-module _ (t : Term) (es : List Event) (may : ℕ → Bool) (h : IsLawfulReport (script_of t) may (blocked_alone es)) where
-  run_told : HasRun (script_of t) (blocked_alone es) 0 (main t es) (main_origin t) (h.runs.labels 0) (h.runs.counts 0) (h.runs.progress 0)
+module _ (t : Term) (es : List Event) (ts : List ℕ) (may : ℕ → Bool) (h : IsLawfulReport (script_of t) may (blocked_alone es ts)) where
+  run_told : HasRun (script_of t) (blocked_alone es ts) 0 (main t es ts) (main_origin t) (h.runs.labels 0) (h.runs.counts 0) (h.runs.progress 0)
   run_told =
-      subst (λ (b : Origin). HasRun (script_of t) (blocked_alone es) 0 (main t es) b (h.runs.labels 0) (h.runs.counts 0) (h.runs.progress 0)) h.origins.main
-      (h.runs.run 0 (main t es) refl)
+      subst (λ (b : Origin). HasRun (script_of t) (blocked_alone es ts) 0 (main t es ts) b (h.runs.labels 0) (h.runs.counts 0) (h.runs.progress 0)) h.origins.main
+      (h.runs.run 0 (main t es ts) refl)
 
-pub canceled_is_not_blocked : (may : ℕ → Bool) → IsLawfulReport (record { term = Canceled; capacities = [] }) may (blocked_alone []) → ⊥
+pub canceled_is_not_blocked : (may : ℕ → Bool) → IsLawfulReport (record { term = Canceled; capacities = [] }) may (blocked_alone [] []) → ⊥
 canceled_is_not_blocked may h =
-    let k = run_told Canceled [] may h in
+    let k = run_told Canceled [] [] may h in
     let at = cancels_or_steps Canceled (first_counts (main_origin Canceled)) (h.runs.counts 0) (h.runs.progress 0) (h.runs.labels 0) refl k.run k.trace in
-    let goes : can_step (final_outside (script_of Canceled) (blocked_alone [])) 0 (first_counts (main_origin Canceled)) (Runs Canceled) ≡ false =
-    subst (λ (x : Counts). can_step (final_outside (script_of Canceled) (blocked_alone [])) 0 x (Runs Canceled) ≡ false) at.0
-    (subst (λ (x : Progress). can_step (final_outside (script_of Canceled) (blocked_alone [])) 0 (h.runs.counts 0) x ≡ false) at.1 k.unable) in
+    let goes : can_step (final_outside (script_of Canceled) (blocked_alone [] [])) 0 (first_counts (main_origin Canceled)) (Runs Canceled) ≡ false =
+    subst (λ (x : Counts). can_step (final_outside (script_of Canceled) (blocked_alone [] [])) 0 x (Runs Canceled) ≡ false) at.0
+    (subst (λ (x : Progress). can_step (final_outside (script_of Canceled) (blocked_alone [] [])) 0 (h.runs.counts 0) x ≡ false) at.1 k.unable) in
     absurd cc
 
 -- in a mask a fiber that requests itself goes on, and waits
@@ -160,13 +160,13 @@ abbrev requested : List Event
 requested = event.SelfRequest ∷ []
 
 pub mask_is_blocked : (may : ℕ → Bool)
-    → IsLawfulReport (record { term = Mask 0 (Let None Canceled Never); capacities = [] }) may (blocked_alone (event.SelfRequest ∷ []))
+    → IsLawfulReport (record { term = Mask 0 (Let None Canceled Never); capacities = [] }) may (blocked_alone (event.SelfRequest ∷ []) (1 ∷ []))
 mask_is_blocked may =
     let t = Mask 0 requests_and_waits in
     let c = first_counts (main_origin t) in
     let m = one_more_mask c in
     let k = known_canceled m in
-    is_lawful t requested (λ q. refl) (λ f. refl) (Silent ∷ Shows event.SelfRequest ∷ Silent ∷ []) k (Runs (Masked 0 Never)) (
+    is_lawful t requested (1 ∷ []) (λ q. refl) (λ f. refl) (Silent ∷ Shows event.SelfRequest ∷ Silent ∷ []) k (Runs (Masked 0 Never)) (
       m,
       Runs (Masked 0 requests_and_waits),
       step.row refl rule.mask,
@@ -181,8 +181,8 @@ mask_is_blocked may =
     (All-cons P Silent [] a (All-nil P)))) may
 
 pub inside_is_not_blocked : (may : ℕ → Bool)
-    → IsLawfulReport (record { term = Let None Canceled Never; capacities = [] }) may (blocked_alone (event.SelfRequest ∷ [])) → ⊥
+    → IsLawfulReport (record { term = Let None Canceled Never; capacities = [] }) may (blocked_alone (event.SelfRequest ∷ []) (1 ∷ [])) → ⊥
 inside_is_not_blocked may h =
-    let k = run_told requests_and_waits requested may h in
+    let k = run_told requests_and_waits requested (1 ∷ []) may h in
     cancels_first requests_and_waits (first_counts (main_origin requests_and_waits)) (h.runs.counts 0) (h.runs.progress 0) (h.runs.labels 0) [] refl k.run
     k.trace

@@ -17,8 +17,8 @@ pub fn never_is_not_put_for_canceled()
 /// So scripts with the one have reports that those with the other have not: `(main (never))` can be blocked with
 /// nothing shown, and `(main (canceled))` cannot.
 pub fn reports_tell_never_from_canceled()
-    ensures never { (may : ℕ → Bool) → IsLawfulReport (record { term = Never; capacities = [] }) may (blocked_alone []) }
-    ensures canceled { (may : ℕ → Bool) → IsLawfulReport (record { term = Canceled; capacities = [] }) may (blocked_alone []) → ⊥ }
+    ensures never { (may : ℕ → Bool) → IsLawfulReport (record { term = Never; capacities = [] }) may (blocked_alone [] []) }
+    ensures canceled { (may : ℕ → Bool) → IsLawfulReport (record { term = Canceled; capacities = [] }) may (blocked_alone [] []) → ⊥ }
 {}
 
 /// Not `(mask p T)` for `T`, where that is `(seq (canceled) (offer q 1))`.
@@ -33,9 +33,9 @@ pub fn reports_tell_a_mask_from_its_inside()
     ensures mask { (may : ℕ → Bool) → IsLawfulReport (record {
       term = Mask 0 (Let None Canceled Never);
       capacities = [];
-    }) may (blocked_alone (event.SelfRequest ∷ [])) }
+    }) may (blocked_alone (event.SelfRequest ∷ []) (1 ∷ [])) }
     ensures inside { (may : ℕ → Bool)
-        → IsLawfulReport (record { term = Let None Canceled Never; capacities = [] }) may (blocked_alone (event.SelfRequest ∷ [])) → ⊥ }
+        → IsLawfulReport (record { term = Let None Canceled Never; capacities = [] }) may (blocked_alone (event.SelfRequest ∷ []) (1 ∷ [])) → ⊥ }
 {}
 
 /// Not `(forcer (pure 0) A)` for `A`, where that is `(oncancel (canceled) (offer q 1))`: a request can be
