@@ -16,3 +16,4 @@ pub mod RaceFacts
 pub mod RaceIdentities
 pub mod RaceSides
 pub mod CanceledFibers
+pub mod TurnsOfCede
