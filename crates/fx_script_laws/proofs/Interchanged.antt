@@ -70,7 +70,8 @@ module _ {Pair : Cover → (ℕ → Bool) → Term → Term → Type 0} {Ends : 
 
   module _ (n : ℕ) (fewer : (m : ℕ) → suc m ≤ n → FilledCome Pair Ends Holds m) where
     -- the one of a pair, and then the rest, which differs at fewer places
-    pair_runs : (c : Counts) {t u : Term} {m : ℕ} → IsAtPair Pair uncovered t u m → Holds c (Runs t) → Holds c (Runs u) → m ≤ n → (ls : List Label) (d : Counts) (r : Progress)
+    pair_runs : (c : Counts) {t u : Term} {m : ℕ} → IsAtPair Pair uncovered t u m → Holds c (Runs t) → Holds c (Runs u) → m ≤ n
+        → (ls : List Label) (d : Counts) (r : Progress)
         → Leads c (Runs t) ls d r
         → Ends d r → CanComeLike Pair Ends c (Runs u) (shown ls)
     pair_runs c {t} {u} i now now' few ls d r h e =
@@ -122,7 +123,8 @@ module _ {Pair : Cover → (ℕ → Bool) → Term → Term → Type 0} {Ends : 
     one_level : FilledCome Pair Ends Holds n
     one_level c p q h now now' few [] d r leads e = by_progress h now now' few leads
       where
-        by_progress : {p q : Progress} (h : AreFilledProgress Pair p q) → Holds c p → Holds c q → holes_in h ≤ n → Leads c p [] d r → CanComeLike Pair Ends c q []
+        by_progress : {p q : Progress} (h : AreFilledProgress Pair p q) → Holds c p → Holds c q → holes_in h ≤ n → Leads c p [] d r
+            → CanComeLike Pair Ends c q []
         by_progress (runs {t = t} {u = u} f) now now' few leads = by_split (split f)
           where
             by_split : Split f → CanComeLike Pair Ends c (Runs u) []

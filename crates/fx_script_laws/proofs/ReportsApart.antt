@@ -20,7 +20,8 @@ use Rattle.fx_model.specs.Step.{Progress, Runs, has_ended}
 use Rattle.fx_model.specs.Step as step
 use Rattle.fx_model.specs.Run.{IsRun, first_counts, events, Leads}
 use Rattle.fx_model.specs.Outside.{can_step}
-use Rattle.fx_model.specs.Report.{FiberReportView, ReportView, fiber_in, parent_in, parent_of_report, trace_in, trace_of_report, left_in, capacity_of, final_outside}
+use Rattle.fx_model.specs.Report.{FiberReportView, ReportView, fiber_in, parent_in, parent_of_report, trace_in, trace_of_report, left_in, capacity_of}
+use Rattle.fx_model.specs.Report.{final_outside}
 use Rattle.fx_model.specs.LawfulReport.{HasStarters, HasRun, HasRuns, HasHistory, IsLawfulReport, starts_of, is_parent, BeginsAs, IsLearnt, IsSeenRightly}
 use Rattle.fx_laws.proofs.Placed.{row_placed}
 use Rattle.fx_laws.proofs.Doomed.{must_forced}
@@ -140,7 +141,8 @@ cancels_or_steps t c d p (l ∷ ls) must h is =
 module _ (t : Term) (es : List Event) (ts : List ℕ) (may : ℕ → Bool) (h : IsLawfulReport (script_of t) may (blocked_alone es ts)) where
   run_told : HasRun (script_of t) (blocked_alone es ts) 0 (main t es ts) (main_origin t) (h.runs.labels 0) (h.runs.counts 0) (h.runs.progress 0)
   run_told =
-      subst (λ (b : Origin). HasRun (script_of t) (blocked_alone es ts) 0 (main t es ts) b (h.runs.labels 0) (h.runs.counts 0) (h.runs.progress 0)) h.origins.main
+      subst (λ (b : Origin). HasRun (script_of t) (blocked_alone es ts) 0 (main t es ts) b (h.runs.labels 0) (h.runs.counts 0) (h.runs.progress 0))
+      h.origins.main
       (h.runs.run 0 (main t es ts) refl)
 
 pub canceled_is_not_blocked : (may : ℕ → Bool) → IsLawfulReport (record { term = Canceled; capacities = [] }) may (blocked_alone [] []) → ⊥

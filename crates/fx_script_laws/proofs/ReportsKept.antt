@@ -160,7 +160,8 @@ module _ {Pair : Cover → (ℕ → Bool) → Term → Term → Type 0} (puts : 
           }
       by_fiber (Some x) e =
           let h = lawful.runs.run f x e in
-          let k = run_too outside f (lawful.runs.origin f) b (holds_of is_kept s may r lawful main f x e) (now x e) (begins x e) (lawful.runs.labels f) (lawful.runs.counts f)
+          let k = run_too outside f (lawful.runs.origin f) b (holds_of is_kept s may r lawful main f x e) (now x e) (begins x e)
+          (lawful.runs.labels f) (lawful.runs.counts f)
           (lawful.runs.progress f) h.run
           h.unable in
           record {
@@ -467,7 +468,8 @@ module _ {Pair : Cover → (ℕ → Bool) → Term → Term → Type 0} (puts : 
     report_kept lawful = report_here s other may r lawful terms main main'
 
     abbrev order_here : IsLawfulInOneOrder s may r → IsLawfulInOneOrder with_other may r
-    order_here h = record { lawful = report_here s other may r h.lawful terms main main'; causes = causes_here s other may r h.lawful terms main main' h.causes }
+    order_here h =
+        record { lawful = report_here s other may r h.lawful terms main main'; causes = causes_here s other may r h.lawful terms main main' h.causes }
 
     pub order_kept : IsLawfulInOneOrder s may r → IsLawfulInOneOrder with_other may r
     order_kept h = order_here h

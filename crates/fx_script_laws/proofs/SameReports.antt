@@ -67,11 +67,13 @@ module _ {Pair : Cover → (ℕ → Bool) → Term → Term → Type 0} (puts : 
       → IsLawfulReport (record { term = b; capacities = s.capacities }) may r
   kept = report_kept puts needs stops_kept is come
 
-  in_order_too : (s : ScriptView) (b : Term) (may : ℕ → Bool) (r : ReportView) → AreWithPairs s.term b → HoldsAtFirst s.term → HoldsAtFirst b → IsLawfulInOneOrder s may r
+  in_order_too : (s : ScriptView) (b : Term) (may : ℕ → Bool) (r : ReportView) → AreWithPairs s.term b → HoldsAtFirst s.term → HoldsAtFirst b
+      → IsLawfulInOneOrder s may r
       → IsLawfulInOneOrder (record { term = b; capacities = s.capacities }) may r
   in_order_too = order_kept puts needs stops_kept is come
 
-  in_list_too : (s : ScriptView) (b : Term) (may : ℕ → Bool) (r : ReportView) → AreWithPairs s.term b → HoldsAtFirst s.term → HoldsAtFirst b → IsLawfulInOneList s may r
+  in_list_too : (s : ScriptView) (b : Term) (may : ℕ → Bool) (r : ReportView) → AreWithPairs s.term b → HoldsAtFirst s.term → HoldsAtFirst b
+      → IsLawfulInOneList s may r
       → IsLawfulInOneList (record { term = b; capacities = s.capacities }) may r
   in_list_too = list_kept puts needs stops_kept is come
 

@@ -1,0 +1,2 @@
+pub mod WithoutTurns
+pub mod ToldBySchedule
