@@ -272,5 +272,6 @@ one_report_without s z ps r r' terms capacities h h' =
     one_replay (script_without_turns s) ps r r' (replay_without s ps r h)
     (subst (λ (x : ScriptView). IsReplay x ps r') same (replay_without z ps r' h'))
   where
-    by_parts : {a a' : Term} {b b' : List ℕ} → a ≡ a' → b ≡ b' → ◌≡◌ {A = ScriptView} (record { term = a; capacities = b }) (record { term = a'; capacities = b' })
+    by_parts : {a a' : Term} {b b' : List ℕ} → a ≡ a' → b ≡ b'
+        → ◌≡◌ {A = ScriptView} (record { term = a; capacities = b }) (record { term = a'; capacities = b' })
     by_parts p q = cc
