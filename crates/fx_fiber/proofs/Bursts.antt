@@ -1,6 +1,6 @@
 -- Steps of a burst one after the other, and what each of them keeps.
 use Rattle.std.proofs.Common.{◌≡◌, ◌∙◌, ℕ, zero, suc, ◌+◌, ◌<◌, Bool, true, false, ◌&&◌, ◌||◌}
-use Rattle.std.proofs.Common.{Option, Some, None, List, [], ◌∷◌, ◌++◌, refl, sym, subst, append-nil}
+use Rattle.std.proofs.Common.{Option, Some, None, List, [], ◌∷◌, ◌++◌, refl, sym, ap, subst, append-nil}
 use Rattle.std.proofs.Common.{inr, arith}
 use Rattle.std.proofs.Math.Numerals.{add-one}
 use Rattle.fx_term.specs.declared.event.Event.{Event}
@@ -17,7 +17,7 @@ use Rattle.fx_model.specs.declared.source.Source.{Source}
 use Rattle.fx_fiber.specs.StampedRun.{next_stamp, last_of}
 use Rattle.fx_fiber.specs.Theory.{Theory}
 use Rattle.fx_fiber.specs.Fiber.{FiberView, fiber_at, IsUnchanged, IsKept}
-use Rattle.fx_fiber.specs.Bursts.{IsAlone, GoesBy, GoesAlone, Bursts, HasLooked, ComesAhead, LooksNext, GlidesOnce, GlidesTo}
+use Rattle.fx_fiber.specs.Bursts.{IsAlone, GoesBy, GoesAlone, Bursts, HasLooked, ComesAhead, LooksNext, MakesNext, ShowsOnce, GlidesTo}
 use Rattle.fx_fiber.specs.MakesStep.{MakesStep}
 use Rattle.fx_fiber.specs.Telling.{TellsMade}
 use Rattle.fx_fiber.specs.Machine.{progress_of, counts_of}
@@ -25,7 +25,7 @@ use Rattle.fx_fiber.specs.Made.{IsOfBracket}
 use Rattle.fx_fiber.specs.declared.stepped.Stepped.TheVariants.{Went}
 use Rattle.fx_fiber.specs.Places.{IsSame, IsInside, is_open_machine, must_cancel_machine}
 use Rattle.fx_fiber.specs.Interruption.{Interrupts, ComesFirst}
-use Rattle.fx_fiber.specs.Makes.{MakesIfSilent, MakesShown, MakesIfShown}
+use Rattle.fx_fiber.specs.Makes.{MakesIfSilent, MakesIfShown}
 use Rattle.fx_fiber.specs.Advances.{Advances, Asks}
 use Rattle.fx_fiber.specs.declared.machine.made.Made.{Made}
 use Rattle.fx_fiber.specs.declared.machine.made.Made.TheVariants as made
@@ -33,7 +33,6 @@ use Rattle.fx_fiber.specs.declared.machine.interruption.Interruption.TheVariants
 use Rattle.fx_fiber.specs.declared.fiber.ahead.Looked.{Looked}
 use Rattle.fx_fiber.specs.declared.fiber.ahead.Looked.TheVariants.{InVain, NotYet}
 use Rattle.fx_fiber.specs.declared.fiber.ahead.Ahead.TheVariants as ahead
-use Rattle.fx_fiber.specs.declared.fiber.glide.Glided.TheVariants as glided
 use Rattle.fx_fiber.specs.declared.machine.Machine.{Machine}
 use Rattle.fx_fiber.proofs.Advances.{same_here, is_free, interrupted_advances, rule_advances}
 use Rattle.fx_fiber.proofs.Calls.{local_call}
@@ -106,6 +105,12 @@ module _ {P S : Type 0} (theory : Theory P S) where
       → HasLooked theory.calls looked m.known p sh → HasLooked theory.calls looked m'.known p sh
   still_looked InVain p sh m m' l made alone h = (step_knows made alone ∙ h.0, h.1)
   still_looked NotYet p sh m m' l made alone h = tt
+
+  -- and where the fiber has come no further
+  pub looked_here : (looked : Looked) (p : P) (sh : S) (m m' : Machine) → IsSame theory.code m m' → HasLooked theory.calls looked m.known p sh
+      → HasLooked theory.calls looked m'.known p sh
+  looked_here looked p sh m m' same h =
+      subst (λ (known : Bool). HasLooked theory.calls looked known p sh) (sym (ap (λ (c : Counts). c.known) same.counts)) h
 
   -- a step that sees a request
   seen_goes : (p : P) (sh : S) (m m' : Machine) (p' : P) (sh' : S) (t t' : List Stamped) (k k' : ℕ) (source source' : Option Source)
@@ -228,20 +233,19 @@ module _ {P S : Type 0} (theory : Theory P S) (old s : Machine) (p : P) (sh : S)
   ahead_is_free = is_free theory old s false 0 0 p p sh sh same inside (none_first 0)
 
   -- a row was made
-  pub glides : (s' : Machine) → MakesIfSilent theory.code s true s' → GlidesOnce theory old p sh glided.Went s'
+  pub glides : (s' : Machine) → MakesIfSilent theory.code s true s' → MakesNext theory old p sh s'
   glides s' is_made k =
       rule_advances theory old s false k k p p sh sh same inside made.Silent k s' p sh (none_first k)
       (local_call theory k k s p p sh sh made.Silent s' refl refl refl is_made)
 
-  -- or one of a bracket, where no silent one was
-  pub glides_shown : (between s' : Machine) (e : Event) → MakesIfSilent theory.code s false between → MakesIfShown theory.code between (Some e) s'
-      → GlidesOnce theory old p sh (glided.Showed e) s'
-  glides_shown between s' e none_is_made shown =
-      let is_shown : MakesShown theory.code s e s' = rw none_is_made at shown in (
-        λ k. rule_advances theory old s false k k p p sh sh same inside (made.Shows e) k s' p sh (none_first k)
-            (local_call theory k k s p p sh sh (made.Shows e) s' refl refl refl is_shown.0),
-        is_shown.1,
-      )
+  -- or one of a bracket, or none
+  pub glides_shown : (shown : Option Event) (s' : Machine) → MakesIfShown theory.code s shown s' → ShowsOnce theory old p sh shown s'
+  glides_shown None s' none_is_made = rw none_is_made same
+  glides_shown (Some e) s' shown = (
+    λ k. rule_advances theory old s false k k p p sh sh same inside (made.Shows e) k s' p sh (none_first k)
+        (local_call theory k k s p p sh sh (made.Shows e) s' refl refl refl shown.0),
+    shown.1,
+  )
 
 -- the look that comes next found a request, which was seen
 module _ {P S : Type 0} (theory : Theory P S) (s : Machine) (k k' : ℕ) (p p' : P) (sh sh' : S) (next : LooksNext theory.code s)

@@ -1,8 +1,9 @@
 -- Rules in one go: silent ones and those of brackets, and a request that is seen last.
-use Rattle.std.specs.Prelude.{◌≡◌, ℕ, zero, suc, ◌≤◌, ◌<◌, ◌⊎◌, Bool, true, false, ◌&&◌, ◌||◌, Option, None, List}
+use Rattle.std.specs.Prelude.{◌≡◌, ℕ, zero, suc, ◌≤◌, ◌<◌, ◌⊎◌, Bool, true, false, ◌&&◌, ◌||◌, Option, Some, None, List}
 use Rattle.std.specs.Vec.{vec_len, vec_capacity}
 use Rattle.fx_term.specs.declared.node.Node.{Node}
 use Rattle.fx_term.specs.declared.stamped.Stamped.{Stamped}
+use Rattle.fx_term.specs.declared.event.Event.{Event}
 use Rattle.fx_term.specs.declared.event.Event.TheVariants as event
 use Rattle.fx_model.specs.Row.{Label, Silent, Shows}
 use Rattle.fx_model.specs.declared.source.Source.{Source}
@@ -88,13 +89,27 @@ pub record LooksNext (nodes : List Node) (s : Machine) : Type 0 where
   pub unknown : s.known ≡ false
 
 module _ {P S : Type 0} (theory : Theory P S) where
-  -- what one turn of a burst does, whatever the clock is: a silent rule is made, or one that shows this of a bracket, or none, since a look comes first or the
-  -- burst ends
-  abbrev pub GlidesOnce : Machine → P → S → Glided → Machine → Type 0
-  GlidesOnce s p sh glided.Went s' = (k : ℕ) → Advances theory k s p sh made.Silent k s' p sh
-  GlidesOnce s p sh (glided.Showed e) s' = ((k : ℕ) → Advances theory k s p sh (made.Shows e) k s' p sh) × IsOfBracket e
-  GlidesOnce s p sh glided.Looks s' = IsSame theory.code s s' × LooksNext theory.code s'
-  GlidesOnce s p sh glided.Stops s' = IsSame theory.code s s'
+  -- a silent rule is made, whatever the clock is
+  abbrev pub MakesNext : Machine → P → S → Machine → Type 0
+  MakesNext s p sh s' = (k : ℕ) → Advances theory k s p sh made.Silent k s' p sh
+
+  -- a rule that shows this of a bracket is made, whatever the clock is, or none
+  abbrev pub ShowsOnce : Machine → P → S → Option Event → Machine → Type 0
+  ShowsOnce s p sh (Some e) s' = ((k : ℕ) → Advances theory k s p sh (made.Shows e) k s' p sh) × IsOfBracket e
+  ShowsOnce s p sh None s' = IsSame theory.code s s'
+
+  -- what one turn of a burst does that has so many steps left: a silent rule is made, or two, or none, since a result comes first that is not one of a silent
+  -- rule, or a look, or the burst ends
+  abbrev pub GlidesOnce : ℕ → Machine → P → S → Glided → Machine → Type 0
+  GlidesOnce left s p sh glided.Went s' = MakesNext s p sh s'
+  GlidesOnce left s p sh glided.WentTwice s' = (1 < left) × (between : Machine) × MakesNext s p sh between × MakesNext between p sh s'
+  GlidesOnce left s p sh glided.Returns s' = IsSame theory.code s s'
+  GlidesOnce left s p sh glided.Looks s' = IsSame theory.code s s' × LooksNext theory.code s'
+  GlidesOnce left s p sh glided.Stops s' = IsSame theory.code s s'
+
+  -- memory is refused in such a turn: before its rule, or after it where a second one is left
+  abbrev pub GlidesShort : ℕ → Machine → P → S → Machine → Type 0
+  GlidesShort left s p sh s' = IsSame theory.code s s' ⊎ ((1 < left) × (between : Machine) × MakesNext s p sh between × IsSame theory.code between s')
 
 -- where a fiber stood as its burst began, with its port and what is shared, which stay so until a request is seen
 pub record Outset (P S : Type 0) : Type 0 where

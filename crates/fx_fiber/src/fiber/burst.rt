@@ -4,9 +4,8 @@ ghost use Rattle.fx_fiber.specs.Fiber.{IsKept, fiber_at};
 ghost use Rattle.fx_fiber.specs.Bursts.{Outset, outset_at, Bursts, BurstsShort};
 
 use crate::fiber::advance::interruption;
-use crate::fiber::ahead::Looked;
 use crate::fiber::body::Body;
-use crate::fiber::rules::{Reached, rules, rules_before_look};
+use crate::fiber::rules::{Reached, rules_after_look, rules_before_look};
 use crate::fiber::trace_room::have_room;
 use crate::machine::interruption::Interruption;
 use crate::port::Port;
@@ -48,7 +47,7 @@ pub(crate) fn burst<P: Port>(
         Reached::Looks(made) => made,
     };
     match interruption(port, &body.machine, shared, &mut body.clock, false) {
-        None => match rules::<P>(body, code, made, most, Looked::InVain)? {
+        None => match rules_after_look::<P>(body, code, made, most)? {
             Reached::Looks(made) | Reached::Stops(made) => Ok(made),
         },
         Some(Interruption::Cancellation) => Ok(made),

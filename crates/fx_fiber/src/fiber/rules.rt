@@ -5,7 +5,7 @@ ghost use Rattle.fx_fiber.specs.Bursts.{Outset, HasLooked, LeadsTo, Reaches, Rea
 
 use crate::fiber::ahead::{Ahead, Looked, look_ahead};
 use crate::fiber::body::Body;
-use crate::fiber::glide::{Glided, glide};
+use crate::fiber::glide::{Glided, bracket_rule, glide};
 use crate::fiber::trace_room::have_room;
 use crate::port::Port;
 use fx_term::{Code, Memory};
@@ -21,8 +21,10 @@ pub(crate) enum Reached {
 
 /// Makes silent rules and those of brackets, from so many steps of a burst to at most so many, until a look
 /// comes first. It asks the port nothing, so its loop is the same one over ports of all kinds, and no call
-/// in it can wait: with calls that can, LLVM joins fewer jumps.
-pub(crate) fn rules<P: Port>(
+/// in it can wait: with calls that can, LLVM joins fewer jumps. It is laid in where it is known whether a look
+/// serves, so that no rule asks that again.
+#[inline(always)]
+fn rules<P: Port>(
     body: &mut Body,
     code: &Code,
     from: u32,
@@ -42,20 +44,67 @@ pub(crate) fn rules<P: Port>(
     ensures id { body.new.id ≡ body.old.id }
     ensures source { body.new.source ≡ body.old.source }
 {
-    for made in from..most {
-        match glide::<P>(&mut body.machine, code, looked)? {
-            Glided::Went => {}
-            Glided::Showed(event) => {
-                body.show(event);
-                if made + 1 < most {
-                    have_room(&mut body.trace)?;
+    let mut made = from;
+    while made < most {
+        match glide::<P>(&mut body.machine, code, looked, most - made)? {
+            Glided::Went => made += 1,
+            Glided::WentTwice => made += 2,
+            Glided::Returns => match bracket_rule::<P>(&mut body.machine, code, looked)? {
+                Some(event) => {
+                    body.show(event);
+                    made += 1;
+                    if made < most {
+                        have_room(&mut body.trace)?;
+                    }
                 }
-            }
+                None => return Ok(Reached::Stops(made)),
+            },
             Glided::Looks => return Ok(Reached::Looks(made)),
             Glided::Stops => return Ok(Reached::Stops(made)),
         }
     }
-    Ok(Reached::Stops(most))
+    Ok(Reached::Stops(made))
+}
+
+/// The rules after a look in vain.
+#[inline(never)]
+pub(crate) fn rules_after_look<P: Port>(
+    body: &mut Body,
+    code: &Code,
+    from: u32,
+    most: u32,
+) -> Result<Reached, Memory>
+    ghost outset: { Outset P P.Shared }
+    requires code { code.now.nodes ≡ P.theory.code }
+    requires few { from ≤ most }
+    requires to { LeadsTo P.theory outset from
+        body.old.machine body.old.trace.items body.old.clock }
+    requires room { from < most → vec_len body.old.trace < vec_capacity body.old.trace }
+    requires looked { HasLooked P.theory.calls Looked.InVain body.old.machine.known outset.port outset.shared }
+    ensures ok { IfOk result (λ reached. Reaches P.theory outset most
+        reached body.new) }
+    ensures err { OnErr result (ReachesShort P.theory outset most body.new) }
+    ensures id { body.new.id ≡ body.old.id }
+    ensures source { body.new.source ≡ body.old.source }
+{
+    rules::<P>(body, code, from, most, Looked::InVain)
+}
+
+/// The rules from a closed place on.
+#[inline(never)]
+fn closed_rules<P: Port>(body: &mut Body, code: &Code, most: u32) -> Result<Reached, Memory>
+    ghost outset: { Outset P P.Shared }
+    requires code { code.now.nodes ≡ P.theory.code }
+    requires to { LeadsTo P.theory outset 0
+        body.old.machine body.old.trace.items body.old.clock }
+    requires room { vec_len body.old.trace < vec_capacity body.old.trace }
+    ensures ok { IfOk result (λ reached. Reaches P.theory outset most
+        reached body.new) }
+    ensures err { OnErr result (ReachesShort P.theory outset most body.new) }
+    ensures id { body.new.id ≡ body.old.id }
+    ensures source { body.new.source ≡ body.old.source }
+{
+    rules::<P>(body, code, 0, most, Looked::NotYet)
 }
 
 /// Makes the rules of a burst before its first look. Most begin where that look comes first, and are spared
@@ -81,7 +130,7 @@ pub(crate) fn rules_before_look<P: Port>(
         return Ok(Reached::Stops(0));
     }
     match look_ahead::<P>(&body.machine, Looked::NotYet) {
-        Ahead::Rule => rules::<P>(body, code, 0, most, Looked::NotYet),
+        Ahead::Rule => closed_rules::<P>(body, code, most),
         Ahead::Look => Ok(Reached::Looks(0)),
         Ahead::Cancellation => Ok(Reached::Stops(0)),
     }

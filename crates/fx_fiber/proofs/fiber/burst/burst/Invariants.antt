@@ -1,7 +1,7 @@
 use Rattle.fx_fiber.proofs.fiber.burst.burst.Given as goal
 
-abbrev pub ghost-rules : goal.ghost-rules
-ghost-rules g a = g.outset
+abbrev pub ghost-rules_after_look : goal.ghost-rules_after_look
+ghost-rules_after_look g a = g.outset
 
 abbrev pub ghost-rules_before_look : goal.ghost-rules_before_look
 ghost-rules_before_look g a = g.outset

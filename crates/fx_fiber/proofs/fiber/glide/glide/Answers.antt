@@ -1,8 +1,10 @@
-use Rattle.std.proofs.Common.{◌≡◌, ap}
-use Rattle.fx_model.specs.Row.{Counts}
+use Rattle.std.proofs.Common.{◌≡◌, ap, inr}
+use Rattle.fx_model.specs.Row.{Counts, Silent}
+use Rattle.fx_fiber.specs.Makes.{MakesSilently}
 use Rattle.fx_fiber.proofs.Advances.{inside_leaf, inside_result, inside_loop, same_here}
-use Rattle.fx_fiber.proofs.Bursts.{ahead_is_free, glides, glides_shown}
+use Rattle.fx_fiber.proofs.Bursts.{ahead_is_free, glides, still_looked}
 use Rattle.fx_fiber.proofs.Nodes.{loop_number}
+use Rattle.fx_fiber.proofs.Results.{on_any_error}
 use Rattle.fx_fiber.proofs.fiber.glide.glide.Goals as goal
 
 pub silent_leaf-requires : goal.silent_leaf-requires
@@ -34,21 +36,43 @@ returns-in-Look-clause-ok g c =
     let next = rw c.in-Look.is at c.look_ahead.ensures in
     (here.ensures.same, record { inside = rw c.if-is_canceled.false at inside; opened = next.0; unknown = next.1 })
 
+pub turns_on-requires : goal.turns_on-requires
+turns_on-requires g c κs outlive =
+    let made : MakesSilently g.P.Port.theory.code c.args.machine.now c.silent_result.new.self =
+    rw c.if-not-branch.false at c.in_ok-silent_result-in-Rule-look_ahead.ensures.ok in
+    let looked =
+    still_looked g.P.Port.theory c.args.looked _ _ c.args.machine.now c.silent_result.new.self Silent made.rule.1 tt c.requires.1.1.1.1.1 in
+    (outlive.0, (outlive.1, (c.requires.1.1.0, (made.sound, looked))))
+
+pub returns-in_err-turns_on-in-Rule-look_ahead-clause-err : goal.returns-in_err-turns_on-in-Rule-look_ahead-clause-err
+returns-in_err-turns_on-in-Rule-look_ahead-clause-err g c =
+    let s = c.args.machine.now in
+    let first = glides g.P.Port.theory s s _ _ (same_here g.P.Port.theory.code s c.requires.1.1.1.0)
+    (inside_result g.P.Port.theory.code s c.in-Return.done c.requires.1.1.1.0 c.in-Return.is)
+    (rw c.in-Rule-look_ahead.is at c.look_ahead-in-Return.ensures) c.silent_result.new.self
+    (rw c.if-not-branch.false at c.in_ok-silent_result-in-Rule-look_ahead.ensures.ok) in
+    let refused = c.in_err-turns_on-in-Rule-look_ahead.ensures.err in
+    on_any_error c.from_residual-in_err-turns_on-in-Rule-look_ahead.result (inr (refused.0, c.silent_result.new.self, first, refused.1))
+
 pub returns-then-branch-2-clause-ok : goal.returns-then-branch-2-clause-ok
 returns-then-branch-2-clause-ok g c =
     let s = c.args.machine.now in
-    glides g.P.Port.theory s s _ _ (same_here g.P.Port.theory.code s c.requires.1.1.1.0)
+    let first = glides g.P.Port.theory s s _ _ (same_here g.P.Port.theory.code s c.requires.1.1.1.0)
     (inside_result g.P.Port.theory.code s c.in-Return.done c.requires.1.1.1.0 c.in-Return.is)
     (rw c.in-Rule-look_ahead.is at c.look_ahead-in-Return.ensures) c.silent_result.new.self
-    (rw c.if-branch-2.true at c.in_ok-silent_result-in-Rule-look_ahead.ensures.ok)
+    (rw c.if-not-branch.false at c.in_ok-silent_result-in-Rule-look_ahead.ensures.ok) in
+    let second = rw c.if-branch-2.true at c.in_ok-turns_on-in-Rule-look_ahead.ensures.ok in
+    (second.0, c.silent_result.new.self, first, second.1)
 
-pub returns-in-Some-clause-ok : goal.returns-in-Some-clause-ok
-returns-in-Some-clause-ok g c =
+pub returns-else-branch-2-clause-ok : goal.returns-else-branch-2-clause-ok
+returns-else-branch-2-clause-ok g c =
     let s = c.args.machine.now in
-    glides_shown g.P.Port.theory s s _ _ (same_here g.P.Port.theory.code s c.requires.1.1.1.0)
+    let same = rw c.if-branch-2.false at c.in_ok-turns_on-in-Rule-look_ahead.ensures.ok in
+    rw same
+    (glides g.P.Port.theory s s _ _ (same_here g.P.Port.theory.code s c.requires.1.1.1.0)
     (inside_result g.P.Port.theory.code s c.in-Return.done c.requires.1.1.1.0 c.in-Return.is)
-    (rw c.in-Rule-look_ahead.is at c.look_ahead-in-Return.ensures) c.silent_result.new.self c.bracket_result.new.self c.in-Some.event
-    (rw c.if-branch-2.false at c.in_ok-silent_result-in-Rule-look_ahead.ensures.ok) (rw c.in-Some.is at c.in_ok-event-in-Rule-look_ahead.ensures.ok)
+    (rw c.in-Rule-look_ahead.is at c.look_ahead-in-Return.ensures) c.silent_result.new.self
+    (rw c.if-not-branch.false at c.in_ok-silent_result-in-Rule-look_ahead.ensures.ok))
 
 pub node-requires : goal.node-requires
 node-requires g c = rw c.requires.1.1.0 (loop_number g.P.Port.theory.code _ c.in-Turn.id (rw c.in-Turn.is at c.requires.1.1.1.0.focus_in))

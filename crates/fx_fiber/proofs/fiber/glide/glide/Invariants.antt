@@ -12,8 +12,8 @@ ghost-silent_leaf g a = g.P.Port.theory.code
 abbrev pub ghost-silent_result : goal.ghost-silent_result
 ghost-silent_result g a = g.P.Port.theory.code
 
-abbrev pub ghost-bracket_result : goal.ghost-bracket_result
-ghost-bracket_result g a = g.P.Port.theory.code
+abbrev pub ghost-turns_on : goal.ghost-turns_on
+ghost-turns_on g a = g.outset
 
 abbrev pub ghost-turn_rule : goal.ghost-turn_rule
 ghost-turn_rule g a = g.P.Port.theory.code
