@@ -119,13 +119,12 @@ impl<'a, R: Wait, N: RunBrand> Port for ThreadPort<'a, R, N> {
         match self.words.look(&mut self.seat) {
             Some(stamp) => {
                 let fiber = self.seat.id();
-                let waited = self.own.waited.take();
                 leave(
                     self.rt,
                     self.queues,
                     self.sources,
                     fiber,
-                    waited,
+                    &mut self.own.waited,
                     None,
                     notes,
                 );
@@ -149,13 +148,12 @@ impl<'a, R: Wait, N: RunBrand> Port for ThreadPort<'a, R, N> {
         match self.words.peek(&mut self.seat, id) {
             Some(end) => {
                 let fiber = self.seat.id();
-                let waited = self.own.waited.take();
                 leave(
                     self.rt,
                     self.queues,
                     self.sources,
                     fiber,
-                    waited,
+                    &mut self.own.waited,
                     None,
                     notes,
                 );
@@ -179,9 +177,16 @@ impl<'a, R: Wait, N: RunBrand> Port for ThreadPort<'a, R, N> {
             .offer(rt, queues, queue, fiber, value, stamp)
         {
             Offered::Done => {
-                let waited = self.own.waited.take();
                 let met = Some(Source::Room(queue));
-                leave(rt, queues, self.sources, fiber, waited, met, notes);
+                leave(
+                    rt,
+                    queues,
+                    self.sources,
+                    fiber,
+                    &mut self.own.waited,
+                    met,
+                    notes,
+                );
                 wake_at(rt, queues, queue, Side::Element, notes);
                 Ok(Offered::Done)
             }
@@ -193,9 +198,16 @@ impl<'a, R: Wait, N: RunBrand> Port for ThreadPort<'a, R, N> {
         let (rt, queues, fiber) = (self.rt, self.queues, self.seat.id());
         match self.own.passes.take(rt, queues, queue) {
             Some(element) => {
-                let waited = self.own.waited.take();
                 let met = Some(Source::Element(queue));
-                leave(rt, queues, self.sources, fiber, waited, met, notes);
+                leave(
+                    rt,
+                    queues,
+                    self.sources,
+                    fiber,
+                    &mut self.own.waited,
+                    met,
+                    notes,
+                );
                 wake_at(rt, queues, queue, Side::Room, notes);
                 Some(element)
             }

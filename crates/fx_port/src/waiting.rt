@@ -38,22 +38,23 @@ pub(crate) fn wait<R: Wait>(
 
 /// Takes a fiber off where it waited, if it did, once it goes on, with `met` where that is of a queue.
 /// Where it had been taken off already, by a put or get that it does not use, the next waiter is woken.
-/// Mostly it did not wait, and then no call is made.
+/// Mostly it did not wait, and then nothing is written and no call is made.
 #[inline(always)]
 pub(crate) fn leave<R: Wait, N: RunBrand>(
     rt: &R,
     queues: &[FiberQueue],
     sources: &Sources,
     fiber: u32,
-    waited: Option<Source>,
+    waited: &mut Option<Source>,
     met: Option<Source>,
     notes: &mut Notes<N>,
 )
     requires { (q : ℕ) (i : QueueId) → slice_get queues.now q ≡ Some i → fiber < i.fibers }
     ensures { KeepsMarks notes.old notes.new }
 {
-    if let Some(waited) = waited {
-        leave_source(rt, queues, sources, fiber, waited, met, notes);
+    if let Some(source) = *waited {
+        *waited = None;
+        leave_source(rt, queues, sources, fiber, source, met, notes);
     }
 }
 
