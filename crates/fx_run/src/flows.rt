@@ -3,7 +3,7 @@ ghost use Rattle.std.specs.Prelude.{◌≡◌, length, IfOk};
 ghost use Rattle.fx_term.specs.Stamped.{events_in};
 ghost use Rattle.fx_run.specs.Flows.{no_flows, with_one, with_move, with_moves, rest_in, rests_in};
 
-use crate::whole_report::saturating_u32;
+use crate::queue_lengths::saturating_u32;
 use fx_term::{Event, Memory, Stamped};
 use std::alloc::Global;
 use std::marker::Model;

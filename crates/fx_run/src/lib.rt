@@ -59,6 +59,7 @@ mod gathered;
 pub mod laws;
 mod ledger;
 mod lost;
+mod queue_lengths;
 mod rounds;
 mod run_fault;
 mod sweep;

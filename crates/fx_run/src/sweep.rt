@@ -5,8 +5,8 @@ ghost use Rattle.fx_text.specs.View.{meaning};
 ghost use Rattle.fx_report.specs.Script.{script_of};
 ghost use Rattle.fx_run.specs.Sweep.{lists_of, closed_of, can_go, can_go_by, is_unable, is_unable_by};
 
+use crate::queue_lengths::capacities;
 use crate::tally::Tally;
-use crate::whole_report::capacities;
 use fx_fiber::{Closed, Fiber, Port};
 use fx_port::{RunBrand, ThreadPort};
 use fx_term::{Code, Memory};

@@ -17,9 +17,9 @@ ghost use Rattle.fx_run.specs.declared.run_fault.RunFault.TheVariants.{Workers};
 
 use crate::closing::close_run;
 use crate::gathered::{Gathered, gather_all};
+use crate::queue_lengths::capacities;
 use crate::rounds::run_rounds;
 use crate::run_fault::RunFault;
-use crate::whole_report::capacities;
 use fx_fiber::{Fiber, Report};
 use fx_port::{Notes, Passes, RunBrand, Sources, ThreadPort, open_queues};
 use fx_queue::FiberQueue;
