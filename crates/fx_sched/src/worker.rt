@@ -1,7 +1,7 @@
 //! The loop of a worker.
 ghost use Rattle.std.specs.Prelude.{◌≡◌, ◌≤◌, ℕ, true};
 
-use crate::deques::{Hand, Work};
+use crate::deques::{Hand, Shown, Work};
 use crate::gate::Gate;
 use crate::lot::Lot;
 use crate::turns::{gated_turn, leave, solo};
@@ -45,13 +45,13 @@ pub fn work<R: Wait + RandomSource + AllocGlobal, P: Port, G: Gate>(
     };
     let mut cx = solo.begin();
     all.resumes();
-    let end = rounds(rt, &mut cx, worker, hand, all, lot, code, shared, gate);
+    let end = serve(rt, &mut cx, worker, hand, all, lot, code, shared, gate);
     leave(cx);
     end
 }
 
 /// Takes a fiber, lets it have its turns, and lays it down, again and again.
-fn rounds<R: Wait, P: Port, G: Gate>(
+fn serve<R: Wait, P: Port, G: Gate>(
     rt: &R,
     cx: &mut Context<'_>,
     worker: u32,
@@ -79,7 +79,7 @@ fn rounds<R: Wait, P: Port, G: Gate>(
                 return WorkerEnd::Memory(Some(fiber), Some(woken));
             }
         };
-        if let Err(end) = placed(rt, hand, lot, fiber, answer) {
+        if let Err(end) = placed(rt, hand, all, lot, fiber, answer) {
             all.goes_idle();
             return end;
         }
@@ -112,14 +112,29 @@ fn turns<R: Wait, P: Port, G: Gate>(
     requires gate { (id : ℕ) → G.may gate.now id ≡ true → P.theory.may id ≡ true }
 {
     for _ in rt.forever() {
+        let before = fiber.trace().len();
         match gated_turn(cx, gate, worker, fiber, code, shared) {
-            Poll::Pending if fiber.source().is_none() && hand.is_empty() => {}
+            Poll::Pending if fiber.source().is_none() => {
+                hand.goes_on(all, shown_since(before, fiber));
+                if !hand.is_empty() {
+                    return Ok(Poll::Pending);
+                }
+            }
             answer => return Ok(answer),
         }
         wakes(rt, gate, hand, lot, shared)?;
-        hand.share_rest(all);
+        hand.share(all);
     }
     unreachable!()
+}
+
+/// What a fiber has shown since it had so many events.
+fn shown_since<P: Port>(events: usize, fiber: &Fiber<P>) -> Shown {
+    if fiber.trace().len() > events {
+        Shown::Events
+    } else {
+        Shown::Nothing
+    }
 }
 
 /// Lays a fiber where it belongs after its turn, and a child that it started into the deque before it. What
@@ -127,6 +142,7 @@ fn turns<R: Wait, P: Port, G: Gate>(
 fn placed<R: Wait, P: Port>(
     rt: &R,
     hand: &mut Hand<P>,
+    all: &Work<P>,
     lot: &Lot<P>,
     fiber: Fiber<P>,
     answer: Poll<Turned<P>>,
@@ -136,6 +152,7 @@ fn placed<R: Wait, P: Port>(
     let fiber = match answer {
         Poll::Ready(Turned::Memory) => return Err(WorkerEnd::Memory(Some(fiber), None)),
         Poll::Ready(Turned::Ended) => {
+            hand.pauses(all);
             let Some(fiber) = lot.settle(rt, fiber) else {
                 return Ok(());
             };
@@ -151,6 +168,7 @@ fn placed<R: Wait, P: Port>(
             if fiber.source().is_none() {
                 fiber
             } else {
+                hand.pauses(all);
                 let Some(fiber) = lot.park(rt, fiber) else {
                     return Ok(());
                 };

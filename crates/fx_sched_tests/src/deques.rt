@@ -3,9 +3,9 @@ use fx_sched::{Owner, Tasks};
 use std::sync::Wait;
 use std::test::Fail;
 
-/// Puts 1 and 2 into the deque of one hand and 3 into that of another: whether there was room.
-fn are_put(hand: &mut Owner<u32>, other: &mut Owner<u32>) -> bool {
-    hand.push(1).is_ok() && hand.push(2).is_ok() && other.push(3).is_ok()
+/// Puts these into the deque of one hand and 9 into that of another: whether there was room.
+fn are_put(hand: &mut Owner<u32>, other: &mut Owner<u32>, tasks: &[u32]) -> bool {
+    tasks.iter().all(|task| hand.push(*task).is_ok()) && other.push(9).is_ok()
 }
 
 /// What that hand takes then, and what the other takes after it.
@@ -23,16 +23,23 @@ fn taken<R: Wait>(
     ]
 }
 
+/// What is in the deque of one hand, and what is taken then: first by it, and then by the other, which has 9.
+static ROWS: [(&[u32], [Option<u32>; 4]); 2] = [
+    // (up to half of more than three are for others)
+    (&[1, 2, 3, 4, 5], [Some(1), Some(9), Some(2), Some(3)]),
+    // (three are left to their worker)
+    (&[1, 2, 3, 4], [Some(1), Some(9), None, None]),
+];
+
 #[test]
-fn its_own_come_first_and_then_those_of_others(rt: HostRuntime) -> Result<(), Fail> {
-    let (work, mut hands) = Tasks::new(rt.alloc(), 2)?;
-    let [hand, other] = hands.as_mut_slice() else {
-        panic!(rt; "two workers have two hands")
-    };
-    assert!(rt; are_put(hand, other));
-    assert_eq!(rt;
-        taken(&rt, &work, hand, other),
-        [Some(1), Some(3), Some(2), None]
-    );
+fn its_own_come_first_and_then_those_that_others_can_spare(rt: HostRuntime) -> Result<(), Fail> {
+    for (tasks, wanted) in &ROWS {
+        let (work, mut hands) = Tasks::new(rt.alloc(), 2)?;
+        let [hand, other] = hands.as_mut_slice() else {
+            panic!(rt; "two workers have two hands")
+        };
+        assert!(rt; are_put(hand, other, tasks));
+        assert_eq!(rt; taken(&rt, &work, hand, other), *wanted);
+    }
     Ok(())
 }
