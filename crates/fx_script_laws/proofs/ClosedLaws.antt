@@ -129,7 +129,7 @@ pub error_first : (x : Option ℕ) (n : ℕ) (b : Term)
 error_first x n b = steps_first (and_named x none_bound) (Handle (Raise (Number n)) x b) (put_named x n b) (handled x n b (own_name x))
 
 -- a finalizer in a mask, and one round it
-mask_leads : (fs : List Context) (p : ℕ) (t : Term)
+pub mask_leads : (fs : List Context) (p : ℕ) (t : Term)
     → LeadsBy (λ c. Silent) one_more_mask (placed fs (Mask p t)) (λ c. placed fs (Masked c.masks (put p c.masks t)))
 mask_leads fs p t =
     record {

@@ -37,7 +37,7 @@ pub spot_by : {t u : Term} → ((outer : List Closing) → closed_regions outer 
     → cleanup_terms t ≡ cleanup_terms u → ((o : Outside) → leaf_can_step o (leaf t) ≡ leaf_can_step o (leaf u)) → IsSameSpot t u
 spot_by closed canceled clean waits = record { place = record { closed = closed; leaf_is = canceled; clean = clean }; waits = waits }
 
-leads_by : {t u : Term} → LeadsSilently t u → LeadsBy (λ c. Silent) (λ c. c) t (λ c. u)
+pub leads_by : {t u : Term} → LeadsSilently t u → LeadsBy (λ c. Silent) (λ c. c) t (λ c. u)
 leads_by s = record { there = s.there; only = s.only; going = s.going }
 
 module _ {Spot : Term → Term → Type 0} where

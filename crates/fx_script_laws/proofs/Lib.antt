@@ -40,4 +40,5 @@ pub mod ShutInside
 pub mod MasksEntered
 pub mod NestedMasks
 pub mod MaskedFinalizers
+pub mod PolledAtOnce
 pub mod InverseMasks

@@ -135,10 +135,10 @@ polls_put p x n t u free (polls a h) = rw (other_arg p x n free) (polls (put x n
 polls_need : (p : ℕ) (t u : Term) → PollsAtOnce p t u → need t ≡ need u
 polls_need p t u (polls a h) = refl
 
-polled_inside : {m : Shift} {i j k l : ℕ} {x y : Term} → IsRenumbered m (Mask i (Poll (Slot j) x)) (Mask k (Poll (Slot l) y)) → IsRenumbered m x y
+pub polled_inside : {m : Shift} {i j k l : ℕ} {x y : Term} → IsRenumbered m (Mask i (Poll (Slot j) x)) (Mask k (Poll (Slot l) y)) → IsRenumbered m x y
 polled_inside (renumbered.mask u (renumbered.poll v g)) = g
 
-number_put : (p r : ℕ) (a : Term) → IsUsedAs kind.OtherPoll p a → put p r (Poll (Slot p) a) ≡ Poll (Number r) a
+pub number_put : (p r : ℕ) (a : Term) → IsUsedAs kind.OtherPoll p a → put p r (Poll (Slot p) a) ≡ Poll (Number r) a
 number_put p r a h = rw (eq-eqb p p refl, put_unused p r a h) refl
 
 polls_come : (p : ℕ) (Ends : Counts → Progress → Type 0) → AreEndsOfStops Ends → (s : Cover) (place : Place) → is_closed s ≡ true → IsCoveredBy s place

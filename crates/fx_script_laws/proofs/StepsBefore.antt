@@ -88,7 +88,7 @@ cleans_none (Take q) h = refl
 cleans_none (TryTake q x a b) h = refl
 cleans_none _ h = absurd h
 
-begins_put : (y m : ℕ) (a : Term) → BeginsOpenly a → BeginsOpenly (put y m a)
+pub begins_put : (y m : ℕ) (a : Term) → BeginsOpenly a → BeginsOpenly (put y m a)
 begins_put y m (Let x a b) h = begins_put y m a h
 begins_put y m (Handle a x b) h = begins_put y m a h
 begins_put y m (Pure v) h = tt
@@ -114,7 +114,7 @@ begins_put_named None n a h = h
 begins_put_named (Some x) n a h = begins_put x n a h
 
 -- so a step before it, with nothing round its leaf either, stands at the same place
-same_as : (t a : Term) → ((outer : List Closing) → closed_regions outer t ≡ outer) → is_canceled_form (leaf t) ≡ false → cleanup_terms t ≡ []
+pub same_as : (t a : Term) → ((outer : List Closing) → closed_regions outer t ≡ outer) → is_canceled_form (leaf t) ≡ false → cleanup_terms t ≡ []
     → BeginsOpenly a → IsSamePlace t a
 same_as t a closed canceled clean h =
     record {

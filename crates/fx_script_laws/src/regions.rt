@@ -10,6 +10,7 @@ ghost use Rattle.fx_term.specs.Need.{need};
 ghost use Rattle.fx_term.specs.Scope.{with_name, IsScoped};
 ghost use Rattle.fx_model.specs.MaskLaws.{IsScopedWithout};
 ghost use Rattle.fx_model.specs.Report.{ReportView};
+ghost use Rattle.fx_script_laws.specs.BeginsOpenly.{BeginsOpenly};
 ghost use Rattle.fx_script_laws.specs.Cover.{is_any, is_closed, is_sealed};
 ghost use Rattle.fx_script_laws.specs.Filled.{none_bound, and_bound};
 ghost use Rattle.fx_script_laws.specs.InScripts.{IsScriptTerm, HaveSameReports, AreAlikeInScripts};
@@ -19,6 +20,13 @@ ghost use Rattle.fx_script_laws.specs.InScripts.{IsScriptTerm, HaveSameReports, 
 pub fn uncancelable_poll_is_identity_where_closed()
     ensures { (scope : ℕ → Option NameKind) (p : ℕ) (a : Term) → IsScoped (with_name p kind.OtherPoll scope) a
         → AreAlikeInScripts is_closed (and_bound p none_bound) (Mask p (Poll (Slot p) a)) a }
+{}
+
+/// And `(mask p (poll p A))` for `A` at each place, where `A` begins openly too, so that a request which could be seen
+/// before the mask can be seen where `A` begins.
+pub fn uncancelable_poll_is_identity_in_scripts()
+    ensures { (scope : ℕ → Option NameKind) (p : ℕ) (a : Term) → IsScoped (with_name p kind.OtherPoll scope) a → BeginsOpenly a
+        → AreAlikeInScripts is_any (and_bound p none_bound) (Mask p (Poll (Slot p) a)) a }
 {}
 
 /// `(mask p A)` for `A` at sealed places, where `A` does not use `p`: no poll of `A` opens such a place, with the
