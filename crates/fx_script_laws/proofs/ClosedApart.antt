@@ -147,7 +147,7 @@ module _ (own : ℕ → Bool) where
   module _ (there : Cover → Bool) (seals : there Sealed ≡ true) where
     -- a fiber that cancels itself at a sealed place goes on
     pub canceled_of_sealed : AreInterchangeableWhere there own (Let None Canceled puts) Canceled → ⊥
-    canceled_of_sealed same = cleanup_goes_on (same.shows [] tt Sealed (InCleanup None [] []) seals tt)
+    canceled_of_sealed same = cleanup_goes_on (same.shows [] tt Sealed (InCleanup None [] []) seals refl)
 
     -- and one that waits for good does not
     pub never_of_sealed : AreInterchangeableWhere there own Never Canceled → ⊥
@@ -162,5 +162,5 @@ module _ (own : ℕ → Bool) where
           run = requests;
           shown_is = refl;
         } in
-        let left = (same.shows [] tt Sealed (InCleanup None [] []) seals tt c (Shows event.SelfRequest ∷ [])).1 right in
+        let left = (same.shows [] tt Sealed (InCleanup None [] []) seals refl c (Shows event.SelfRequest ∷ [])).1 right in
         shows_nothing left.labels left.counts left.progress left.run left.shown_is

@@ -25,7 +25,7 @@ use Rattle.fx_laws.proofs.SilentRows.{LeadsSilently, leads_placed}
 use Rattle.fx_laws.proofs.OnlyRows.{mask_row_placed}
 use Rattle.fx_laws.proofs.MonadLaws.{cede_leads}
 use Rattle.fx_laws.proofs.SteppedAlike.{LeadsBy}
-use Rattle.fx_script_laws.specs.Cover.{Cover, Sealed, Masks, is_closed, is_sealed, has_seal, AreClosedBy, IsCoveredBy}
+use Rattle.fx_script_laws.specs.Cover.{Cover, Bare, Sealed, Masks, is_closed, is_sealed, has_seal, AreClosedBy, IsCoveredBy}
 use Rattle.fx_script_laws.specs.Filled.{none_bound, and_named}
 use Rattle.fx_script_laws.specs.Interchange.{ComeToTheSameAt, AreInterchangeableWhere}
 use Rattle.fx_script_laws.proofs.Covers.{covered_in, some_closed}
@@ -208,7 +208,7 @@ stays_sealed (InUseIn k r) cs h = h
 stays_sealed (InUseCaseIn k y b z e d) cs h = h
 stays_sealed (InReleaseIn k v) cs h = refl
 
-sealed_along : (fs : List Context) (cs : List Closing) → has_seal cs ≡ true → has_seal (closed_along cs fs) ≡ true
+pub sealed_along : (fs : List Context) (cs : List Closing) → has_seal cs ≡ true → has_seal (closed_along cs fs) ≡ true
 sealed_along [] cs h = h
 sealed_along (f ∷ fs) cs h = sealed_along fs (closed_under cs f) (stays_sealed f cs h)
 
@@ -242,6 +242,7 @@ finalizer_need t u (a_finalizer a f h) = omega (arith, h)
 
 finalizer_each : (s : Cover) (cs : List Closing) → is_sealed s ≡ true → AreClosedBy s cs → (t u : Term) → HasFinalizer t u
     → FollowEachOther (IsSameSpotIn cs) t u
+finalizer_each Bare cs is at t u p = absurd cc
 finalizer_each Sealed cs is at t u (a_finalizer a f h) = no_finalizer cs at f a
 finalizer_each (Masks n) cs is at t u p = absurd cc
 

@@ -4,7 +4,7 @@ use Rattle.std.specs.Prelude.{length}
 use Rattle.fx_mask.specs.Closing.{Closing, Region, Seal, without_region, is_none_closed}
 use Rattle.fx_model.specs.Path.{Context, LetIn, HandleIn, OnCancelIn, AcquireIn, AcquireCaseIn, MaskedIn, OpenedIn, InUseIn, InUseCaseIn, InReleaseIn}
 use Rattle.fx_model.specs.Path.{closed_under}
-use Rattle.fx_script_laws.specs.Cover.{Cover, Sealed, Masks, in_mask, in_poll, is_closed, has_seal, AreClosedBy}
+use Rattle.fx_script_laws.specs.Cover.{Cover, Bare, Sealed, Masks, in_mask, in_poll, is_closed, has_seal, AreClosedBy}
 
 -- of the part of a context that runs
 abbrev pub cover_in : Context → Cover → Cover
@@ -16,6 +16,7 @@ cover_in (InReleaseIn k v) s = Sealed
 cover_in _ s = s
 
 masked_in : (s : Cover) (r : ℕ) (cs : List Closing) → AreClosedBy s cs → AreClosedBy (in_mask s) (Region r ∷ cs)
+masked_in Bare r cs h = omega arith
 masked_in Sealed r cs h = h
 masked_in (Masks n) r cs h = omega (arith, h)
 
@@ -38,6 +39,7 @@ one_less n r (Region q ∷ cs) h = by_test (q == r)
     by_test false = omega (arith, h)
 
 opened_in : (s : Cover) (r : ℕ) (cs : List Closing) → AreClosedBy s cs → AreClosedBy (in_poll s) (without_region r cs)
+opened_in Bare r cs h = rw h refl
 opened_in Sealed r cs h = seal_stays r cs h
 opened_in (Masks n) r cs h = one_less n r cs h
 
@@ -57,6 +59,7 @@ covered_in (InReleaseIn k v) s cs h = refl
 -- what is closed so has something that closes it
 pub some_closed : (s : Cover) (cs : List Closing) → is_closed s ≡ true → AreClosedBy s cs → is_none_closed cs ≡ false
 some_closed s (c ∷ cs) covered h = refl
+some_closed Bare [] covered h = absurd cc
 some_closed Sealed [] covered h = absurd cc
 some_closed (Masks zero) [] covered h = absurd cc
 some_closed (Masks (suc n)) [] covered h = absurd (omega (arith, h))

@@ -2,6 +2,7 @@
 use Rattle.std.proofs.Common.{◌≡◌, ℕ, Bool, zero, suc, ◌+◌, ◌≤◌, Option, List, [], ◌∷◌, refl, sym, subst, arith}
 use Rattle.fx_term.specs.Term.{Term}
 use Rattle.fx_term.specs.Need.{need}
+use Rattle.fx_mask.specs.Closing.{Seal}
 use Rattle.fx_model.specs.Path.{CleanupTerm}
 use Rattle.fx_model.specs.Row.{Counts, Label, Silent, Shows, Learns, Starts}
 use Rattle.fx_model.specs.Step.{Progress, Runs, Unwinds, CleansUp, HasEnded, Step}
@@ -86,7 +87,7 @@ module _ {Pair : Cover → (ℕ → Bool) → Term → Term → Type 0} {Ends : 
         } in
         let here : Holds c (Runs (placed i.outer i.first)) = subst (λ (x : Term). Holds c (Runs x)) i.is now in
         let there : Holds c (Runs (placed i.outer' i.second)) = subst (λ (x : Term). Holds c (Runs x)) i.is' now' in
-        let both = pairs i.cover i.first i.second i.pair (InTerm i.outer) (InTerm i.outer') (i.covered [] (omega arith)) c here there in
+        let both = pairs i.cover i.first i.second i.pair (InTerm i.outer) (InTerm i.outer') (i.covered [] refl) c here there in
         let k = both.1 (shown ls) first in
         let more = i.fewer i.second in
         let rest = fewer (holes (i.whole i.second)) (omega arith) c (Runs (placed i.outer i.second)) (Runs (placed i.outer' i.second))
@@ -111,7 +112,7 @@ module _ {Pair : Cover → (ℕ → Bool) → Term → Term → Type 0} {Ends : 
         } in
         let here : Holds c (CleansUp k (placed i.outer i.first) xs) = subst (λ (x : Term). Holds c (CleansUp k x xs)) i.is now in
         let there : Holds c (CleansUp k (placed i.outer' i.second) ys) = subst (λ (x : Term). Holds c (CleansUp k x ys)) i.is' now' in
-        let both = pairs i.cover i.first i.second i.pair (InCleanup k xs i.outer) (InCleanup k ys i.outer') tt c here there in
+        let both = pairs i.cover i.first i.second i.pair (InCleanup k xs i.outer) (InCleanup k ys i.outer') (i.covered (Seal ∷ []) refl) c here there in
         let s = both.1 (shown ls) first in
         let more = i.fewer i.second in
         let rest = fewer (holes (i.whole i.second) + holes_left q) (omega arith) c (CleansUp k (placed i.outer i.second) xs)

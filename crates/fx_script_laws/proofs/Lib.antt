@@ -41,4 +41,5 @@ pub mod MasksEntered
 pub mod NestedMasks
 pub mod MaskedFinalizers
 pub mod PolledAtOnce
+pub mod BareLaws
 pub mod InverseMasks

@@ -21,7 +21,7 @@ use Rattle.fx_model.proofs.Paths.{no_context}
 use Rattle.fx_laws.specs.Everywhere.{Place, placed, come_to}
 use Rattle.fx_laws.proofs.SilentRows.{LeadsSilently, opened_leads, masked_leads, leads_placed}
 use Rattle.fx_laws.proofs.OnlyRows.{only_silent, only_mask}
-use Rattle.fx_script_laws.specs.Cover.{Cover, Sealed, Masks, is_closed, is_sealed, has_seal, AreClosedBy, IsCoveredBy}
+use Rattle.fx_script_laws.specs.Cover.{Cover, Bare, Sealed, Masks, is_closed, is_sealed, has_seal, AreClosedBy, IsCoveredBy}
 use Rattle.fx_script_laws.specs.Filled.{none_bound, and_bound}
 use Rattle.fx_script_laws.specs.Interchange.{CanComeTo}
 use Rattle.fx_script_laws.specs.InScripts.{AreAlikeInScripts}
@@ -175,10 +175,12 @@ pub mask_inside : {m : Shift} {i j : ℕ} {x y : Term} → IsRenumbered m (Mask 
 mask_inside (renumbered.mask u g) = g
 
 sealed_is_closed : (s : Cover) → is_sealed s ≡ true → is_closed s ≡ true
+sealed_is_closed Bare h = absurd cc
 sealed_is_closed Sealed h = refl
 sealed_is_closed (Masks n) h = absurd cc
 
 sealed_by : (s : Cover) (cs : List Closing) → is_sealed s ≡ true → AreClosedBy s cs → has_seal cs ≡ true
+sealed_by Bare cs h k = absurd cc
 sealed_by Sealed cs h k = k
 sealed_by (Masks n) cs h k = absurd cc
 

@@ -53,8 +53,8 @@ module _ {Ends : Counts → Progress → Type 0} (ends : AreEndsOfStops Ends) wh
   must_step c t must o f = rw must refl
 
   -- two terms with the same clean-ups, at which cancellation is the one rule
-  canceled_too : (c d : Counts) (q : Progress) (t u : Term) → must_cancel c.known t ≡ true → must_cancel c.known u ≡ true → cleanup_terms t ≡ cleanup_terms u
-      → (ls : List Label) → Leads c (Runs t) ls d q → Ends d q → CanComeTo Ends c (Runs u) (shown ls)
+  pub canceled_too : (c d : Counts) (q : Progress) (t u : Term) → must_cancel c.known t ≡ true → must_cancel c.known u ≡ true
+      → cleanup_terms t ≡ cleanup_terms u → (ls : List Label) → Leads c (Runs t) ls d q → Ends d q → CanComeTo Ends c (Runs u) (shown ls)
   canceled_too c d q t u must must' clean [] h e =
       itself [] (refl, refl) (ends.moves c c (Runs t) (Runs u) (must_step c t must) (rw (h.0, h.1) at e))
   canceled_too c d q t u must must' clean (l ∷ ls) h e =
@@ -63,7 +63,8 @@ module _ {Ends : Counts → Progress → Type 0} (ends : AreEndsOfStops Ends) wh
       let rest : Leads c (Unwinds (cleanup_terms u)) ls d q = rw (sym o.1, sym at) h.3 in
       rw o.0 (step_more ls (must_forced c u must').step (itself ls rest e))
 
-  -- a term with one row, which is silent, and one at the same place: with each counts that are right, as they stay where a request is seen, the one comes after
+  -- A term with one row, which is silent, and one at the same place: with each counts that are right, as they stay where a request is seen, the one comes
+  -- after
   -- its row to what the other comes to
   module _ {t u : Term} {after : Counts → Counts} {next : Counts → Term} (leads : LeadsBy (λ c. Silent) after t next) (same : IsSamePlace t u)
       (steps : (o : Outside) → leaf_can_step o (leaf t) ≡ true) (IsRight : Counts → Type 0) (kept : (c : Counts) → IsRight c → IsRight (known_canceled c)) where

@@ -18,12 +18,13 @@
 //! | [`contexts`] | a fiber with the one whole term shows what one with the other does, and waits where that does |
 //! | [`scripts`] | two scripts that differ at such places have the same lawful reports |
 //! | [`laws`] | which terms can be put for one another |
-//! | [`closed`] | which can where they stand at closed places |
+//! | [`closed`], [`bare`] | which can where they stand at closed places, or where nothing closes their place |
 //! | [`regions`] | which of them, where the one enters a mask more |
 //! | [`masks`] | which masks, as a whole script, have the same reports |
 //! | [`refused`] | which cannot |
 #![tactic(auto)]
 
+pub mod bare;
 pub mod closed;
 pub mod contexts;
 pub mod laws;
