@@ -14,23 +14,27 @@ use Rattle.fx_order.specs.declared.occurrence.Occurrence.{Occurrence}
 use Rattle.fx_order.specs.CausalOrder.{IsCausalOrder}
 use Rattle.fx_picture.specs.declared.bar.Bar.{Bar}
 use Rattle.fx_picture.specs.declared.bar.Bar.TheVariants.{Life, Unwinding, Holding}
+use Rattle.fx_picture.specs.declared.drawn.Drawn.{Drawn}
+use Rattle.fx_picture.specs.Folds.{sheet_of}
 use Rattle.fx_picture.specs.Bars.{life_at, bar_at, closes, closing_row}
 use Rattle.fx_picture.specs.IsClosed.{Begins, IsClosed}
+use Rattle.fx_picture.proofs.Quiet.{drawn_at}
 use Rattle.fx_picture.proofs.Releases.{released}
 
 -- a bar is closed where some event of its fiber closes it
-closed_by : (f : ℕ) (bar : Bar) (row : ℕ) (os : List Occurrence) (m : ℕ) (o : Occurrence) → slice_get os m ≡ Some o → o.fiber ≡ f
-    → closes bar o.event ≡ true → IsSome (closing_row f bar row os)
-closed_by f bar row [] m o at of does = absurd (cc at)
-closed_by f bar row (p ∷ os) zero o at of does =
-    let same : p ≡ o = cc at in
-    let fits : (p.fiber == f) && closes bar p.event ≡ true = rw (same, does, eq-eqb o.fiber f of) refl in
-    cond_both ((p.fiber == f) && closes bar p.event) (Some row) (closing_row f bar (suc row) os) IsSome (λ _. refl) (λ none. absurd (cc (sym fits ∙ none)))
-closed_by f bar row (p ∷ os) (suc m) o at of does =
-    cond_both ((p.fiber == f) && closes bar p.event) (Some row) (closing_row f bar (suc row) os) IsSome (λ _. refl)
-    (λ _. closed_by f bar (suc row) os m o at of does)
+closed_by : (f : ℕ) (bar : Bar) (xs : List Drawn) (m : ℕ) (x : Drawn) → slice_get xs m ≡ Some x → x.event.fiber ≡ f
+    → closes bar x.event.event ≡ true → IsSome (closing_row f bar xs)
+closed_by f bar [] m x at of does = absurd (cc at)
+closed_by f bar (p ∷ xs) zero x at of does =
+    let same : p ≡ x = cc at in
+    let fits : (p.event.fiber == f) && closes bar p.event.event ≡ true = rw (same, does, eq-eqb x.event.fiber f of) refl in
+    cond_both ((p.event.fiber == f) && closes bar p.event.event) (Some p.row) (closing_row f bar xs) IsSome (λ _. refl)
+    (λ none. absurd (cc (sym fits ∙ none)))
+closed_by f bar (p ∷ xs) (suc m) x at of does =
+    cond_both ((p.event.fiber == f) && closes bar p.event.event) (Some p.row) (closing_row f bar xs) IsSome (λ _. refl)
+    (λ _. closed_by f bar xs m x at of does)
 
-got_behind : (n : ℕ) (xs : List Occurrence) (m : ℕ) → slice_get (drop n xs) m ≡ slice_get xs (n + m)
+got_behind : (n : ℕ) (xs : List Drawn) (m : ℕ) → slice_get (drop n xs) m ≡ slice_get xs (n + m)
 got_behind zero xs m = let same : m ≡ 0 + m = omega arith in ap (slice_get xs) same
 got_behind (suc n) [] m = refl
 got_behind (suc n) (x ∷ xs) m = let same : suc (n + m) ≡ suc n + m = omega arith in got_behind n xs m ∙ ap (slice_get (x ∷ xs)) same
@@ -96,9 +100,11 @@ module _ (s : ScriptView) (may : ℕ → Bool) (r : ReportView) (lawful : IsLawf
       let closed : slice_get (trace_in r f) c.place ≡ Some c.event = subst (λ (es : List Event). slice_get es c.place ≡ Some c.event) (sym same) c.is in
       let le = moments i c.place c.behind (slice_get_within _ i e here) (slice_get_within _ c.place c.event closed) in
       let sum : order.moment f i + (order.moment f c.place - order.moment f i) ≡ order.moment f c.place = omega arith in
+      let at_end = drawn_at list (order.moment f c.place) _ (order.stands f c.place c.event closed) in
       let got =
-      got_behind (order.moment f i) list (order.moment f c.place - order.moment f i) ∙ ap (slice_get list) sum ∙ order.stands f c.place c.event closed in
-      closed_by f bar (order.moment f i) (drop (order.moment f i) list) (order.moment f c.place - order.moment f i) _ got refl c.does
+      got_behind (order.moment f i) (sheet_of list).drawn (order.moment f c.place - order.moment f i) ∙ ap (slice_get (sheet_of list).drawn) sum ∙ at_end.1 in
+      closed_by f bar (drop (order.moment f i) (sheet_of list).drawn) (order.moment f c.place - order.moment f i) at_end.0 got
+      (ap (λ (o : Occurrence). o.fiber) at_end.2) (ap (λ (o : Occurrence). closes bar o.event) at_end.2 ∙ c.does)
     where
       moments : (i j : ℕ) → i ≤ j → i < length (trace_in r f) → j < length (trace_in r f) → order.moment f i ≤ order.moment f j
       moments i j le wi wj = elim (cases_lt i j) [

@@ -20,9 +20,12 @@ use Rattle.fx_order.specs.CausalOrder.{IsCausalOrder}
 use Rattle.fx_report.specs.declared.blocked.Blocked.{Blocked}
 use Rattle.fx_picture.specs.declared.cause.Cause.{Cause}
 use Rattle.fx_picture.specs.declared.cause.Cause.TheVariants.{Start, End, Request}
+use Rattle.fx_picture.specs.declared.drawn.Drawn.{Drawn}
 use Rattle.fx_picture.specs.Causes.{is_told_by, cause_of}
+use Rattle.fx_picture.specs.Folds.{sheet_of}
 use Rattle.fx_picture.specs.IsDrawn.{SaysItsCause, IsDrawn, HasArrow}
 use Rattle.fx_picture.proofs.ArrowsDrawn.{none_missing}
+use Rattle.fx_picture.proofs.Quiet.{drawn_at, goes_down}
 use Rattle.fx_picture.proofs.NamedEnds.{Names, run_names}
 
 -- an event that learns of the end of g, and names who ended, names g
@@ -37,18 +40,25 @@ module _ (s : ScriptView) (may : ℕ → Bool) (r : ReportView) (lawful : IsLawf
   abbrev event_of : ℕ → ℕ → Event → Occurrence
   event_of f i e = record { fiber = f; place = i; event = e; stamp = stamp_in r f i }
 
+  abbrev drawn : List Drawn
+  drawn = (sheet_of list).drawn
+
   -- an event that stands on one above it is drawn with an arrow
   is_drawn : (f i g j : ℕ) (e d : Event) (cause : Cause) → slice_get (trace_in r f) i ≡ Some e → slice_get (trace_in r g) j ≡ Some d
       → order.moment g j < order.moment f i → cause_of (event_of g j d) (event_of f i e) ≡ Some cause → IsDrawn names blocked r list f i g j
-  is_drawn f i g j e d cause at by above stands = record {
-    from = record { row = order.moment g j; event = event_of g j d };
-    to = record { row = order.moment f i; event = event_of f i e };
-    cause = cause;
-    begins = record { fiber = refl; place = refl };
-    ends = record { fiber = refl; place = refl };
-    has = none_missing r.fibers names blocked list (order.moment g j) (order.moment f i) (event_of g j d) (event_of f i e) cause above
-        (order.stands g j d by) (order.stands f i e at) stands;
-  }
+  is_drawn f i g j e d cause at by above stands =
+      let from = drawn_at list (order.moment g j) (event_of g j d) (order.stands g j d by) in
+      let to = drawn_at list (order.moment f i) (event_of f i e) (order.stands f i e at) in
+      let joined : cause_of from.0.event to.0.event ≡ Some cause = rw (from.2, to.2) stands in
+      record {
+        from = from.0;
+        to = to.0;
+        cause = cause;
+        begins = record { fiber = ap (λ (o : Occurrence). o.fiber) from.2; place = ap (λ (o : Occurrence). o.place) from.2 };
+        ends = record { fiber = ap (λ (o : Occurrence). o.fiber) to.2; place = ap (λ (o : Occurrence). o.place) to.2 };
+        goes_down = goes_down list (order.moment g j) (order.moment f i) from.0 to.0 cause above from.1 to.1 joined;
+        has = none_missing r.fibers names blocked list (order.moment g j) (order.moment f i) from.0 to.0 cause above from.1 to.1 joined;
+      }
 
   tells : (f i g j : ℕ) (l : LearnsOfEnd (trace_in r) lawful.runs.labels f i g j) → SaysItsCause l.learning → is_told_by g l.learning ≡ true
   tells f i g j l says = by_fiber (fiber_in r f) refl

@@ -1,4 +1,9 @@
 pub mod Joined
+pub mod Folded
+pub mod DrawnText
+pub mod Sheets
+pub mod Quiet
+pub mod Marked
 pub mod Counted
 pub mod TooLarge
 pub mod WellFormed

@@ -1,26 +1,35 @@
 -- No element of a picture has an attribute twice.
-use Rattle.std.proofs.Common.{◌≡◌, ℕ, suc, ◌+◌, Bool, true, ◌&&◌, Option, Some, None, List, [], ◌∷◌, refl, take, length}
+use Rattle.std.proofs.Common.{◌≡◌, ℕ, zero, suc, ◌+◌, ◌/◌, ◌==◌, ◌++◌, Bool, true, ◌&&◌, Option, Some, None, List, [], ◌∷◌, refl, take, length}
+use Rattle.std.specs.Prelude.{codes}
+use Rattle.std.proofs.lemmas.Bool.{cond_both}
 use Rattle.fx_model.specs.declared.source.Source.{Source}
 use Rattle.fx_model.specs.Report.{FiberReportView}
 use Rattle.fx_order.specs.declared.occurrence.Occurrence.{Occurrence}
 use Rattle.fx_report.specs.declared.blocked.Blocked.{Blocked}
 use Rattle.fx_svg.specs.declared.tag.Tag.TheVariants as tag
-use Rattle.fx_svg.specs.Content.{both}
+use Rattle.fx_svg.specs.Content.{Content, nothing, both}
 use Rattle.fx_svg.specs.WellFormed.{has_distinct_keys, is_well_formed}
 use Rattle.fx_svg.proofs.WellFormedTexts.{well_formed}
 use Rattle.fx_picture.specs.declared.bar.Bar.{Bar}
 use Rattle.fx_picture.specs.declared.cause.Cause.{Cause}
-use Rattle.fx_picture.specs.declared.arrows.Drawn.{Drawn}
+use Rattle.fx_picture.specs.declared.drawn.Drawn.{Drawn}
+use Rattle.fx_picture.specs.declared.layout.TheConstants.{AGAIN}
 use Rattle.fx_picture.specs.Causes.{cause_of}
-use Rattle.fx_picture.specs.Bars.{life_at, bar_at}
-use Rattle.fx_picture.specs.Visits.{queue_at}
-use Rattle.fx_picture.specs.Labels.{wait_of}
+use Rattle.fx_picture.specs.Bars.{life_at, bar_at, closing_row}
+use Rattle.fx_picture.specs.Folds.{in_row, sheet_of}
+use Rattle.fx_picture.specs.Visits.{queue_at, count_at}
+use Rattle.fx_picture.specs.Labels.{fiber_words, wait_of}
 use Rattle.fx_picture.specs.Legend.{legend}
-use Rattle.fx_picture.specs.Picture.{foot, lanes_from, queue_lanes_from, bar_of, bars_from, visit_for, visits_from}
-use Rattle.fx_picture.specs.Picture.{arrow_for, arrows_to, arrows_from, marks_from, head, size, ground_of, figures_of, picture_text}
+use Rattle.fx_picture.specs.Picture.{names_again, foot, lanes_from, queue_lanes_from, ends_in, bar_to, bar_of, bars_from}
+use Rattle.fx_picture.specs.Picture.{visit_for, all_times, visits_of, visits_in}
+use Rattle.fx_picture.specs.Picture.{arrow_for, arrows_to, arrows_from, mark_of, marks_in, head, size, ground_of, figures_of, picture_text}
 
 all_true : (x y : Bool) → x ≡ true → y ≡ true → x && y ≡ true
 all_true x y p q = rw (p, q)
+
+again_is : (lane : ℕ) (ws : List ℕ) (bands : ℕ) → has_distinct_keys (names_again lane ws bands) ≡ true
+again_is lane ws zero = refl
+again_is lane ws (suc band) = all_true _ _ (again_is lane ws band) refl
 
 foot_is : (names : List (List ℕ)) (rows lane : ℕ) (x : FiberReportView) (source : Option Source) → has_distinct_keys (foot names rows lane x source) ≡ true
 foot_is names rows lane x None = refl
@@ -29,58 +38,83 @@ foot_is names rows lane x (Some source) = refl
 lanes : (names : List (List ℕ)) (rows : ℕ) (blocked : List Blocked) (lane : ℕ) (xs : List FiberReportView)
     → has_distinct_keys (lanes_from names rows blocked lane xs) ≡ true
 lanes names rows blocked lane [] = refl
-lanes names rows blocked lane (x ∷ xs) = all_true _ _ (foot_is names rows lane x (wait_of blocked x.id)) (lanes names rows blocked (suc lane) xs)
+lanes names rows blocked lane (x ∷ xs) =
+    all_true _ _ (all_true _ _ (again_is lane (fiber_words x) (rows / AGAIN)) (foot_is names rows lane x (wait_of blocked x.id)))
+    (lanes names rows blocked (suc lane) xs)
 
 queue_lanes : (rows lane : ℕ) (names : List (List ℕ)) → has_distinct_keys (queue_lanes_from rows lane names) ≡ true
 queue_lanes rows lane [] = refl
-queue_lanes rows lane (name ∷ names) = queue_lanes rows (suc lane) names
+queue_lanes rows lane (name ∷ names) = all_true _ _ (again_is lane (codes "queue " ++ name) (rows / AGAIN)) (queue_lanes rows (suc lane) names)
 
-bar_is : (fibers : List FiberReportView) (rows : ℕ) (x : Drawn) (list : List Occurrence) (bar : Option Bar)
+bar_to_is : (fibers : List FiberReportView) (rows : ℕ) (x : Drawn) (bar : Bar) (closing : Option ℕ)
+    → has_distinct_keys (bar_to fibers rows x bar closing) ≡ true
+bar_to_is fibers rows x bar closing =
+    cond_both (ends_in x.row closing) nothing _ (λ (c : Content). has_distinct_keys c ≡ true) (λ _. refl) (λ _. refl)
+
+bar_is : (fibers : List FiberReportView) (rows : ℕ) (x : Drawn) (list : List Drawn) (bar : Option Bar)
     → has_distinct_keys (bar_of fibers rows x list bar) ≡ true
 bar_is fibers rows x list None = refl
-bar_is fibers rows x list (Some bar) = refl
+bar_is fibers rows x list (Some bar) = bar_to_is fibers rows x bar (closing_row x.event.fiber bar list)
 
-bars : (fibers : List FiberReportView) (rows row : ℕ) (os : List Occurrence) → has_distinct_keys (bars_from fibers rows row os) ≡ true
-bars fibers rows row [] = refl
-bars fibers rows row (o ∷ os) =
-    let at : Drawn = record { row = row; event = o } in
-    all_true _ _ (bar_is fibers rows at (o ∷ os) (life_at o.place))
-    (all_true _ _ (bar_is fibers rows at (o ∷ os) (bar_at o.event)) (bars fibers rows (suc row) os))
+bars : (fibers : List FiberReportView) (rows : ℕ) (xs : List Drawn) → has_distinct_keys (bars_from fibers rows xs) ≡ true
+bars fibers rows [] = refl
+bars fibers rows (x ∷ xs) =
+    all_true _ _ (bar_is fibers rows x (x ∷ xs) (life_at x.event.place))
+    (all_true _ _ (bar_is fibers rows x (x ∷ xs) (bar_at x.event.event)) (bars fibers rows xs))
 
 visit_is : (fibers : List FiberReportView) (x : Drawn) (queue : Option ℕ) → has_distinct_keys (visit_for fibers x queue) ≡ true
 visit_is fibers x None = refl
 visit_is fibers x (Some q) = refl
 
-visits : (fibers : List FiberReportView) (row : ℕ) (os : List Occurrence) → has_distinct_keys (visits_from fibers row os) ≡ true
-visits fibers row [] = refl
-visits fibers row (o ∷ os) = all_true _ _ (visit_is fibers (record { row = row; event = o }) (queue_at o.event)) (visits fibers (suc row) os)
+times_are : (fibers : List FiberReportView) (row f : ℕ) (list : List Occurrence) (queues : ℕ)
+    → has_distinct_keys (all_times fibers row f list queues) ≡ true
+times_are fibers row f list zero = refl
+times_are fibers row f list (suc q) =
+    all_true _ _ (times_are fibers row f list q)
+    (cond_both (count_at q 0 list == 0) nothing _ (λ (c : Content). has_distinct_keys c ≡ true) (λ _. refl) (λ _. refl))
+
+visits_are : (fibers : List FiberReportView) (queues row : ℕ) (list : List Occurrence) → has_distinct_keys (visits_of fibers queues row list) ≡ true
+visits_are fibers queues row [] = refl
+visits_are fibers queues row (o ∷ []) = visit_is fibers (record { row = row; event = o }) (queue_at o.event)
+visits_are fibers queues row (o ∷ p ∷ os) = times_are fibers row o.fiber (o ∷ p ∷ os) queues
+
+visits : (fibers : List FiberReportView) (queues : ℕ) (list : List Drawn) (rows : ℕ) → has_distinct_keys (visits_in fibers queues list rows) ≡ true
+visits fibers queues list zero = refl
+visits fibers queues list (suc row) = all_true _ _ (visits fibers queues list row) (visits_are fibers queues row (in_row row list))
 
 arrow_is : (fibers : List FiberReportView) (x y : Drawn) (cause : Option Cause) → has_distinct_keys (arrow_for fibers x y cause) ≡ true
 arrow_is fibers x y None = refl
 arrow_is fibers x y (Some cause) = refl
 
-arrows_are : (fibers : List FiberReportView) (y : Drawn) (row : ℕ) (xs : List Occurrence) → has_distinct_keys (arrows_to fibers y row xs) ≡ true
-arrows_are fibers y row [] = refl
-arrows_are fibers y row (x ∷ xs) =
-    all_true _ _ (arrow_is fibers (record { row = row; event = x }) y (cause_of x y.event)) (arrows_are fibers y (suc row) xs)
+arrows_are : (fibers : List FiberReportView) (y : Drawn) (xs : List Drawn) → has_distinct_keys (arrows_to fibers y xs) ≡ true
+arrows_are fibers y [] = refl
+arrows_are fibers y (x ∷ xs) = all_true _ _ (arrow_is fibers x y (cause_of x.event y.event)) (arrows_are fibers y xs)
 
-all_arrows : (fibers : List FiberReportView) (list : List Occurrence) (row : ℕ) (ys : List Occurrence)
-    → has_distinct_keys (arrows_from fibers list row ys) ≡ true
-all_arrows fibers list row [] = refl
-all_arrows fibers list row (y ∷ ys) =
-    all_true _ _ (arrows_are fibers (record { row = row; event = y }) 0 (take row list)) (all_arrows fibers list (suc row) ys)
+all_arrows : (fibers : List FiberReportView) (list : List Drawn) (place : ℕ) (ys : List Drawn)
+    → has_distinct_keys (arrows_from fibers list place ys) ≡ true
+all_arrows fibers list place [] = refl
+all_arrows fibers list place (y ∷ ys) = all_true _ _ (arrows_are fibers y (take place list)) (all_arrows fibers list (suc place) ys)
 
-marks : (names : List (List ℕ)) (fibers : List FiberReportView) (row : ℕ) (os : List Occurrence) → has_distinct_keys (marks_from names fibers row os) ≡ true
-marks names fibers row [] = refl
-marks names fibers row (o ∷ os) = marks names fibers (suc row) os
+mark_is : (names : List (List ℕ)) (fibers : List FiberReportView) (row : ℕ) (list : List Occurrence)
+    → has_distinct_keys (mark_of names fibers row list) ≡ true
+mark_is names fibers row [] = refl
+mark_is names fibers row (o ∷ []) = refl
+mark_is names fibers row (o ∷ p ∷ os) = refl
+
+marks : (names : List (List ℕ)) (fibers : List FiberReportView) (list : List Drawn) (rows : ℕ) → has_distinct_keys (marks_in names fibers list rows) ≡ true
+marks names fibers list zero = refl
+marks names fibers list (suc row) = all_true _ _ (marks names fibers list row) (mark_is names fibers row (in_row row list))
 
 pub is_document : (names : List (List ℕ)) (blocked : List Blocked) (fibers : List FiberReportView) (list : List Occurrence)
     → is_well_formed (picture_text names blocked fibers list) ≡ true
 unfolding picture_text
 is_document names blocked fibers list =
-    let ground = all_true _ _ (lanes names (length list) blocked 0 fibers)
-    (all_true _ _ (queue_lanes (length list) (length fibers) names) (bars fibers (length list) 0 list)) in
-    let figures = all_true _ _ (visits fibers 0 list) (all_true _ _ (all_arrows fibers list 0 list) (marks names fibers 0 list)) in
-    well_formed tag.Svg (size (length fibers + length names) (length list))
-    (both (head (length fibers) (length list)) (both legend (both (ground_of names blocked fibers list) (figures_of names fibers list))))
+    let drawn = (sheet_of list).drawn in
+    let rows = (sheet_of list).rows in
+    let ground = all_true _ _ (lanes names rows blocked 0 fibers)
+    (all_true _ _ (queue_lanes rows (length fibers) names) (bars fibers rows drawn)) in
+    let figures = all_true _ _ (visits fibers (length names) drawn rows) (all_true _ _ (all_arrows fibers drawn 0 drawn) (marks names fibers drawn rows)) in
+    well_formed tag.Svg (size (length fibers + length names) rows)
+    (both (head (length fibers) (length drawn))
+    (both legend (both (ground_of names blocked fibers (sheet_of list)) (figures_of names fibers (sheet_of list)))))
     (all_true _ _ ground figures)

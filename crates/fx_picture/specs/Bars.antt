@@ -1,9 +1,9 @@
 -- Which bars a picture has beside a lane, and where they end.
-use Rattle.std.specs.Prelude.{ℕ, suc, ◌+◌, ◌*◌, ◌%◌, ◌==◌, ◌++◌, Bool, true, false, ◌&&◌, Option, Some, None, List, [], ◌∷◌, codes, if◌then◌else◌}
+use Rattle.std.specs.Prelude.{ℕ, ◌+◌, ◌*◌, ◌%◌, ◌==◌, ◌++◌, Bool, true, false, ◌&&◌, Option, Some, None, List, [], ◌∷◌, codes, if◌then◌else◌}
 use Rattle.fx_term.specs.declared.event.Event.{Event}
 use Rattle.fx_term.specs.declared.event.Event.TheVariants as event
-use Rattle.fx_order.specs.declared.occurrence.Occurrence.{Occurrence}
 use Rattle.fx_report.specs.Text.{number}
+use Rattle.fx_picture.specs.declared.drawn.Drawn.{Drawn}
 use Rattle.fx_picture.specs.declared.bar.Bar.{Bar}
 use Rattle.fx_picture.specs.declared.bar.Bar.TheVariants.{Life, Unwinding, Holding}
 use Rattle.fx_picture.specs.declared.bar.TheConstants.{ASIDE, ASUNDER, ABREAST}
@@ -33,10 +33,10 @@ closes Life e = is_end e
 closes Unwinding e = is_end e
 closes (Holding k) e = is_release k e
 
--- the first row with an event of fiber f that closes the bar, of these, which stand from this row on
-abbrev pub closing_row : ℕ → Bar → ℕ → List Occurrence → Option ℕ
-closing_row f bar row [] = None
-closing_row f bar row (o ∷ os) = if (o.fiber == f) && closes bar o.event then Some row else closing_row f bar (suc row) os
+-- the row of the first of these events of fiber f that closes the bar
+abbrev pub closing_row : ℕ → Bar → List Drawn → Option ℕ
+closing_row f bar [] = None
+closing_row f bar (x ∷ xs) = if (x.event.fiber == f) && closes bar x.event.event then Some x.row else closing_row f bar xs
 
 -- how far a bar stands right of the middle of its lane: resources that follow each other stand beside each other
 abbrev pub aside : Bar → ℕ

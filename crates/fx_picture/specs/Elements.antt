@@ -1,8 +1,9 @@
 -- What a picture is made of.
-use Rattle.std.specs.Prelude.{ℕ, List, [], ◌∷◌, decimal}
+use Rattle.std.specs.Prelude.{ℕ, ◌-◌, ◌*◌, List, [], ◌∷◌, decimal}
 use Rattle.fx_svg.specs.declared.tag.Tag.TheVariants as tag
 use Rattle.fx_svg.specs.declared.key.Key.{Key}
 use Rattle.fx_svg.specs.declared.key.Key.TheVariants as key
+use Rattle.fx_picture.specs.declared.elements.TheConstants.{HALF_WIDTH, HALF_HEIGHT}
 use Rattle.fx_svg.specs.Content.{AttributeView, Content, nothing, words, element}
 
 -- an attribute that is set to words, and one that is set to a number
@@ -23,3 +24,9 @@ line_with inside class x1 y1 x2 y2 =
 
 abbrev pub line : List ℕ → ℕ → ℕ → ℕ → ℕ → Content
 line = line_with nothing
+
+-- the box of several events, round its middle
+abbrev pub box : ℕ → ℕ → Content
+box x y = element tag.Rectangle
+    (number_of key.X (x - HALF_WIDTH) ∷ number_of key.Y (y - HALF_HEIGHT) ∷ number_of key.Width (2 * HALF_WIDTH)
+    ∷ number_of key.Height (2 * HALF_HEIGHT) ∷ []) nothing

@@ -1,11 +1,11 @@
 -- What stands in a tree.
 use Rattle.std.specs.Prelude.{◌≡◌, ℕ, ◌<◌, Some, List, slice_get, ◌⊎◌}
 use Rattle.fx_model.specs.Report.{FiberReportView}
-use Rattle.fx_order.specs.declared.occurrence.Occurrence.{Occurrence}
 use Rattle.fx_svg.specs.Content.{Content, nothing, words, element, both}
 use Rattle.fx_picture.specs.declared.cause.Cause.{Cause}
+use Rattle.fx_picture.specs.declared.drawn.Drawn.{Drawn}
 use Rattle.fx_picture.specs.Causes.{cause_of}
-use Rattle.fx_picture.specs.Picture.{arrow, mark}
+use Rattle.fx_picture.specs.Picture.{arrow}
 
 -- the element stands in the tree, or is it
 abbrev pub Has : Content → Content → Type 0
@@ -15,21 +15,14 @@ Has (element tag attributes inside) e = (e ≡ element tag attributes inside) �
 Has (both a b) e = Has a e ⊎ Has b e
 
 -- the element is the arrow from one event of the list to another below it that stands on it
-pub record IsArrow (fibers : List FiberReportView) (list : List Occurrence) (e : Content) : Type 0 where
+pub record IsArrow (fibers : List FiberReportView) (list : List Drawn) (e : Content) : Type 0 where
   pub above : ℕ
   pub below : ℕ
-  pub first : Occurrence
-  pub second : Occurrence
+  pub first : Drawn
+  pub second : Drawn
   pub cause : Cause
   pub order : above < below
   pub is_first : slice_get list above ≡ Some first
   pub is_second : slice_get list below ≡ Some second
-  pub stands_on : cause_of first second ≡ Some cause
-  pub is : e ≡ arrow fibers (record { row = above; event = first }) (record { row = below; event = second }) cause
-
--- the element is the mark of an event of the list, in its row
-pub record IsMark (names : List (List ℕ)) (fibers : List FiberReportView) (list : List Occurrence) (e : Content) : Type 0 where
-  pub row : ℕ
-  pub event : Occurrence
-  pub is_event : slice_get list row ≡ Some event
-  pub is : e ≡ mark names fibers row event
+  pub stands_on : cause_of first.event second.event ≡ Some cause
+  pub is : e ≡ arrow fibers first second cause

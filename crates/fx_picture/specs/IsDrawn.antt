@@ -1,12 +1,12 @@
 -- Which causes of the model a picture has.
-use Rattle.std.specs.Prelude.{◌≡◌, ℕ, List}
+use Rattle.std.specs.Prelude.{◌≡◌, ℕ, ◌<◌, List}
 use Rattle.fx_term.specs.declared.event.Event.{Event}
 use Rattle.fx_term.specs.declared.event.Event.TheVariants as event
 use Rattle.fx_model.specs.Report.{ReportView}
 use Rattle.fx_order.specs.declared.occurrence.Occurrence.{Occurrence}
 use Rattle.fx_report.specs.declared.blocked.Blocked.{Blocked}
 use Rattle.fx_picture.specs.declared.cause.Cause.{Cause}
-use Rattle.fx_picture.specs.declared.arrows.Drawn.{Drawn}
+use Rattle.fx_picture.specs.declared.drawn.Drawn.{Drawn}
 use Rattle.fx_picture.specs.Has.{Has}
 use Rattle.fx_picture.specs.Picture.{arrow, picture}
 
@@ -21,13 +21,14 @@ pub record IsEventOf (f i : ℕ) (x : Occurrence) : Type 0 where
   pub fiber : x.fiber ≡ f
   pub place : x.place ≡ i
 
--- the picture of the list has an arrow from event j of fiber g to event i of fiber f
+-- the picture of the list has an arrow from event j of fiber g down to event i of fiber f
 pub record IsDrawn (names : List (List ℕ)) (blocked : List Blocked) (r : ReportView) (list : List Occurrence) (f i g j : ℕ) : Type 0 where
   pub from : Drawn
   pub to : Drawn
   pub cause : Cause
   pub begins : IsEventOf g j from.event
   pub ends : IsEventOf f i to.event
+  pub goes_down : from.row < to.row
   pub has : Has (picture names blocked r.fibers list) (arrow r.fibers from to cause)
 
 -- one from some event

@@ -1,5 +1,5 @@
 -- The words of a picture.
-use Rattle.std.specs.Prelude.{ℕ, ◌==◌, Option, Some, None, List, [], ◌∷◌, ◌++◌, codes, decimal, if◌then◌else◌}
+use Rattle.std.specs.Prelude.{ℕ, ◌==◌, Option, Some, None, List, [], ◌∷◌, ◌++◌, codes, decimal, length, if◌then◌else◌}
 use Rattle.fx_model.specs.declared.source.Source.{Source}
 use Rattle.fx_model.specs.declared.source.Source.TheVariants.{Nothing, Outcome, Either, Room, Element}
 use Rattle.fx_model.specs.Report.{FiberReportView}
@@ -10,6 +10,15 @@ use Rattle.fx_report.specs.Text.{number, queue_name, event_text}
 -- the line of a trace that has the event, without its end
 abbrev pub mark_words : List (List ℕ) → Occurrence → List ℕ
 mark_words names o = decimal o.fiber ++ number o.stamp ++ codes " " ++ event_text names o.event
+
+-- those of these events, each with the end of the line before it
+abbrev pub line_words : List (List ℕ) → List Occurrence → List ℕ
+line_words names [] = []
+line_words names (o ∷ os) = codes "\n" ++ mark_words names o ++ line_words names os
+
+-- how many these events are, and which
+abbrev pub fold_words : List (List ℕ) → List Occurrence → List ℕ
+fold_words names list = decimal (length list) ++ codes " events:" ++ line_words names list
 
 abbrev pub fiber_words : FiberReportView → List ℕ
 fiber_words x = codes "fiber " ++ decimal x.id

@@ -1,7 +1,7 @@
 -- Where what is drawn stands, in pixels.
-use Rattle.std.specs.Prelude.{ℕ, suc, ◌+◌, ◌*◌, ◌==◌, max, List, [], ◌∷◌, if◌then◌else◌}
+use Rattle.std.specs.Prelude.{ℕ, suc, ◌+◌, ◌-◌, ◌*◌, ◌/◌, ◌==◌, max, List, [], ◌∷◌, if◌then◌else◌}
 use Rattle.fx_model.specs.Report.{FiberReportView}
-use Rattle.fx_picture.specs.declared.layout.TheConstants.{FIRST_LANE, LANE, FIRST_ROW, ROW, FOOT, LEGEND_BOTTOM}
+use Rattle.fx_picture.specs.declared.layout.TheConstants.{FIRST_LANE, LANE, FIRST_ROW, ROW, AGAIN, BAND, BACK, FOOT, LEGEND_BOTTOM}
 
 -- how many fibers of a report stand before fiber f
 abbrev pub lane_of : List FiberReportView → ℕ → ℕ
@@ -12,7 +12,11 @@ abbrev pub lane_x : ℕ → ℕ
 lane_x lane = FIRST_LANE + lane * LANE
 
 abbrev pub row_y : ℕ → ℕ
-row_y row = FIRST_ROW + row * ROW
+row_y row = FIRST_ROW + row * ROW + row / AGAIN * BAND
+
+-- where the names of lanes are said again
+abbrev pub band_y : ℕ → ℕ
+band_y band = row_y (suc band * AGAIN) - BACK
 
 -- how high a picture with so many rows is
 abbrev pub height : ℕ → ℕ

@@ -7,7 +7,7 @@ use Rattle.fx_picture.specs.declared.layout.TheConstants.{ROW, BASE}
 use Rattle.fx_picture.specs.declared.marks.TheConstants.{RADIUS}
 use Rattle.fx_picture.specs.declared.legend.TheConstants.{LEGEND_TOP, LINE_LEFT, MARK, LINE_RIGHT, WORDS}
 use Rattle.fx_picture.specs.declared.legend.Entry.{Entry}
-use Rattle.fx_picture.specs.Elements.{set_to, number_of, label, line}
+use Rattle.fx_picture.specs.Elements.{set_to, number_of, label, line, box}
 
 -- what is shown, by the name by which the style means it, and what that is in words
 pub record EntryView : Type 0 where
@@ -66,6 +66,14 @@ lines =
     ∷ entry (codes "life open") (codes "one that waits for good") ∷ entry (codes "unwinding") (codes "its clean-ups run")
     ∷ entry (codes "holding") (codes "it holds a resource") ∷ []
 
+-- the mark of several events
+abbrev pub fold_sample : ℕ → Content
+fold_sample y = element tag.Group (set_to key.Class (codes "fold") ∷ []) (box MARK y)
+
+abbrev pub fold_entry : ℕ → List ℕ → Content
+fold_entry row ws = both (fold_sample (legend_y row)) (said (legend_y row) ws)
+
 abbrev pub legend : Content
 legend = element tag.Group (set_to key.Class (codes "legend") ∷ [])
-    (both (mark_entries 0 marks_of_fibers) (both (mark_entries 6 marks_of_queues) (line_entries 11 lines)))
+    (both (mark_entries 0 marks_of_fibers) (both (mark_entries 6 marks_of_queues)
+    (both (line_entries 11 lines) (fold_entry 18 (codes "so many events of a loop")))))

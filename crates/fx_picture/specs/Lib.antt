@@ -1,4 +1,5 @@
 pub mod Causes
+pub mod Folds
 pub mod Bars
 pub mod Visits
 pub mod Layout
@@ -9,5 +10,6 @@ pub mod Legend
 pub mod Picture
 pub mod Has
 pub mod IsDrawn
+pub mod IsFolded
 pub mod IsPicture
 pub mod IsClosed

@@ -1,5 +1,6 @@
 -- The picture of a report as a tree of elements.
-use Rattle.std.specs.Prelude.{ℕ, suc, ◌+◌, ◌++◌, Option, Some, None, List, [], ◌∷◌, codes, length, take}
+use Rattle.std.specs.Prelude.{ℕ, zero, suc, ◌+◌, ◌/◌, ◌==◌, ◌++◌, Bool, false, Option, Some, None, List, [], ◌∷◌, codes, decimal, length, take}
+use Rattle.std.specs.Prelude.{if◌then◌else◌}
 use Rattle.fx_model.specs.declared.source.Source.{Source}
 use Rattle.fx_model.specs.Report.{FiberReportView}
 use Rattle.fx_order.specs.declared.occurrence.Occurrence.{Occurrence}
@@ -10,24 +11,34 @@ use Rattle.fx_svg.specs.declared.key.Key.TheVariants as key
 use Rattle.fx_svg.specs.Content.{AttributeView, Content, nothing, words, element, both, rendering}
 use Rattle.fx_picture.specs.declared.cause.Cause.{Cause}
 use Rattle.fx_picture.specs.declared.bar.Bar.{Bar}
-use Rattle.fx_picture.specs.declared.arrows.Drawn.{Drawn}
+use Rattle.fx_picture.specs.declared.drawn.Drawn.{Drawn}
 use Rattle.fx_picture.specs.declared.look.TheConstants.{STYLE}
 use Rattle.fx_picture.specs.declared.marks.TheConstants.{RADIUS}
-use Rattle.fx_picture.specs.declared.layout.TheConstants.{TOP, ABOVE, NEXT_ABOVE, BOTTOM, BELOW, NEXT_BELOW, BASE}
+use Rattle.fx_picture.specs.declared.layout.TheConstants.{AGAIN, TOP, ABOVE, NEXT_ABOVE, BOTTOM, BELOW, NEXT_BELOW, BASE}
 use Rattle.fx_picture.specs.declared.queues.TheConstants.{BESIDE}
 use Rattle.fx_picture.specs.declared.picture.TheConstants.{TITLE, DESCRIPTION}
 use Rattle.fx_picture.specs.Causes.{cause_of, cause_class}
+use Rattle.fx_picture.specs.Folds.{SheetView, sheet_of, in_row}
 use Rattle.fx_picture.specs.Bars.{life_at, bar_at, closing_row, aside, bar_class, bar_words}
-use Rattle.fx_picture.specs.Visits.{queue_at, visit_class, visit_words}
-use Rattle.fx_picture.specs.Layout.{lane_of, lane_x, row_y, height}
-use Rattle.fx_picture.specs.Labels.{mark_words, fiber_words, wait_of, wait_words, count_words}
-use Rattle.fx_picture.specs.Elements.{set_to, number_of, label, line, line_with}
+use Rattle.fx_picture.specs.Visits.{queue_at, visit_class, visit_words, count_at, times_words}
+use Rattle.fx_picture.specs.Layout.{lane_of, lane_x, row_y, band_y, height}
+use Rattle.fx_picture.specs.Labels.{mark_words, fold_words, fiber_words, wait_of, wait_words, count_words}
+use Rattle.fx_picture.specs.Elements.{set_to, number_of, label, line, line_with, box}
 use Rattle.fx_picture.specs.Legend.{legend}
 use Rattle.fx_picture.specs.Look.{event_class, end_class}
 
 -- a line from top to bottom, beside so many rows
 abbrev pub upright : List ℕ → ℕ → ℕ → Content
 upright class rows lane = line class (lane_x lane) TOP (lane_x lane) (row_y rows + BOTTOM)
+
+-- what a lane is called, so often again, each below some rows more
+abbrev pub names_again : ℕ → List ℕ → ℕ → Content
+names_again lane ws zero = nothing
+names_again lane ws (suc band) = both (names_again lane ws band) (label (codes "again") (lane_x lane) (band_y band) ws)
+
+-- above a lane and beside so many rows
+abbrev pub lane_names : ℕ → ℕ → List ℕ → Content
+lane_names lane rows ws = both (label (codes "name") (lane_x lane) ABOVE ws) (names_again lane ws (rows / AGAIN))
 
 -- how a fiber is at the end
 abbrev pub state_label : ℕ → ℕ → FiberReportView → Content
@@ -48,12 +59,12 @@ foot names rows lane x (Some source) = wait_labels names rows lane source
 abbrev pub lane_content : List (List ℕ) → ℕ → ℕ → List Blocked → FiberReportView → Content
 lane_content names rows lane blocked x =
     both (upright (codes "lane") rows lane)
-    (both (label (codes "name") (lane_x lane) ABOVE (fiber_words x))
+    (both (lane_names lane rows (fiber_words x))
     (both (state_label lane NEXT_ABOVE x) (foot names rows lane x (wait_of blocked x.id))))
 
 -- that of a queue of this name
 abbrev pub queue_lane : ℕ → ℕ → List ℕ → Content
-queue_lane rows lane name = both (upright (codes "queue") rows lane) (label (codes "name") (lane_x lane) ABOVE (codes "queue " ++ name))
+queue_lane rows lane name = both (upright (codes "queue") rows lane) (lane_names lane rows (codes "queue " ++ name))
 
 module _ (names : List (List ℕ)) (rows : ℕ) (blocked : List Blocked) where
   abbrev pub lanes_from : ℕ → List FiberReportView → Content
@@ -72,23 +83,28 @@ bar_end rows None = row_y rows + BOTTOM
 abbrev pub bar_line : Bar → Option ℕ → ℕ → ℕ → ℕ → Content
 bar_line bar closing x top bottom = line_with (element tag.Title [] (words (bar_words bar))) (bar_class bar closing) x top x bottom
 
+-- the bar ends in this row
+abbrev pub ends_in : ℕ → Option ℕ → Bool
+ends_in row None = false
+ends_in row (Some closed) = closed == row
+
 module _ (fibers : List FiberReportView) (rows : ℕ) where
-  -- the bar that begins at this event, where these are the events from its row on
-  abbrev pub bar_from : Drawn → List Occurrence → Bar → Content
-  bar_from x list bar =
-      bar_line bar (closing_row x.event.fiber bar x.row list) (lane_x (lane_of fibers x.event.fiber) + aside bar) (row_y x.row)
-      (bar_end rows (closing_row x.event.fiber bar x.row list))
+  -- the bar that begins at this event; none that ends in the row where it begins
+  abbrev pub bar_to : Drawn → Bar → Option ℕ → Content
+  bar_to x bar closing =
+      if ends_in x.row closing then nothing
+      else bar_line bar closing (lane_x (lane_of fibers x.event.fiber) + aside bar) (row_y x.row) (bar_end rows closing)
 
-  abbrev pub bar_of : Drawn → List Occurrence → Option Bar → Content
+  -- where these are the events from it on
+  abbrev pub bar_of : Drawn → List Drawn → Option Bar → Content
   bar_of x list None = nothing
-  bar_of x list (Some bar) = bar_from x list bar
+  bar_of x list (Some bar) = bar_to x bar (closing_row x.event.fiber bar list)
 
-  -- those that begin at these events, which stand from this row on
-  abbrev pub bars_from : ℕ → List Occurrence → Content
-  bars_from row [] = nothing
-  bars_from row (o ∷ os) =
-      both (bar_of (record { row = row; event = o }) (o ∷ os) (life_at o.place))
-      (both (bar_of (record { row = row; event = o }) (o ∷ os) (bar_at o.event)) (bars_from (suc row) os))
+  -- those that begin at these events
+  abbrev pub bars_from : List Drawn → Content
+  bars_from [] = nothing
+  bars_from (x ∷ xs) =
+      both (bar_of x (x ∷ xs) (life_at x.event.place)) (both (bar_of x (x ∷ xs) (bar_at x.event.event)) (bars_from xs))
 
 module _ (fibers : List FiberReportView) where
   -- the line from an event to that queue, with what the event does there
@@ -106,10 +122,30 @@ module _ (fibers : List FiberReportView) where
   abbrev pub visit_of : Drawn → Content
   visit_of x = visit_for x (queue_at x.event.event)
 
-  -- of these events, which stand from this row on
-  abbrev pub visits_from : ℕ → List Occurrence → Content
-  visits_from row [] = nothing
-  visits_from row (o ∷ os) = both (visit_of (record { row = row; event = o })) (visits_from (suc row) os)
+  -- the line from the mark of several events of fiber f to that queue, with how many of them are there
+  abbrev pub times : ℕ → ℕ → ℕ → ℕ → Content
+  times row f q n =
+      both (line (codes "visit") (lane_x (lane_of fibers f)) (row_y row) (lane_x (length fibers + q)) (row_y row))
+      (label (codes "visited") (lane_x (length fibers + q) + BESIDE) (row_y row + BASE) (times_words n))
+
+  abbrev pub times_of : ℕ → ℕ → List Occurrence → ℕ → Content
+  times_of row f list q = if count_at q 0 list == 0 then nothing else times row f q (count_at q 0 list)
+
+  -- those to so many queues
+  abbrev pub all_times : ℕ → ℕ → List Occurrence → ℕ → Content
+  all_times row f list zero = nothing
+  all_times row f list (suc q) = both (all_times row f list q) (times_of row f list q)
+
+  -- what the events of a row do at so many queues
+  abbrev pub visits_of : ℕ → ℕ → List Occurrence → Content
+  visits_of queues row [] = nothing
+  visits_of queues row (o ∷ []) = visit_of (record { row = row; event = o })
+  visits_of queues row (o ∷ p ∷ os) = all_times row o.fiber (o ∷ p ∷ os) queues
+
+  -- and those of so many rows
+  abbrev pub visits_in : ℕ → List Drawn → ℕ → Content
+  visits_in queues list zero = nothing
+  visits_in queues list (suc row) = both (visits_in queues list row) (visits_of queues row (in_row row list))
 
   -- an arrow from an event in its row to another
   abbrev pub arrow : Drawn → Drawn → Cause → Content
@@ -124,15 +160,29 @@ module _ (fibers : List FiberReportView) where
   abbrev pub arrow_by : Drawn → Drawn → Content
   arrow_by x y = arrow_for x y (cause_of x.event y.event)
 
-  -- the arrows to y from these, which stand from this row on
-  abbrev pub arrows_to : Drawn → ℕ → List Occurrence → Content
-  arrows_to y row [] = nothing
-  arrows_to y row (x ∷ xs) = both (arrow_by (record { row = row; event = x }) y) (arrows_to y (suc row) xs)
+  -- the arrows to y from these
+  abbrev pub arrows_to : Drawn → List Drawn → Content
+  arrows_to y [] = nothing
+  arrows_to y (x ∷ xs) = both (arrow_by x y) (arrows_to y xs)
 
-  -- the arrows to these, which stand from this row on, each from those of the list above it
-  abbrev pub arrows_from : List Occurrence → ℕ → List Occurrence → Content
-  arrows_from list row [] = nothing
-  arrows_from list row (y ∷ ys) = both (arrows_to (record { row = row; event = y }) 0 (take row list)) (arrows_from list (suc row) ys)
+  -- the arrows to these, which stand from this place of the list on, each from those of the list above it
+  abbrev pub arrows_from : List Drawn → ℕ → List Drawn → Content
+  arrows_from list place [] = nothing
+  arrows_from list place (y ∷ ys) = both (arrows_to y (take place list)) (arrows_from list (suc place) ys)
+
+-- how many the events of a mark are
+abbrev pub count_label : ℕ → ℕ → ℕ → Content
+count_label lane row n = label (codes "count") (lane_x lane) (row_y row + BASE) (decimal n)
+
+module _ (names : List (List ℕ)) where
+  -- what stands in the mark of several events: the words of the events as a title, the box, and how many they are
+  abbrev pub fold_inside : ℕ → ℕ → List Occurrence → Content
+  fold_inside lane row list =
+      both (element tag.Title [] (words (fold_words names list))) (both (box (lane_x lane) (row_y row)) (count_label lane row (length list)))
+
+  -- that mark, in its lane and its row
+  abbrev pub fold : ℕ → ℕ → List Occurrence → Content
+  fold lane row list = element tag.Group (set_to key.Class (codes "fold") ∷ []) (fold_inside lane row list)
 
 module _ (names : List (List ℕ)) (fibers : List FiberReportView) where
   -- the mark of an event in its row, in its fiber's lane, with its words as a title
@@ -141,10 +191,16 @@ module _ (names : List (List ℕ)) (fibers : List FiberReportView) where
       (set_to key.Class (event_class o.event) ∷ number_of key.CenterX (lane_x (lane_of fibers o.fiber)) ∷ number_of key.CenterY (row_y row)
       ∷ number_of key.Radius RADIUS ∷ []) (element tag.Title [] (words (mark_words names o)))
 
-  -- those of these events, which stand from this row on
-  abbrev pub marks_from : ℕ → List Occurrence → Content
-  marks_from row [] = nothing
-  marks_from row (o ∷ os) = both (mark row o) (marks_from (suc row) os)
+  -- the mark of the events of a row
+  abbrev pub mark_of : ℕ → List Occurrence → Content
+  mark_of row [] = nothing
+  mark_of row (o ∷ []) = mark row o
+  mark_of row (o ∷ p ∷ os) = fold names (lane_of fibers o.fiber) row (o ∷ p ∷ os)
+
+  -- and those of so many rows
+  abbrev pub marks_in : List Drawn → ℕ → Content
+  marks_in list zero = nothing
+  marks_in list (suc row) = both (marks_in list row) (mark_of row (in_row row list))
 
 abbrev pub arrow_head : Content
 arrow_head = element tag.Marker
@@ -165,19 +221,26 @@ size lanes rows =
     ∷ number_of key.Height (height rows) ∷ []
 
 -- the lanes of fibers and queues, and the bars beside them
-abbrev pub ground_of : List (List ℕ) → List Blocked → List FiberReportView → List Occurrence → Content
-ground_of names blocked fibers list =
-    both (lanes_from names (length list) blocked 0 fibers)
-    (both (queue_lanes_from (length list) (length fibers) names) (bars_from fibers (length list) 0 list))
+abbrev pub ground_of : List (List ℕ) → List Blocked → List FiberReportView → SheetView → Content
+ground_of names blocked fibers sheet =
+    both (lanes_from names sheet.rows blocked 0 fibers)
+    (both (queue_lanes_from sheet.rows (length fibers) names) (bars_from fibers sheet.rows sheet.drawn))
 
 -- what happens on them
-abbrev pub figures_of : List (List ℕ) → List FiberReportView → List Occurrence → Content
-figures_of names fibers list = both (visits_from fibers 0 list) (both (arrows_from fibers list 0 list) (marks_from names fibers 0 list))
+abbrev pub figures_of : List (List ℕ) → List FiberReportView → SheetView → Content
+figures_of names fibers sheet =
+    both (visits_in fibers (length names) sheet.drawn sheet.rows)
+    (both (arrows_from fibers sheet.drawn 0 sheet.drawn) (marks_in names fibers sheet.drawn sheet.rows))
 
--- the picture of these fibers, with these events from top to bottom, where the script's queues have these names and blocked fibers wait for this
+-- the picture of these fibers with these events, where the script's queues have these names and blocked fibers wait for this
+abbrev pub drawing : List (List ℕ) → List Blocked → List FiberReportView → SheetView → Content
+drawing names blocked fibers sheet = element tag.Svg (size (length fibers + length names) sheet.rows)
+    (both (head (length fibers) (length sheet.drawn))
+    (both legend (both (ground_of names blocked fibers sheet) (figures_of names fibers sheet))))
+
+-- with these events from top to bottom
 abbrev pub picture : List (List ℕ) → List Blocked → List FiberReportView → List Occurrence → Content
-picture names blocked fibers list = element tag.Svg (size (length fibers + length names) (length list))
-    (both (head (length fibers) (length list)) (both legend (both (ground_of names blocked fibers list) (figures_of names fibers list))))
+picture names blocked fibers list = drawing names blocked fibers (sheet_of list)
 
 -- its text
 unfoldable pub picture_text : List (List ℕ) → List Blocked → List FiberReportView → List Occurrence → List ℕ

@@ -1,7 +1,8 @@
 -- What events do at queues.
-use Rattle.std.specs.Prelude.{ℕ, Option, Some, None, List, [], ◌++◌, codes, decimal}
+use Rattle.std.specs.Prelude.{ℕ, suc, ◌==◌, Bool, false, Option, Some, None, List, [], ◌∷◌, ◌++◌, codes, decimal, if◌then◌else◌}
 use Rattle.fx_term.specs.declared.event.Event.{Event}
 use Rattle.fx_term.specs.declared.event.Event.TheVariants as event
+use Rattle.fx_order.specs.declared.occurrence.Occurrence.{Occurrence}
 
 -- the queue that an event is at
 abbrev pub queue_at : Event → Option ℕ
@@ -23,3 +24,16 @@ visit_words (event.Got q v) = codes "-" ++ decimal v
 visit_words (event.Refused q) = codes "full"
 visit_words (event.Empty q) = codes "empty"
 visit_words _ = []
+
+-- the queue is this one
+abbrev pub is_queue : ℕ → Option ℕ → Bool
+is_queue q None = false
+is_queue q (Some p) = p == q
+
+-- n, and how many of these events are at queue q
+abbrev pub count_at : ℕ → ℕ → List Occurrence → ℕ
+count_at q n [] = n
+count_at q n (o ∷ os) = count_at q (if is_queue q (queue_at o.event) then suc n else n) os
+
+abbrev pub times_words : ℕ → List ℕ
+times_words n = decimal n ++ codes " times"

@@ -1,35 +1,14 @@
 //! The arrows from causes to what they caused.
-ghost use Rattle.std.specs.Prelude.{◌≡◌, ◌≤◌, ◌<◌, ◌++◌, length, take, OnOk, string_bytes};
+ghost use Rattle.std.specs.Prelude.{◌≡◌, ◌≤◌, ◌++◌, length, take, OnOk, string_bytes};
 ghost use Rattle.fx_svg.specs.Content.{rendering};
-ghost use Rattle.fx_picture.specs.Layout.{lane_of, lane_x, row_y};
 ghost use Rattle.fx_picture.specs.Picture.{arrow, arrow_by, arrows_to, arrows_from};
 
 use crate::cause::{Cause, cause_of};
-use crate::elements::{Point, push_line};
-use crate::layout::{MOST_EVENTS, lane_of, lane_x, row_y};
+use crate::drawn::{Drawn, place_of};
+use crate::elements::push_line;
+use crate::layout::MOST_EVENTS;
 use fx_model::FiberReport;
-use fx_order::Occurrence;
 use std::alloc::AllocError;
-
-/// An event, and the row where it is drawn.
-#[derive(Clone, Copy)]
-pub(crate) struct Drawn {
-    pub row: usize,
-    pub event: Occurrence,
-}
-
-/// Where the mark of an event stands.
-pub(crate) fn place_of(fibers: &[FiberReport], it: Drawn) -> Point
-    requires fibers { length fibers.now ≤ MOST_EVENTS }
-    requires row { it.row ≤ MOST_EVENTS }
-    ensures x { result.x ≡ lane_x (lane_of fibers.now it.event.fiber) }
-    ensures y { result.y ≡ row_y it.row }
-{
-    Point {
-        x: lane_x(lane_of(fibers, it.event.fiber)),
-        y: row_y(it.row),
-    }
-}
 
 /// Appends an arrow from the one mark to the other.
 fn push_arrow(
@@ -39,9 +18,7 @@ fn push_arrow(
     to: Drawn,
     cause: Cause,
 ) -> Result<(), AllocError>
-    requires fibers { length fibers.now ≤ MOST_EVENTS }
-    requires from { from.row ≤ MOST_EVENTS }
-    requires to { to.row ≤ MOST_EVENTS }
+    requires { length fibers.now ≤ MOST_EVENTS }
     ensures { OnOk result (string_bytes text.new ≡ string_bytes text.old
         ++ rendering (arrow fibers.now from to cause)) }
 {
@@ -57,9 +34,7 @@ fn push_arrow_of(
     from: Drawn,
     to: Drawn,
 ) -> Result<(), AllocError>
-    requires fibers { length fibers.now ≤ MOST_EVENTS }
-    requires from { from.row ≤ MOST_EVENTS }
-    requires to { to.row ≤ MOST_EVENTS }
+    requires { length fibers.now ≤ MOST_EVENTS }
     ensures { OnOk result (string_bytes text.new ≡ string_bytes text.old
         ++ rendering (arrow_by fibers.now from to)) }
 {
@@ -73,20 +48,16 @@ fn push_arrow_of(
 fn push_arrows_to(
     text: &mut String,
     fibers: &[FiberReport],
-    above: &[Occurrence],
+    above: &[Drawn],
     to: Drawn,
 ) -> Result<(), AllocError>
-    requires fibers { length fibers.now ≤ MOST_EVENTS }
-    requires above { length above.now ≤ MOST_EVENTS }
-    requires to { to.row ≤ MOST_EVENTS }
+    requires { length fibers.now ≤ MOST_EVENTS }
     ensures { OnOk result (string_bytes text.new ≡ string_bytes text.old
-        ++ rendering (arrows_to fibers.now to 0 above.now)) }
+        ++ rendering (arrows_to fibers.now to above.now)) }
 {
-    let mut row = 0;
     let mut rest = above;
     while let Some((it, more)) = rest.split_first() {
-        push_arrow_of(text, fibers, Drawn { row, event: *it }, to)?;
-        row += 1;
+        push_arrow_of(text, fibers, *it, to)?;
         rest = more;
     }
     Ok(())
@@ -96,18 +67,18 @@ fn push_arrows_to(
 pub(crate) fn push_arrows(
     text: &mut String,
     fibers: &[FiberReport],
-    list: &[Occurrence],
+    list: &[Drawn],
 ) -> Result<(), AllocError>
     requires fibers { length fibers.now ≤ MOST_EVENTS }
-    requires rows { length list.now ≤ MOST_EVENTS }
+    requires list { length list.now ≤ MOST_EVENTS }
     ensures { OnOk result (string_bytes text.new ≡ string_bytes text.old
         ++ rendering (arrows_from fibers.now list.now 0 list.now)) }
 {
-    let mut row = 0;
+    let mut place = 0;
     let mut rest = list;
     while let Some((it, more)) = rest.split_first() {
-        push_arrows_to(text, fibers, &list[..row], Drawn { row, event: *it })?;
-        row += 1;
+        push_arrows_to(text, fibers, &list[..place], *it)?;
+        place += 1;
         rest = more;
     }
     Ok(())

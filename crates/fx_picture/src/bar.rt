@@ -2,7 +2,7 @@
 ghost use Rattle.std.specs.Prelude.{◌≡◌};
 ghost use Rattle.fx_picture.specs.Bars.{life_at, bar_at, is_end, is_release};
 
-use fx_order::Occurrence;
+use crate::drawn::Drawn;
 use fx_term::Event;
 use std::alloc::{AllocError, Global};
 
@@ -60,7 +60,7 @@ fn is_release(resource: u64, event: Event) -> bool
 }
 
 impl Bar {
-    ghost use Rattle.std.specs.Prelude.{◌≡◌, ◌≤◌, ◌<◌, ◌+◌, ◌*◌, ◌^◌, IfOk, IfSome, length, string_bytes};
+    ghost use Rattle.std.specs.Prelude.{◌≡◌, ◌≤◌, ◌+◌, ◌*◌, IfOk, string_bytes};
     ghost use Rattle.fx_picture.specs.Bars.{closes, closing_row, aside, bar_class, bar_words};
 
     /// Whether it ends at such an event of its fiber.
@@ -73,20 +73,15 @@ impl Bar {
         }
     }
 
-    /// Where it ends, if it does: the first row, from this one on, in which an event of that fiber closes it. These are
-    /// the events from that row on.
-    pub(crate) fn closing_row(self, fiber: u32, first: usize, list: &[Occurrence]) -> Option<usize>
-        requires { first + length list.now < 2 ^ 64 }
-        ensures row { result ≡ closing_row fiber self first list.now }
-        ensures within { IfSome result (λ row. row ≤ first + length list.now) }
+    /// The row where it ends, if it does: that of the first of these events of that fiber that closes it.
+    pub(crate) fn closing_row(self, fiber: u32, list: &[Drawn]) -> Option<u32>
+        ensures { result ≡ closing_row fiber self list.now }
     {
-        let mut row = first;
         let mut rest = list;
         while let Some((it, more)) = rest.split_first() {
-            if it.fiber == fiber && self.closes(it.event) {
-                return Some(row);
+            if it.event.fiber == fiber && self.closes(it.event.event) {
+                return Some(it.row);
             }
-            row += 1;
             rest = more;
         }
         None
@@ -104,7 +99,7 @@ impl Bar {
     }
 
     /// The name by which the style means one that ends in that row, or does not end.
-    pub(crate) fn class(self, closing: Option<usize>) -> &'static str
+    pub(crate) fn class(self, closing: Option<u32>) -> &'static str
         ensures { result.now ≡ bar_class self closing }
     {
         match (self, closing) {

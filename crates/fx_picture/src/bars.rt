@@ -1,21 +1,18 @@
 //! Draws the bars.
-ghost use Rattle.std.specs.Prelude.{◌≡◌, ◌≤◌, ◌<◌, ◌+◌, ◌++◌, length, OnOk, IfSome, string_bytes};
+ghost use Rattle.std.specs.Prelude.{◌≡◌, ◌≤◌, ◌++◌, length, OnOk, string_bytes};
 ghost use Rattle.fx_svg.specs.Content.{rendering};
 ghost use Rattle.fx_picture.specs.Bars.{closing_row};
-ghost use Rattle.fx_picture.specs.Picture.{bar_end, bar_line, bar_from, bar_of, bars_from};
+ghost use Rattle.fx_picture.specs.Picture.{bar_end, ends_in, bar_line, bar_to, bar_of, bars_from};
 
-use crate::arrows::Drawn;
 use crate::bar::{Bar, bar_at, life_at};
+use crate::drawn::Drawn;
 use crate::layout::{BOTTOM, MOST_EVENTS, lane_of, lane_x, row_y};
 use fx_model::FiberReport;
-use fx_order::Occurrence;
 use fx_svg::{Attribute, Key, Tag, Value, push_element, push_end_tag, push_start_tag};
 use std::alloc::{AllocError, Global};
 
 /// Where a bar ends beside so many rows: in its row, or where the lanes do.
-fn bar_end(rows: usize, closing: Option<usize>) -> u64
-    requires rows { rows ≤ MOST_EVENTS }
-    requires closing { IfSome closing (λ row. row ≤ MOST_EVENTS) }
+fn bar_end(rows: u32, closing: Option<u32>) -> u64
     ensures { result ≡ bar_end rows closing }
 {
     match closing {
@@ -24,12 +21,22 @@ fn bar_end(rows: usize, closing: Option<usize>) -> u64
     }
 }
 
+/// Whether a bar that is closed in that row or not ends in this one.
+fn ends_in(row: u32, closing: Option<u32>) -> bool
+    ensures { result ≡ ends_in row closing }
+{
+    match closing {
+        Some(closed) => closed == row,
+        None => false,
+    }
+}
+
 /// Appends a bar, which is closed in that row or not.
 fn push_bar_line(
     alloc: Global,
     text: &mut String,
     bar: Bar,
-    closing: Option<usize>,
+    closing: Option<u32>,
     x: u64,
     top: u64,
     bottom: u64,
@@ -65,77 +72,70 @@ fn push_bar_line(
     push_end_tag(text, Tag::Line)
 }
 
-/// Appends the bar that begins at this event, beside so many rows. These are the events from its row on.
-fn push_bar(
+/// Appends the bar that begins at this event, beside so many rows, and is closed in that row or not. There is none that
+/// ends in the row where it begins.
+fn push_bar_to(
     alloc: Global,
     text: &mut String,
     fibers: &[FiberReport],
-    rows: usize,
+    rows: u32,
     from: Drawn,
-    list: &[Occurrence],
     bar: Bar,
+    closing: Option<u32>,
 ) -> Result<(), AllocError>
-    requires fibers { length fibers.now ≤ MOST_EVENTS }
-    requires rows { rows ≤ MOST_EVENTS }
-    requires list { from.row + length list.now ≤ rows }
+    requires { length fibers.now ≤ MOST_EVENTS }
     ensures { OnOk result (string_bytes text.new ≡ string_bytes text.old
-        ++ rendering (bar_from fibers.now rows from list.now bar)) }
+        ++ rendering (bar_to fibers.now rows from bar closing)) }
 {
-    let closing = bar.closing_row(from.event.fiber, from.row, list);
+    if ends_in(from.row, closing) {
+        return Ok(());
+    }
     let x = lane_x(lane_of(fibers, from.event.fiber)) + bar.aside();
-    push_bar_line(
-        alloc,
-        text,
-        bar,
-        closing,
-        x,
-        row_y(from.row),
-        bar_end(rows, closing),
-    )
+    let top = row_y(from.row);
+    push_bar_line(alloc, text, bar, closing, x, top, bar_end(rows, closing))
 }
 
-/// Appends the bar that begins at this event, if one does.
+/// Appends the bar that begins at this event, if one does, beside so many rows. These are the events from it on.
 fn push_bar_of(
     alloc: Global,
     text: &mut String,
     fibers: &[FiberReport],
-    rows: usize,
+    rows: u32,
     from: Drawn,
-    list: &[Occurrence],
+    list: &[Drawn],
     bar: Option<Bar>,
 ) -> Result<(), AllocError>
-    requires fibers { length fibers.now ≤ MOST_EVENTS }
-    requires rows { rows ≤ MOST_EVENTS }
-    requires list { from.row + length list.now ≤ rows }
+    requires { length fibers.now ≤ MOST_EVENTS }
     ensures { OnOk result (string_bytes text.new ≡ string_bytes text.old
         ++ rendering (bar_of fibers.now rows from list.now bar)) }
 {
     match bar {
-        Some(bar) => push_bar(alloc, text, fibers, rows, from, list, bar),
+        Some(bar) => {
+            let closing = bar.closing_row(from.event.fiber, list);
+            push_bar_to(alloc, text, fibers, rows, from, bar, closing)
+        }
         None => Ok(()),
     }
 }
 
-/// Appends the bars that begin at these events.
+/// Appends the bars that begin at these events, beside so many rows.
 pub(crate) fn push_bars(
     alloc: Global,
     text: &mut String,
     fibers: &[FiberReport],
-    list: &[Occurrence],
+    rows: u32,
+    list: &[Drawn],
 ) -> Result<(), AllocError>
-    requires fibers { length fibers.now ≤ MOST_EVENTS }
-    requires rows { length list.now ≤ MOST_EVENTS }
+    requires { length fibers.now ≤ MOST_EVENTS }
     ensures { OnOk result (string_bytes text.new ≡ string_bytes text.old
-        ++ rendering (bars_from fibers.now (length list.now) 0 list.now)) }
+        ++ rendering (bars_from fibers.now rows list.now)) }
 {
-    let rows = list.len();
-    let mut row = 0;
     let mut rest = list;
     while let Some((it, more)) = rest.split_first() {
-        let from = Drawn { row, event: *it };
-        push_bar_of(alloc, text, fibers, rows, from, rest, life_at(it.place))?;
-        push_bar_of(alloc, text, fibers, rows, from, rest, bar_at(it.event))?;
-        row += 1;
+        let life = life_at(it.event.place);
+        push_bar_of(alloc, text, fibers, rows, *it, rest, life)?;
+        let bar = bar_at(it.event.event);
+        push_bar_of(alloc, text, fibers, rows, *it, rest, bar)?;
         rest = more;
     }
     Ok(())

@@ -1,7 +1,7 @@
 //! What a picture is made of.
-ghost use Rattle.std.specs.Prelude.{◌≡◌, ◌++◌, OnOk, string_bytes};
+ghost use Rattle.std.specs.Prelude.{◌≡◌, ◌≤◌, ◌++◌, OnOk, string_bytes};
 ghost use Rattle.fx_svg.specs.Content.{rendering};
-ghost use Rattle.fx_picture.specs.Elements.{label, line};
+ghost use Rattle.fx_picture.specs.Elements.{label, line, box};
 
 use fx_svg::{Attribute, Key, Tag, Value, push_element, push_empty_element};
 use std::alloc::AllocError;
@@ -12,6 +12,11 @@ pub(crate) struct Point {
     pub x: u64,
     pub y: u64,
 }
+
+/// How wide and how high the box of several events is, from its middle.
+pub(crate) const HALF_WIDTH: u64 = 14;
+
+pub(crate) const HALF_HEIGHT: u64 = 7;
 
 /// Appends words in the picture.
 pub(crate) fn push_label(
@@ -73,4 +78,32 @@ pub(crate) fn push_line(
         },
     ];
     push_empty_element(text, Tag::Line, &ends)
+}
+
+/// Appends the box of several events.
+pub(crate) fn push_box(text: &mut String, center: Point) -> Result<(), AllocError>
+    requires x { HALF_WIDTH ≤ center.x }
+    requires y { HALF_HEIGHT ≤ center.y }
+    ensures { OnOk result
+        (string_bytes text.new ≡ string_bytes text.old ++ rendering (box center.x center.y)) }
+{
+    let sides = [
+        Attribute {
+            key: Key::X,
+            value: Value::Number(center.x - HALF_WIDTH),
+        },
+        Attribute {
+            key: Key::Y,
+            value: Value::Number(center.y - HALF_HEIGHT),
+        },
+        Attribute {
+            key: Key::Width,
+            value: Value::Number(2 * HALF_WIDTH),
+        },
+        Attribute {
+            key: Key::Height,
+            value: Value::Number(2 * HALF_HEIGHT),
+        },
+    ];
+    push_empty_element(text, Tag::Rectangle, &sides)
 }

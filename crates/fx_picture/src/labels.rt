@@ -1,7 +1,7 @@
 //! The words of a picture.
 ghost use Rattle.std.specs.Prelude.{◌≡◌, ◌++◌, ◌∷◌, [], OnOk, IfOk, string_bytes};
 ghost use Rattle.fx_report.specs.Text.{names_of, outcome_text, queue_name, event_text, state_text, number, end_text};
-ghost use Rattle.fx_picture.specs.Labels.{mark_words, fiber_words, wait_of, wait_words, count_words};
+ghost use Rattle.fx_picture.specs.Labels.{mark_words, line_words, fold_words, fiber_words, wait_of, wait_words, count_words};
 
 use fx_model::{FiberReport, Source, State};
 use fx_order::Occurrence;
@@ -85,6 +85,20 @@ fn push_event(text: &mut String, queues: &[QueueDecl], event: Event) -> Result<(
     }
 }
 
+/// Appends the line of a trace that has the event, without its end.
+fn push_mark_words(
+    text: &mut String,
+    queues: &[QueueDecl],
+    it: Occurrence,
+) -> Result<(), AllocError>
+    ensures { OnOk result (string_bytes text.new
+        ≡ string_bytes text.old ++ mark_words (names_of queues.now) it) }
+{
+    let (fiber, stamp) = (it.fiber, it.stamp);
+    write!(text, "{fiber} {stamp} ")?;
+    push_event(text, queues, it.event)
+}
+
 /// The words of a mark: the line of its event in a trace.
 pub(crate) fn mark_words(
     alloc: Global,
@@ -94,9 +108,40 @@ pub(crate) fn mark_words(
     ensures { IfOk result (λ text. string_bytes text ≡ mark_words (names_of queues.now) it) }
 {
     let mut text = String::new(alloc);
-    let (fiber, stamp) = (it.fiber, it.stamp);
-    write!(text, "{fiber} {stamp} ")?;
-    push_event(&mut text, queues, it.event)?;
+    push_mark_words(&mut text, queues, it)?;
+    Ok(text)
+}
+
+/// Appends these events, a line each, with the end of the line before it.
+fn push_lines(
+    text: &mut String,
+    queues: &[QueueDecl],
+    list: &[Occurrence],
+) -> Result<(), AllocError>
+    ensures { OnOk result (string_bytes text.new
+        ≡ string_bytes text.old ++ line_words (names_of queues.now) list.now) }
+{
+    let mut rest = list;
+    while let Some((it, more)) = rest.split_first() {
+        text.push('\n')?;
+        push_mark_words(text, queues, *it)?;
+        rest = more;
+    }
+    Ok(())
+}
+
+/// The words of the mark of several events: how many they are, and a line for each.
+pub(crate) fn fold_words(
+    alloc: Global,
+    queues: &[QueueDecl],
+    list: &[Occurrence],
+) -> Result<String, AllocError>
+    ensures { IfOk result
+        (λ text. string_bytes text ≡ fold_words (names_of queues.now) list.now) }
+{
+    let count = list.len();
+    let mut text = format!(in alloc; "{count} events:")?;
+    push_lines(&mut text, queues, list)?;
     Ok(text)
 }
 

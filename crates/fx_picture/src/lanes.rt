@@ -5,12 +5,13 @@ ghost use Rattle.fx_svg.specs.Content.{rendering};
 ghost use Rattle.fx_picture.specs.Layout.{lane_x};
 ghost use Rattle.fx_picture.specs.Labels.{fiber_words, wait_of};
 ghost use Rattle.fx_picture.specs.Elements.{label};
-ghost use Rattle.fx_picture.specs.Picture.{upright, state_label, wait_labels, foot, lane_content, lanes_from};
+ghost use Rattle.fx_picture.specs.Picture.{upright, names_again, lane_names, state_label, wait_labels, foot, lane_content, lanes_from};
 
 use crate::elements::{Point, push_label, push_line};
 use crate::labels::{end_words, fiber_words, wait_of, wait_words};
 use crate::layout::{
-    ABOVE, BELOW, BOTTOM, MOST_EVENTS, MOST_LANES, NEXT_ABOVE, NEXT_BELOW, TOP, lane_x, row_y,
+    ABOVE, AGAIN, BANDS, BELOW, BOTTOM, MOST_EVENTS, MOST_LANES, NEXT_ABOVE, NEXT_BELOW, TOP,
+    band_y, lane_x, row_y,
 };
 use crate::look::end_class;
 use fx_model::{FiberReport, Source};
@@ -22,17 +23,57 @@ use std::alloc::{AllocError, Global};
 pub(crate) fn push_upright(
     text: &mut String,
     class: &str,
-    rows: usize,
+    rows: u32,
     lane: usize,
 ) -> Result<(), AllocError>
-    requires rows { rows ≤ MOST_EVENTS }
-    requires lane { lane ≤ MOST_LANES }
+    requires { lane ≤ MOST_LANES }
     ensures { OnOk result (string_bytes text.new ≡ string_bytes text.old
         ++ rendering (upright class.now rows lane)) }
 {
     let x = lane_x(lane);
     let bottom = row_y(rows) + BOTTOM;
     push_line(text, class, Point { x, y: TOP }, Point { x, y: bottom })
+}
+
+/// Appends so often again what a lane is called, each below some rows more.
+fn push_names_again(
+    text: &mut String,
+    lane: usize,
+    bands: u32,
+    words: &str,
+) -> Result<(), AllocError>
+    requires lane { lane ≤ MOST_LANES }
+    requires bands { bands ≤ BANDS }
+    ensures { OnOk result (string_bytes text.new ≡ string_bytes text.old
+        ++ rendering (names_again lane words.now bands)) }
+{
+    for band in 0..bands {
+        let at = Point {
+            x: lane_x(lane),
+            y: band_y(band),
+        };
+        push_label(text, "again", at, words)?;
+    }
+    Ok(())
+}
+
+/// Appends what a lane is called, above it and beside so many rows.
+pub(crate) fn push_names(
+    text: &mut String,
+    lane: usize,
+    rows: u32,
+    words: &str,
+) -> Result<(), AllocError>
+    requires { lane ≤ MOST_LANES }
+    ensures { OnOk result (string_bytes text.new ≡ string_bytes text.old
+        ++ rendering (lane_names lane rows words.now)) }
+{
+    let at = Point {
+        x: lane_x(lane),
+        y: ABOVE,
+    };
+    push_label(text, "name", at, words)?;
+    push_names_again(text, lane, rows / AGAIN, words)
 }
 
 /// Appends at that height how a fiber is at the end.
@@ -57,15 +98,15 @@ fn push_name(
     alloc: Global,
     text: &mut String,
     lane: usize,
+    rows: u32,
     fiber: &FiberReport,
 ) -> Result<(), AllocError>
     requires { lane ≤ MOST_LANES }
     ensures { OnOk result (string_bytes text.new ≡ string_bytes text.old
-        ++ rendering (label (codes "name") (lane_x lane) ABOVE (fiber_words fiber.now))) }
+        ++ rendering (lane_names lane rows (fiber_words fiber.now))) }
 {
     let words = fiber_words(alloc, fiber)?;
-    let x = lane_x(lane);
-    push_label(text, "name", Point { x, y: ABOVE }, &words)
+    push_names(text, lane, rows, &words)
 }
 
 /// Appends what a fiber waits for.
@@ -73,12 +114,11 @@ fn push_wait(
     alloc: Global,
     text: &mut String,
     queues: &[QueueDecl],
-    rows: usize,
+    rows: u32,
     lane: usize,
     source: Source,
 ) -> Result<(), AllocError>
-    requires rows { rows ≤ MOST_EVENTS }
-    requires lane { lane ≤ MOST_LANES }
+    requires { lane ≤ MOST_LANES }
     ensures { OnOk result (string_bytes text.new ≡ string_bytes text.old
         ++ rendering (wait_labels (names_of queues.now) rows lane source)) }
 {
@@ -95,13 +135,12 @@ fn push_foot_of(
     alloc: Global,
     text: &mut String,
     queues: &[QueueDecl],
-    rows: usize,
+    rows: u32,
     lane: usize,
     fiber: &FiberReport,
     source: Option<Source>,
 ) -> Result<(), AllocError>
-    requires rows { rows ≤ MOST_EVENTS }
-    requires lane { lane ≤ MOST_LANES }
+    requires { lane ≤ MOST_LANES }
     ensures { OnOk result (string_bytes text.new ≡ string_bytes text.old
         ++ rendering (foot (names_of queues.now) rows lane fiber.now source)) }
 {
@@ -117,12 +156,11 @@ fn push_foot(
     text: &mut String,
     queues: &[QueueDecl],
     blocked: &[Blocked],
-    rows: usize,
+    rows: u32,
     lane: usize,
     fiber: &FiberReport,
 ) -> Result<(), AllocError>
-    requires rows { rows ≤ MOST_EVENTS }
-    requires lane { lane ≤ MOST_LANES }
+    requires { lane ≤ MOST_LANES }
     ensures { OnOk result (string_bytes text.new ≡ string_bytes text.old ++ rendering
         (foot (names_of queues.now) rows lane fiber.now (wait_of blocked.now fiber.now.id))) }
 {
@@ -136,17 +174,16 @@ fn push_lane(
     text: &mut String,
     queues: &[QueueDecl],
     blocked: &[Blocked],
-    rows: usize,
+    rows: u32,
     lane: usize,
     fiber: &FiberReport,
 ) -> Result<(), AllocError>
-    requires rows { rows ≤ MOST_EVENTS }
-    requires lane { lane ≤ MOST_LANES }
+    requires { lane ≤ MOST_LANES }
     ensures { OnOk result (string_bytes text.new ≡ string_bytes text.old
         ++ rendering (lane_content (names_of queues.now) rows lane blocked.now fiber.now)) }
 {
     push_upright(text, "lane", rows, lane)?;
-    push_name(alloc, text, lane, fiber)?;
+    push_name(alloc, text, lane, rows, fiber)?;
     push_state(alloc, text, lane, NEXT_ABOVE, fiber)?;
     push_foot(alloc, text, queues, blocked, rows, lane, fiber)
 }
@@ -157,11 +194,10 @@ pub(crate) fn push_lanes(
     text: &mut String,
     queues: &[QueueDecl],
     blocked: &[Blocked],
-    rows: usize,
+    rows: u32,
     fibers: &[FiberReport],
 ) -> Result<(), AllocError>
-    requires rows { rows ≤ MOST_EVENTS }
-    requires fibers { length fibers.now ≤ MOST_EVENTS }
+    requires { length fibers.now ≤ MOST_EVENTS }
     ensures { OnOk result (string_bytes text.new ≡ string_bytes text.old
         ++ rendering (lanes_from (names_of queues.now) rows blocked.now 0 fibers.now)) }
 {

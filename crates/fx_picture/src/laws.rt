@@ -1,5 +1,6 @@
 //! Laws of pictures. A function here does nothing: its contract is the law.
-ghost use Rattle.std.specs.Prelude.{◌≡◌, ℕ, ◌<◌, Bool, true, Some, List, slice_get, Contains};
+ghost use Rattle.std.specs.Prelude.{◌≡◌, ℕ, ◌<◌, Bool, true, Some, None, List, map, slice_get, Contains};
+ghost use Rattle.std.specs.List.Sorted.{IsPermutation};
 ghost use Rattle.fx_term.specs.declared.event.Event.{Event};
 ghost use Rattle.fx_term.specs.declared.event.Event.TheVariants.{Seen};
 ghost use Rattle.fx_term.specs.Script.{ScriptView};
@@ -14,11 +15,14 @@ ghost use Rattle.fx_svg.specs.Content.{Content};
 ghost use Rattle.fx_svg.specs.WellFormed.{is_well_formed};
 ghost use Rattle.fx_picture.specs.declared.cause.Cause.{Cause};
 ghost use Rattle.fx_picture.specs.declared.bar.Bar.{Bar};
+ghost use Rattle.fx_picture.specs.declared.drawn.Drawn.{Drawn};
 ghost use Rattle.fx_picture.specs.Causes.{cause_of};
+ghost use Rattle.fx_picture.specs.Folds.{event_of, is_quiet, in_row, sheet_of};
 ghost use Rattle.fx_picture.specs.IsClosed.{Begins, IsClosed};
 ghost use Rattle.fx_picture.specs.Has.{Has, IsArrow};
+ghost use Rattle.fx_picture.specs.IsFolded.{SharesRow, IsRun, events_in};
 ghost use Rattle.fx_picture.specs.IsDrawn.{SaysItsCause, IsDrawn, HasArrow};
-ghost use Rattle.fx_picture.specs.Picture.{arrow, arrows_from, picture, picture_text};
+ghost use Rattle.fx_picture.specs.Picture.{arrow, arrows_from, mark_of, picture, picture_text};
 
 /// The text of a picture is a well-formed document.
 pub fn picture_is_well_formed()
@@ -26,20 +30,42 @@ pub fn picture_is_well_formed()
         (list : List Occurrence) → is_well_formed (picture_text names blocked fibers list) ≡ true }
 {}
 
-/// What stands among the arrows of a picture is an arrow from an event to one below it that stands on it.
+/// What stands among the arrows of a picture is an arrow from an event to one below it that stands on it, and goes down.
 pub fn arrows_join_causes()
-    ensures { (fibers : List FiberReportView) (list : List Occurrence) (e : Content)
-        → Has (arrows_from fibers list 0 list) e → IsArrow fibers list e }
+    ensures down { (list : List Occurrence) (above below : ℕ) (first second : Drawn) (cause : Cause) → above < below
+        → slice_get (sheet_of list).drawn above ≡ Some first → slice_get (sheet_of list).drawn below ≡ Some second
+        → cause_of first.event second.event ≡ Some cause → first.row < second.row }
+    ensures joins { (fibers : List FiberReportView) (list : List Occurrence) (e : Content)
+        → Has (arrows_from fibers (sheet_of list).drawn 0 (sheet_of list).drawn) e
+        → IsArrow fibers (sheet_of list).drawn e }
 {}
 
 /// From each event to each one below it that stands on it there is an arrow.
 pub fn no_arrow_is_missing()
     ensures { (names : List (List ℕ)) (blocked : List Blocked) (fibers : List FiberReportView)
-        (list : List Occurrence) (above below : ℕ) (first second : Occurrence) (cause : Cause) → above < below
-        → slice_get list above ≡ Some first → slice_get list below ≡ Some second
-        → cause_of first second ≡ Some cause → Has (picture names blocked fibers list)
-        (arrow fibers (record { row = above; event = first })
-        (record { row = below; event = second }) cause) }
+        (list : List Occurrence) (above below : ℕ) (first second : Drawn) (cause : Cause) → above < below
+        → slice_get (sheet_of list).drawn above ≡ Some first → slice_get (sheet_of list).drawn below ≡ Some second
+        → cause_of first.event second.event ≡ Some cause
+        → Has (picture names blocked fibers list) (arrow fibers first second cause) }
+{}
+
+/// Each event of the list has its place in one row, and each row has its mark.
+pub fn each_event_is_drawn_once()
+    ensures same { (list : List Occurrence) → map event_of (sheet_of list).drawn ≡ list }
+    ensures once { (list : List Occurrence) → IsPermutation list (events_in (sheet_of list).rows (sheet_of list).drawn) }
+    ensures marked { (names : List (List ℕ)) (blocked : List Blocked) (fibers : List FiberReportView)
+        (list : List Occurrence) (place : ℕ) (x : Drawn) → slice_get (sheet_of list).drawn place ≡ Some x
+        → Contains (in_row x.row (sheet_of list).drawn) x.event × Has (picture names blocked fibers list)
+        (mark_of names fibers x.row (in_row x.row (sheet_of list).drawn)) }
+{}
+
+/// What shares a row is a run of one lane in which no arrow begins or ends, and nothing of that lane between them stands
+/// elsewhere.
+pub fn folds_are_runs()
+    ensures run { (list : List Occurrence) (i j : ℕ) (x y : Drawn) → SharesRow (sheet_of list).drawn i j x y
+        → IsRun (sheet_of list).drawn i j x y }
+    ensures from { (x y : Occurrence) → is_quiet x ≡ true → cause_of x y ≡ None }
+    ensures to { (x y : Occurrence) → is_quiet y ≡ true → cause_of x y ≡ None }
 {}
 
 /// Where the list is an order in which causes come first, there is an arrow to each event that says what it

@@ -2,9 +2,9 @@
 ghost use Rattle.std.specs.Prelude.{◌≡◌, ◌≤◌, ◌+◌, ◌++◌, length, map, OnOk, string_bytes};
 ghost use Rattle.fx_svg.specs.Content.{rendering};
 ghost use Rattle.fx_picture.specs.Legend.{view_entry, legend_y, said, mark_entry, mark_entries};
-ghost use Rattle.fx_picture.specs.Legend.{line_sample, line_entry, line_entries, marks_of_fibers, marks_of_queues, lines, legend};
+ghost use Rattle.fx_picture.specs.Legend.{line_sample, line_entry, line_entries, marks_of_fibers, marks_of_queues, lines, fold_sample, fold_entry, legend};
 
-use crate::elements::{Point, push_label, push_line};
+use crate::elements::{HALF_HEIGHT, Point, push_box, push_label, push_line};
 use crate::layout::{BASE, LEGEND_BOTTOM, ROW};
 use crate::marks::RADIUS;
 use fx_svg::{Attribute, Key, Tag, Value, push_empty_element, push_end_tag, push_start_tag};
@@ -23,7 +23,7 @@ pub(crate) const LINE_RIGHT: u64 = 36;
 pub(crate) const WORDS: u64 = 46;
 
 /// How many rows it has at most.
-pub(crate) const MOST_ENTRIES: usize = 18;
+pub(crate) const MOST_ENTRIES: usize = 19;
 
 /// What is shown, by the name by which the style means it, and what that is in words.
 #[derive(Clone, Copy)]
@@ -240,6 +240,32 @@ fn push_lines(text: &mut String) -> Result<(), AllocError>
     push_line_entries(text, 11, &entries)
 }
 
+/// Appends the mark of several events, at that height.
+fn push_fold_sample(text: &mut String, y: u64) -> Result<(), AllocError>
+    requires { HALF_HEIGHT ≤ y }
+    ensures { OnOk result
+        (string_bytes text.new ≡ string_bytes text.old ++ rendering (fold_sample y)) }
+{
+    let class = [Attribute {
+        key: Key::Class,
+        value: Value::Words("fold"),
+    }];
+    push_start_tag(text, Tag::Group, &class)?;
+    push_box(text, Point { x: MARK, y })?;
+    push_end_tag(text, Tag::Group)
+}
+
+/// Appends the mark of several events, with its words beside it.
+fn push_fold_entry(text: &mut String, row: usize, words: &str) -> Result<(), AllocError>
+    requires { row ≤ MOST_ENTRIES }
+    ensures { OnOk result
+        (string_bytes text.new ≡ string_bytes text.old ++ rendering (fold_entry row words.now)) }
+{
+    let y = legend_y(row);
+    push_fold_sample(text, y)?;
+    push_said(text, y, words)
+}
+
 /// Appends the legend.
 pub(crate) fn push_legend(text: &mut String) -> Result<(), AllocError>
     ensures { OnOk result (string_bytes text.new ≡ string_bytes text.old ++ rendering legend) }
@@ -252,5 +278,6 @@ pub(crate) fn push_legend(text: &mut String) -> Result<(), AllocError>
     push_marks_of_fibers(text)?;
     push_marks_of_queues(text)?;
     push_lines(text)?;
+    push_fold_entry(text, 18, "so many events of a loop")?;
     push_end_tag(text, Tag::Group)
 }

@@ -5,6 +5,7 @@
 //! | a fiber | a lane from top to bottom, with its number and how it is at the end above, and what it waits for below |
 //! | a queue | a lane right of these |
 //! | an event | a mark in its fiber's lane, with the line of its trace as a title |
+//! | a long run of events at queues and of resources | one mark, with how many they are, and their lines as a title |
 //! | an event at a queue | a line to that queue's lane, with what was put or taken |
 //! | a cause | an arrow from its mark to that of the event that it caused |
 //! | a life, clean-ups, a resource that is held | a bar from the event that begins it to that which ends it |
@@ -13,8 +14,9 @@
 //!
 //! Its rules:
 //!
-//! 1. Time goes down: the events of all fibers are drawn in the one order of `fx_order`, a row each. So each
-//!    is drawn once, and causes stand above what they caused.
+//! 1. Time goes down: the events of all fibers are drawn in the one order of `fx_order`, a row each, but for
+//!    those of one lane, eight or more after each other, at which no arrow can begin or end: they stand in the
+//!    row of the first. So each event is in one row, and arrows go down.
 //! 2. An arrow goes to a fiber's first event from the start of the fiber; to an event that tells of the end of
 //!    a fiber, by its number, from that end; and to one that sees a request, from each request for its fiber
 //!    above it.
@@ -34,6 +36,7 @@ mod arrows;
 mod bar;
 mod bars;
 mod cause;
+mod drawn;
 mod elements;
 mod fault;
 mod labels;
@@ -45,6 +48,8 @@ mod look;
 mod marks;
 mod picture;
 mod queues;
+mod sheet;
+mod tail;
 mod visit;
 
 pub use cause::Cause;

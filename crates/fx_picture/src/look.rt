@@ -10,7 +10,8 @@ use fx_term::{Event, Outcome};
 /// The style of all elements.
 pub(crate) const STYLE: &str =
     "svg{background:#fff;font:12px sans-serif}text{text-anchor:middle;fill:#333}\
-    .name{font-weight:bold}.said,.visited{text-anchor:start}.visited{fill:#00664b}\
+    .name{font-weight:bold}.again{fill:#777}.said,.visited{text-anchor:start}.visited{fill:#00664b}\
+    .visited,.again{paint-order:stroke;stroke:#fff;stroke-width:3px}\
     .waits{fill:#a34700;font-weight:bold}.lane{stroke:#e4e4e4}\
     .queue{stroke:#009e73;stroke-width:3;opacity:.35}.life{stroke:#888;stroke-width:2}\
     .unwinding{stroke:#d55e00;stroke-width:14;opacity:.25}.holding{stroke:#cc79a7;stroke-width:4}\
@@ -20,7 +21,8 @@ pub(crate) const STYLE: &str =
     .free{stroke:#cc79a7}.cancel{stroke:#d55e00;fill:#d55e00}.seen{stroke:#d55e00}\
     .end{stroke:#333;fill:#333}.gone{stroke:#d55e00;fill:#333}\
     .arrow{stroke-width:1.5;marker-end:url(#head)}.dashed{stroke-dasharray:5 3}\
-    .visit.put{marker-end:url(#head)}.visit.got{marker-start:url(#head)}\
+    .visit{stroke:#009e73}.fold rect{fill:#fff;stroke:#555;stroke-width:2}\
+    .count{font-size:10px;font-weight:bold}.visit.put{marker-end:url(#head)}.visit.got{marker-start:url(#head)}\
     .visit.none{stroke:#555;stroke-dasharray:1 3}";
 
 /// The name by which the style means the marks of such events.

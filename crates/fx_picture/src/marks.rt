@@ -1,12 +1,15 @@
 //! The marks of events.
-ghost use Rattle.std.specs.Prelude.{◌≡◌, ◌≤◌, ◌<◌, ◌++◌, length, OnOk, string_bytes};
+ghost use Rattle.std.specs.Prelude.{◌≡◌, ◌≤◌, ◌++◌, length, OnOk, string_bytes};
 ghost use Rattle.fx_report.specs.Text.{names_of};
 ghost use Rattle.fx_svg.specs.Content.{rendering};
-ghost use Rattle.fx_picture.specs.Picture.{mark, marks_from};
+ghost use Rattle.fx_picture.specs.Picture.{mark, count_label, fold_inside, fold, mark_of, marks_in};
 
-use crate::labels::mark_words;
-use crate::layout::{MOST_EVENTS, lane_of, lane_x, row_y};
+use crate::drawn::Drawn;
+use crate::elements::{Point, push_box, push_label};
+use crate::labels::{fold_words, mark_words};
+use crate::layout::{BASE, MOST_EVENTS, MOST_LANES, lane_of, lane_x, row_y};
 use crate::look::event_class;
+use crate::sheet::in_row;
 use fx_model::FiberReport;
 use fx_order::Occurrence;
 use fx_svg::{Attribute, Key, Tag, Value, push_element, push_end_tag, push_start_tag};
@@ -22,11 +25,10 @@ fn push_mark(
     text: &mut String,
     queues: &[QueueDecl],
     fibers: &[FiberReport],
-    row: usize,
+    row: u32,
     it: Occurrence,
 ) -> Result<(), AllocError>
-    requires fibers { length fibers.now ≤ MOST_EVENTS }
-    requires row { row ≤ MOST_EVENTS }
+    requires { length fibers.now ≤ MOST_EVENTS }
     ensures { OnOk result (string_bytes text.new ≡ string_bytes text.old
         ++ rendering (mark (names_of queues.now) fibers.now row it)) }
 {
@@ -54,25 +56,107 @@ fn push_mark(
     push_end_tag(text, Tag::Circle)
 }
 
-/// Appends the marks of these events, each in its row.
+/// Appends how many events a mark of several has.
+fn push_count(
+    alloc: Global,
+    text: &mut String,
+    lane: usize,
+    row: u32,
+    count: usize,
+) -> Result<(), AllocError>
+    requires { lane ≤ MOST_LANES }
+    ensures { OnOk result (string_bytes text.new ≡ string_bytes text.old
+        ++ rendering (count_label lane row count)) }
+{
+    let counted = format!(in alloc; "{count}")?;
+    let (x, y) = (lane_x(lane), row_y(row) + BASE);
+    push_label(text, "count", Point { x, y }, &counted)
+}
+
+/// Appends what stands in the mark of these events: their words as a title, a box, and how many they are.
+fn push_fold_inside(
+    alloc: Global,
+    text: &mut String,
+    queues: &[QueueDecl],
+    lane: usize,
+    row: u32,
+    list: &[Occurrence],
+) -> Result<(), AllocError>
+    requires { lane ≤ MOST_LANES }
+    ensures { OnOk result (string_bytes text.new ≡ string_bytes text.old
+        ++ rendering (fold_inside (names_of queues.now) lane row list.now)) }
+{
+    let title = fold_words(alloc, queues, list)?;
+    let center = Point {
+        x: lane_x(lane),
+        y: row_y(row),
+    };
+    push_element(text, Tag::Title, &[], &title)?;
+    push_box(text, center)?;
+    push_count(alloc, text, lane, row, list.len())
+}
+
+/// Appends the mark of these events, which stand in this row of that lane.
+fn push_fold(
+    alloc: Global,
+    text: &mut String,
+    queues: &[QueueDecl],
+    lane: usize,
+    row: u32,
+    list: &[Occurrence],
+) -> Result<(), AllocError>
+    requires { lane ≤ MOST_LANES }
+    ensures { OnOk result (string_bytes text.new ≡ string_bytes text.old
+        ++ rendering (fold (names_of queues.now) lane row list.now)) }
+{
+    let class = [Attribute {
+        key: Key::Class,
+        value: Value::Words("fold"),
+    }];
+    push_start_tag(text, Tag::Group, &class)?;
+    push_fold_inside(alloc, text, queues, lane, row, list)?;
+    push_end_tag(text, Tag::Group)
+}
+
+/// Appends the mark of the events of a row.
+fn push_mark_of(
+    alloc: Global,
+    text: &mut String,
+    queues: &[QueueDecl],
+    fibers: &[FiberReport],
+    row: u32,
+    list: &[Occurrence],
+) -> Result<(), AllocError>
+    requires { length fibers.now ≤ MOST_EVENTS }
+    ensures { OnOk result (string_bytes text.new ≡ string_bytes text.old
+        ++ rendering (mark_of (names_of queues.now) fibers.now row list.now)) }
+{
+    match list {
+        [] => Ok(()),
+        [event] => push_mark(alloc, text, queues, fibers, row, *event),
+        [first, ..] => {
+            let lane = lane_of(fibers, first.fiber);
+            push_fold(alloc, text, queues, lane, row, list)
+        }
+    }
+}
+
+/// Appends the marks of so many rows of these events.
 pub(crate) fn push_marks(
     alloc: Global,
     text: &mut String,
     queues: &[QueueDecl],
     fibers: &[FiberReport],
-    list: &[Occurrence],
+    drawn: &[Drawn],
+    rows: u32,
 ) -> Result<(), AllocError>
-    requires fibers { length fibers.now ≤ MOST_EVENTS }
-    requires rows { length list.now ≤ MOST_EVENTS }
+    requires { length fibers.now ≤ MOST_EVENTS }
     ensures { OnOk result (string_bytes text.new ≡ string_bytes text.old
-        ++ rendering (marks_from (names_of queues.now) fibers.now 0 list.now)) }
+        ++ rendering (marks_in (names_of queues.now) fibers.now drawn.now rows)) }
 {
-    let mut row = 0;
-    let mut rest = list;
-    while let Some((it, more)) = rest.split_first() {
-        push_mark(alloc, text, queues, fibers, row, *it)?;
-        row += 1;
-        rest = more;
+    for row in 0..rows {
+        let list = in_row(alloc, row, drawn)?;
+        push_mark_of(alloc, text, queues, fibers, row, &list)?;
     }
     Ok(())
 }

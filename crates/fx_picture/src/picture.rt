@@ -6,7 +6,8 @@ ghost use Rattle.fx_svg.specs.Content.{start_tag, rendering};
 ghost use Rattle.fx_svg.specs.declared.tag.Tag.TheVariants.{Svg};
 ghost use Rattle.fx_order.specs.Occurrences.{occurrences};
 ghost use Rattle.fx_picture.specs.declared.fault.PictureFault.TheVariants.{TooLarge};
-ghost use Rattle.fx_picture.specs.Picture.{arrow_head, size, head, ground_of, figures_of, picture_text};
+ghost use Rattle.fx_picture.specs.Folds.{view_sheet};
+ghost use Rattle.fx_picture.specs.Picture.{arrow_head, size, head, ground_of, figures_of, drawing, picture_text};
 ghost use Rattle.fx_picture.specs.IsPicture.{IsPicture, IsTooLarge};
 
 use crate::arrows::push_arrows;
@@ -19,6 +20,7 @@ use crate::legend::push_legend;
 use crate::look::STYLE;
 use crate::marks::push_marks;
 use crate::queues::{push_queue_lanes, push_visits};
+use crate::sheet::{Sheet, sheet_of};
 use fx_model::{FiberReport, Report};
 use fx_order::{Occurrence, order_by_stamp};
 use fx_report::Blocked;
@@ -79,9 +81,8 @@ fn push_arrow_head(text: &mut String) -> Result<(), AllocError>
 }
 
 /// Appends the start tag of a picture with so many lanes and rows.
-fn push_start(text: &mut String, lanes: usize, rows: usize) -> Result<(), AllocError>
-    requires lanes { lanes ≤ MOST_LANES }
-    requires rows { rows ≤ MOST_EVENTS }
+fn push_start(text: &mut String, lanes: usize, rows: u32) -> Result<(), AllocError>
+    requires { lanes ≤ MOST_LANES }
     ensures { OnOk result (string_bytes text.new ≡ string_bytes text.old
         ++ start_tag Svg (size lanes rows)) }
 {
@@ -131,17 +132,16 @@ fn push_ground(
     queues: &[QueueDecl],
     blocked: &[Blocked],
     fibers: &[FiberReport],
-    list: &[Occurrence],
+    sheet: &Sheet,
 ) -> Result<(), AllocError>
     requires fibers { length fibers.now ≤ MOST_EVENTS }
-    requires rows { length list.now ≤ MOST_EVENTS }
     requires queues { length queues.now ≤ MOST_EVENTS }
-    ensures { OnOk result (string_bytes text.new ≡ string_bytes text.old
-        ++ rendering (ground_of (names_of queues.now) blocked.now fibers.now list.now)) }
+    ensures { OnOk result (string_bytes text.new ≡ string_bytes text.old ++ rendering
+        (ground_of (names_of queues.now) blocked.now fibers.now (view_sheet sheet.now))) }
 {
-    push_lanes(alloc, text, queues, blocked, list.len(), fibers)?;
-    push_queue_lanes(alloc, text, list.len(), fibers.len(), queues)?;
-    push_bars(alloc, text, fibers, list)
+    push_lanes(alloc, text, queues, blocked, sheet.rows, fibers)?;
+    push_queue_lanes(alloc, text, sheet.rows, fibers.len(), queues)?;
+    push_bars(alloc, text, fibers, sheet.rows, &sheet.drawn)
 }
 
 /// Appends what happens on the lanes of these fibers and queues.
@@ -150,19 +150,43 @@ fn push_figures(
     text: &mut String,
     queues: &[QueueDecl],
     fibers: &[FiberReport],
-    list: &[Occurrence],
+    sheet: &Sheet,
 ) -> Result<(), AllocError>
     requires fibers { length fibers.now ≤ MOST_EVENTS }
-    requires rows { length list.now ≤ MOST_EVENTS }
-    ensures { OnOk result (string_bytes text.new ≡ string_bytes text.old
-        ++ rendering (figures_of (names_of queues.now) fibers.now list.now)) }
+    requires queues { length queues.now ≤ MOST_EVENTS }
+    requires events { length sheet.now.drawn.items ≤ MOST_EVENTS }
+    ensures { OnOk result (string_bytes text.new ≡ string_bytes text.old ++ rendering
+        (figures_of (names_of queues.now) fibers.now (view_sheet sheet.now))) }
 {
-    push_visits(alloc, text, fibers, list)?;
-    push_arrows(text, fibers, list)?;
-    push_marks(alloc, text, queues, fibers, list)
+    push_visits(alloc, text, fibers, queues.len(), &sheet.drawn, sheet.rows)?;
+    push_arrows(text, fibers, &sheet.drawn)?;
+    push_marks(alloc, text, queues, fibers, &sheet.drawn, sheet.rows)
 }
 
 /// Appends the picture of these events of these fibers, of which these are blocked.
+fn push_drawing(
+    alloc: Global,
+    text: &mut String,
+    queues: &[QueueDecl],
+    blocked: &[Blocked],
+    fibers: &[FiberReport],
+    sheet: &Sheet,
+) -> Result<(), AllocError>
+    requires fibers { length fibers.now ≤ MOST_EVENTS }
+    requires queues { length queues.now ≤ MOST_EVENTS }
+    requires events { length sheet.now.drawn.items ≤ MOST_EVENTS }
+    ensures { OnOk result (string_bytes text.new ≡ string_bytes text.old ++ rendering
+        (drawing (names_of queues.now) blocked.now fibers.now (view_sheet sheet.now))) }
+{
+    push_start(text, fibers.len() + queues.len(), sheet.rows)?;
+    push_head(alloc, text, fibers.len(), sheet.drawn.len())?;
+    push_legend(text)?;
+    push_ground(alloc, text, queues, blocked, fibers, sheet)?;
+    push_figures(alloc, text, queues, fibers, sheet)?;
+    push_end_tag(text, Tag::Svg)
+}
+
+/// Appends the picture with these events from top to bottom.
 fn push_picture(
     alloc: Global,
     text: &mut String,
@@ -172,17 +196,13 @@ fn push_picture(
     list: &[Occurrence],
 ) -> Result<(), AllocError>
     requires fibers { length fibers.now ≤ MOST_EVENTS }
-    requires rows { length list.now ≤ MOST_EVENTS }
+    requires events { length list.now ≤ MOST_EVENTS }
     requires queues { length queues.now ≤ MOST_EVENTS }
     ensures { OnOk result (string_bytes text.new ≡ string_bytes text.old
         ++ picture_text (names_of queues.now) blocked.now fibers.now list.now) }
 {
-    push_start(text, fibers.len() + queues.len(), list.len())?;
-    push_head(alloc, text, fibers.len(), list.len())?;
-    push_legend(text)?;
-    push_ground(alloc, text, queues, blocked, fibers, list)?;
-    push_figures(alloc, text, queues, fibers, list)?;
-    push_end_tag(text, Tag::Svg)
+    let sheet = sheet_of(alloc, list)?;
+    push_drawing(alloc, text, queues, blocked, fibers, &sheet)
 }
 
 /// The text of the picture with these events.
@@ -194,7 +214,7 @@ fn draw(
     list: &[Occurrence],
 ) -> Result<String, AllocError>
     requires fibers { length report.now.fibers ≤ MOST_EVENTS }
-    requires rows { length list.now ≤ MOST_EVENTS }
+    requires events { length list.now ≤ MOST_EVENTS }
     requires queues { length script.now.queues.items ≤ MOST_EVENTS }
     ensures { IfOk result (λ text. string_bytes text
         ≡ picture_text (queue_names (meaning script.now)) blocked.now report.now.fibers list.now) }

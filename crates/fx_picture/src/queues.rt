@@ -3,13 +3,14 @@
 ghost use Rattle.std.specs.Prelude.{◌≡◌, ◌≤◌, ◌<◌, ◌++◌, ◌∷◌, [], length, OnOk, IfOk, codes, string_bytes};
 ghost use Rattle.fx_report.specs.Text.{names_of};
 ghost use Rattle.fx_svg.specs.Content.{rendering};
-ghost use Rattle.fx_picture.specs.Picture.{queue_lane, queue_lanes_from, visit_line, visit, visit_of, visits_from};
+ghost use Rattle.fx_picture.specs.Picture.{queue_lane, queue_lanes_from, visit_line, visit, visit_of, times, times_of, all_times, visits_of, visits_in};
 
-use crate::arrows::{Drawn, place_of};
+use crate::drawn::{Drawn, place_of};
 use crate::elements::{Point, push_label, push_line};
-use crate::lanes::push_upright;
-use crate::layout::{ABOVE, BASE, MOST_EVENTS, MOST_LANES, lane_x, row_y};
-use crate::visit::{queue_at, visit_class, visit_words};
+use crate::lanes::{push_names, push_upright};
+use crate::layout::{BASE, MOST_EVENTS, MOST_LANES, lane_of, lane_x, row_y};
+use crate::sheet::in_row;
+use crate::visit::{count_at, queue_at, times_words, visit_class, visit_words};
 use fx_model::FiberReport;
 use fx_order::Occurrence;
 use fx_text::QueueDecl;
@@ -22,31 +23,28 @@ pub(crate) const BESIDE: u64 = 8;
 fn push_queue_lane(
     alloc: Global,
     text: &mut String,
-    rows: usize,
+    rows: u32,
     lane: usize,
     queue: &QueueDecl,
 ) -> Result<(), AllocError>
-    requires rows { rows ≤ MOST_EVENTS }
-    requires lane { lane ≤ MOST_LANES }
+    requires { lane ≤ MOST_LANES }
     ensures { OnOk result (string_bytes text.new ≡ string_bytes text.old
         ++ rendering (queue_lane rows lane (string_bytes queue.now.name))) }
 {
-    let x = lane_x(lane);
     let mut name = String::from_str(alloc, "queue ")?;
     name.push_str(&queue.name)?;
     push_upright(text, "queue", rows, lane)?;
-    push_label(text, "name", Point { x, y: ABOVE }, &name)
+    push_names(text, lane, rows, &name)
 }
 
 /// Appends the lanes of these queues, beside so many rows, from this lane on.
 pub(crate) fn push_queue_lanes(
     alloc: Global,
     text: &mut String,
-    rows: usize,
+    rows: u32,
     first: usize,
     queues: &[QueueDecl],
 ) -> Result<(), AllocError>
-    requires rows { rows ≤ MOST_EVENTS }
     requires first { first ≤ MOST_EVENTS }
     requires queues { length queues.now ≤ MOST_EVENTS }
     ensures { OnOk result (string_bytes text.new ≡ string_bytes text.old
@@ -69,8 +67,7 @@ fn push_way(
     from: Drawn,
     queue: u8,
 ) -> Result<(), AllocError>
-    requires fibers { length fibers.now ≤ MOST_EVENTS }
-    requires row { from.row ≤ MOST_EVENTS }
+    requires { length fibers.now ≤ MOST_EVENTS }
     ensures { OnOk result (string_bytes text.new ≡ string_bytes text.old
         ++ rendering (visit_line fibers.now from queue)) }
 {
@@ -90,8 +87,7 @@ fn push_visit(
     from: Drawn,
     queue: u8,
 ) -> Result<(), AllocError>
-    requires fibers { length fibers.now ≤ MOST_EVENTS }
-    requires row { from.row ≤ MOST_EVENTS }
+    requires { length fibers.now ≤ MOST_EVENTS }
     ensures { OnOk result (string_bytes text.new ≡ string_bytes text.old
         ++ rendering (visit fibers.now from queue)) }
 {
@@ -109,8 +105,7 @@ fn push_visit_of(
     fibers: &[FiberReport],
     from: Drawn,
 ) -> Result<(), AllocError>
-    requires fibers { length fibers.now ≤ MOST_EVENTS }
-    requires row { from.row ≤ MOST_EVENTS }
+    requires { length fibers.now ≤ MOST_EVENTS }
     ensures { OnOk result (string_bytes text.new ≡ string_bytes text.old
         ++ rendering (visit_of fibers.now from)) }
 {
@@ -120,24 +115,114 @@ fn push_visit_of(
     }
 }
 
-/// Appends what each event does at a queue.
+/// Appends the line from the mark of several events of that fiber to that queue, with how many of them are there.
+fn push_times(
+    alloc: Global,
+    text: &mut String,
+    fibers: &[FiberReport],
+    row: u32,
+    fiber: u32,
+    queue: usize,
+    count: usize,
+) -> Result<(), AllocError>
+    requires fibers { length fibers.now ≤ MOST_EVENTS }
+    requires queue { queue ≤ MOST_EVENTS }
+    ensures { OnOk result (string_bytes text.new ≡ string_bytes text.old
+        ++ rendering (times fibers.now row fiber queue count)) }
+{
+    let words = times_words(alloc, count)?;
+    let from = lane_x(lane_of(fibers, fiber));
+    let to = lane_x(fibers.len() + queue);
+    let y = row_y(row);
+    push_line(text, "visit", Point { x: from, y }, Point { x: to, y })?;
+    let beside = Point {
+        x: to + BESIDE,
+        y: y + BASE,
+    };
+    push_label(text, "visited", beside, &words)
+}
+
+/// Appends that line, if some of these events are at that queue.
+fn push_times_of(
+    alloc: Global,
+    text: &mut String,
+    fibers: &[FiberReport],
+    row: u32,
+    fiber: u32,
+    list: &[Occurrence],
+    queue: usize,
+) -> Result<(), AllocError>
+    requires fibers { length fibers.now ≤ MOST_EVENTS }
+    requires queue { queue ≤ MOST_EVENTS }
+    ensures { OnOk result (string_bytes text.new ≡ string_bytes text.old
+        ++ rendering (times_of fibers.now row fiber list.now queue)) }
+{
+    let count = count_at(queue, list);
+    if count == 0 {
+        return Ok(());
+    }
+    push_times(alloc, text, fibers, row, fiber, queue, count)
+}
+
+/// Appends these lines for so many queues.
+fn push_all_times(
+    alloc: Global,
+    text: &mut String,
+    fibers: &[FiberReport],
+    row: u32,
+    fiber: u32,
+    list: &[Occurrence],
+    queues: usize,
+) -> Result<(), AllocError>
+    requires fibers { length fibers.now ≤ MOST_EVENTS }
+    requires queues { queues ≤ MOST_EVENTS }
+    ensures { OnOk result (string_bytes text.new ≡ string_bytes text.old
+        ++ rendering (all_times fibers.now row fiber list.now queues)) }
+{
+    for queue in 0..queues {
+        push_times_of(alloc, text, fibers, row, fiber, list, queue)?;
+    }
+    Ok(())
+}
+
+/// Appends what the events of a row do at so many queues.
+fn push_visits_of(
+    alloc: Global,
+    text: &mut String,
+    fibers: &[FiberReport],
+    queues: usize,
+    row: u32,
+    list: &[Occurrence],
+) -> Result<(), AllocError>
+    requires fibers { length fibers.now ≤ MOST_EVENTS }
+    requires queues { queues ≤ MOST_EVENTS }
+    ensures { OnOk result (string_bytes text.new ≡ string_bytes text.old
+        ++ rendering (visits_of fibers.now queues row list.now)) }
+{
+    match list {
+        [] => Ok(()),
+        [event] => push_visit_of(alloc, text, fibers, Drawn { row, event: *event }),
+        [first, ..] => push_all_times(alloc, text, fibers, row, first.fiber, list, queues),
+    }
+}
+
+/// Appends what the events of so many rows do at so many queues.
 pub(crate) fn push_visits(
     alloc: Global,
     text: &mut String,
     fibers: &[FiberReport],
-    list: &[Occurrence],
+    queues: usize,
+    drawn: &[Drawn],
+    rows: u32,
 ) -> Result<(), AllocError>
     requires fibers { length fibers.now ≤ MOST_EVENTS }
-    requires rows { length list.now ≤ MOST_EVENTS }
+    requires queues { queues ≤ MOST_EVENTS }
     ensures { OnOk result (string_bytes text.new ≡ string_bytes text.old
-        ++ rendering (visits_from fibers.now 0 list.now)) }
+        ++ rendering (visits_in fibers.now queues drawn.now rows)) }
 {
-    let mut row = 0;
-    let mut rest = list;
-    while let Some((it, more)) = rest.split_first() {
-        push_visit_of(alloc, text, fibers, Drawn { row, event: *it })?;
-        row += 1;
-        rest = more;
+    for row in 0..rows {
+        let list = in_row(alloc, row, drawn)?;
+        push_visits_of(alloc, text, fibers, queues, row, &list)?;
     }
     Ok(())
 }

@@ -11,7 +11,7 @@ use std::test::Fail;
 
 /// What stands in the picture: rows are 18 apart from 64 on, and lanes 96 from 260 on.
 static DRAWN: [&str; 14] = [
-    "<svg xmlns=\"http://www.w3.org/2000/svg\" role=\"img\" width=\"452\" height=\"360\"><title>",
+    "<svg xmlns=\"http://www.w3.org/2000/svg\" role=\"img\" width=\"452\" height=\"378\"><title>",
     "<desc>2 fibers and 7 events. Each fiber",
     "<line class=\"lane\" x1=\"260\" y1=\"44\" x2=\"260\" y2=\"200\"></line>",
     "<text class=\"name\" x=\"356\" y=\"20\">fiber 1</text>",
@@ -27,9 +27,18 @@ static DRAWN: [&str; 14] = [
     "<circle class=\"end\" cx=\"260\" cy=\"172\" r=\"5\"><title>0 7 ended succeeded 6</title>\n</circle>\n</svg>\n",
 ];
 
+/// What stands in that of a fiber which does nine things, of which the first is no part of a run, and ends.
+static FOLDED: [&str; 5] = [
+    "width=\"452\" height=\"378\"><title>",
+    "<circle class=\"put\" cx=\"260\" cy=\"64\" r=\"5\"><title>0 1 put jobs 0</title>\n</circle>",
+    "<g class=\"fold\"><title>8 events:&#10;0 2 put jobs 1&#10;0 3 put jobs 2&#10;0 4 put jobs 3&#10;0 5 put jobs 4",
+    "<rect x=\"246\" y=\"75\" width=\"28\" height=\"14\"></rect>\n<text class=\"count\" x=\"260\" y=\"86\">8</text>\n</g>",
+    "<text class=\"visited\" x=\"364\" y=\"86\">8 times</text>",
+];
+
 /// What stands in that of a fiber which waits, holds a resource and has put an element.
 static HELD: [&str; 7] = [
-    "width=\"452\" height=\"360\"><title>",
+    "width=\"452\" height=\"378\"><title>",
     "<text class=\"name\" x=\"356\" y=\"20\">queue jobs</text>",
     "<text class=\"waits\" x=\"260\" y=\"36\">blocked</text>",
     "<text class=\"waits\" x=\"260\" y=\"144\">room in jobs</text>",
@@ -80,6 +89,18 @@ fn waiting(alloc: Global) -> Result<Report, AllocError> {
     Ok(report_with(alloc, fibers))
 }
 
+/// The main fiber puts nine elements, and ends.
+fn looping(alloc: Global) -> Result<Report, AllocError> {
+    let mut main = Vec::new(alloc);
+    for value in 0..9u64 {
+        main.push(stamped(value + 1, Put(0, value)))?;
+    }
+    main.push(stamped(10, Ended(Succeeded(6))))?;
+    let mut fibers = Vec::new(alloc);
+    fibers.push(fiber(alloc, 0, State::Ended, &main)?)?;
+    Ok(report_with(alloc, fibers))
+}
+
 fn canceled(alloc: Global) -> Result<Report, AllocError> {
     let main = [
         stamped(1, Start(1)),
@@ -117,6 +138,16 @@ fn draws_what_is_held_and_waited_for(rt: HostRuntime) -> Result<(), Fail> {
     }];
     let text = format_picture(rt.alloc(), &script, &waiting(rt.alloc())?, &blocked)?;
     for drawn in &HELD {
+        assert!(rt; text.contains(*drawn));
+    }
+    Ok(())
+}
+
+#[test]
+fn folds_a_loop(rt: HostRuntime) -> Result<(), Fail> {
+    let script = parse(rt.alloc(), b"(queue jobs 1) (main (pure 6))")?;
+    let text = format_picture(rt.alloc(), &script, &looping(rt.alloc())?, &[])?;
+    for drawn in &FOLDED {
         assert!(rt; text.contains(*drawn));
     }
     Ok(())

@@ -6,8 +6,8 @@ use Rattle.fx_picture.proofs.arrows.push_arrows.Given as goal
 -- what is written so far, and the other arrows, are all
 abbrev pub invariant-loop-it : goal.invariant-loop-it
 invariant-loop-it l = record {
-  rows : l.row + length l.rest ≡ length l.list;
-  written : string_bytes l.text ++ rendering (arrows_from l.fibers l.list l.row l.rest)
+  places : l.place + length l.rest ≡ length l.list;
+  written : string_bytes l.text ++ rendering (arrows_from l.fibers l.list l.place l.rest)
       ≡ string_bytes l.fn.text ++ rendering (arrows_from l.fibers l.list 0 l.list);
 }
 

@@ -1,5 +1,7 @@
+use Rattle.fx_picture.specs.Folds.{sheet_of}
 use Rattle.fx_picture.proofs.ArrowsDrawn.{is_arrow}
+use Rattle.fx_picture.proofs.Quiet.{goes_down}
 use Rattle.fx_picture.proofs.laws.arrows_join_causes.Goals as goal
 
 pub returns : goal.returns
-returns c = is_arrow
+returns c = record { down = goes_down; joins = λ fibers list. is_arrow fibers (sheet_of list).drawn }

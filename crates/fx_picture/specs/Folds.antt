@@ -1,0 +1,82 @@
+-- Which events of a picture stand in one row: those of a long run of one lane in which no arrow begins or ends, as a loop makes it.
+use Rattle.std.specs.Prelude.{ℕ, suc, ◌+◌, ◌==◌, nat_lt, nat_le, Bool, true, false, not, ◌&&◌, List, [], ◌∷◌, ◌++◌, if◌then◌else◌}
+use Rattle.fx_term.specs.declared.event.Event.{Event}
+use Rattle.fx_term.specs.declared.event.Event.TheVariants as event
+use Rattle.fx_order.specs.declared.occurrence.Occurrence.{Occurrence}
+use Rattle.fx_picture.specs.declared.drawn.Drawn.{Drawn}
+use Rattle.fx_picture.specs.declared.sheet.Sheet.{Sheet}
+use Rattle.fx_picture.specs.declared.tail.Tail.{Tail}
+use Rattle.fx_picture.specs.declared.tail.TheConstants.{LEAST_RUN}
+
+-- what is done to queues and to resources
+abbrev pub is_work : Event → Bool
+is_work (event.Put q v) = true
+is_work (event.Got q v) = true
+is_work (event.Refused q) = true
+is_work (event.Empty q) = true
+is_work (event.Acquired k) = true
+is_work (event.Begin k) = true
+is_work (event.End k) = true
+is_work _ = false
+
+-- an event at which no arrow begins or ends
+abbrev pub is_quiet : Occurrence → Bool
+is_quiet o = not (o.place == 0) && is_work o.event
+
+-- what stands last in the lane of fiber f is this; what does below one event more
+abbrev pub next_tail : ℕ → Tail → Drawn → Tail
+next_tail f t x = if x.event.fiber == f then (record { run = if is_quiet x.event then suc t.run else 0; row = x.row }) else t
+
+abbrev pub tail_from : ℕ → Tail → List Drawn → Tail
+tail_from f t [] = t
+tail_from f t (x ∷ xs) = tail_from f (next_tail f t x) xs
+
+abbrev pub no_tail : Tail
+no_tail = record { run = 0; row = 0 }
+
+-- what stands last in the lane of fiber f, where these are drawn
+abbrev pub tail_of : ℕ → List Drawn → Tail
+tail_of f xs = tail_from f no_tail xs
+
+-- n, and how many quiet events of fiber f come next in its lane
+abbrev pub run_below : ℕ → ℕ → List Occurrence → ℕ
+run_below f n [] = n
+run_below f n (o ∷ os) = if o.fiber == f then (if is_quiet o then run_below f (suc n) os else n) else run_below f n os
+
+-- the event goes into the row of what stands last in its lane: both are quiet, and of one long run. These events follow it
+abbrev pub joins : Tail → Occurrence → List Occurrence → Bool
+joins t o below = is_quiet o && nat_lt 0 t.run && nat_le LEAST_RUN (t.run + run_below o.fiber 1 below)
+
+-- the events of a picture, each with its row, and how many rows there are
+pub record SheetView : Type 0 where
+  pub drawn : List Drawn
+  pub rows : ℕ
+
+abbrev pub view_sheet : Sheet → SheetView
+view_sheet s = record { drawn = s.drawn.items; rows = s.rows }
+
+module _ (above : List Drawn) (rows : ℕ) (o : Occurrence) (below : List Occurrence) where
+  abbrev pub joins_above : Bool
+  joins_above = joins (tail_of o.fiber above) o below
+
+  abbrev pub with_row : Drawn
+  with_row = record { row = if joins_above then (tail_of o.fiber above).row else rows; event = o }
+
+  abbrev pub rows_with : ℕ
+  rows_with = if joins_above then rows else suc rows
+
+-- below so many rows, which have these
+abbrev pub sheet_from : List Drawn → ℕ → List Occurrence → SheetView
+sheet_from above rows [] = record { drawn = above; rows = rows }
+sheet_from above rows (o ∷ os) = sheet_from (above ++ with_row above rows o os ∷ []) (rows_with above rows o os) os
+
+abbrev pub sheet_of : List Occurrence → SheetView
+sheet_of list = sheet_from [] 0 list
+
+abbrev pub event_of : Drawn → Occurrence
+event_of x = x.event
+
+-- the events in a row
+abbrev pub in_row : ℕ → List Drawn → List Occurrence
+in_row row [] = []
+in_row row (x ∷ xs) = if x.row == row then x.event ∷ in_row row xs else in_row row xs
