@@ -22,7 +22,7 @@ use Rattle.fx_plain.specs.WholeMachine.{StartedFiber, WholeMachine}
 use Rattle.fx_plain.proofs.ChosenRuns.{replay_settles}
 use Rattle.fx_plain.proofs.LawfulRuns.{IsKept, run_keeps}
 use Rattle.fx_plain.proofs.OneReport.{one_replay}
-use Rattle.fx_explore.specs.Told.{Halt, Told, halt_of, told_of}
+use Rattle.fx_explore.specs.Told.{HaltedFiber, Told, halt_of, told_of}
 use Rattle.fx_explore.proofs.ToldReports.{text_is_told}
 use Rattle.fx_findings.specs.declared.explored.Finding.{Finding}
 use Rattle.fx_findings.specs.Explored.{view_told, schedule_of, is_blocked, IsFinding}
@@ -68,7 +68,7 @@ one_more false true p q e f = absurd cc
 one_more false false p q e f = refl
 
 blocked_told : (xs : List FiberReportView) → All IsToldEnded xs
-    → list_any (λ (h : Halt). not (is_some h.outcome)) (map halt_of xs) ≡ not (list_all (λ (x : FiberReportView). x.has_ended) xs)
+    → list_any (λ (h : HaltedFiber). not (is_some h.outcome)) (map halt_of xs) ≡ not (list_all (λ (x : FiberReportView). x.has_ended) xs)
 unfolding IsToldEnded
 blocked_told [] a = refl
 blocked_told (x ∷ xs) a =

@@ -36,7 +36,7 @@ mod telling;
 mod write;
 
 pub use compared::{Compared, UNEXPECTED, compare};
-pub use explored::{Explored, Finding, Halt, Told};
+pub use explored::{Explored, Finding, HaltedFiber, Told};
 pub use exploring::explore;
 pub use status::{INCOMPLETE, explored_status};
 pub use write::format_explored;

@@ -6,7 +6,7 @@ ghost use Rattle.fx_explore.specs.Told.{value_line};
 ghost use Rattle.fx_findings.specs.Text.{pick_text, schedule_line, ending_text, counts_text, last_line};
 ghost use Rattle.fx_findings.specs.Compared.{cut_text, judged_text, judged_line};
 
-use crate::explored::Halt;
+use crate::explored::HaltedFiber;
 use fx_search::Ending;
 use fx_term::Outcome;
 use fx_text::{Pick, QueueDecl};
@@ -81,7 +81,7 @@ fn push_end(text: &mut String, outcome: Outcome) -> Result<(), AllocError>
 }
 
 /// Appends the line of a fiber that halted so.
-pub(crate) fn push_halt_line(text: &mut String, halt: Halt) -> Result<(), AllocError>
+pub(crate) fn push_halt_line(text: &mut String, halt: HaltedFiber) -> Result<(), AllocError>
     ensures { OnOk result
         (string_bytes text.new ≡ string_bytes text.old ++ halt_line halt.id halt.outcome) }
 {

@@ -8,12 +8,12 @@ ghost use Rattle.fx_explore.specs.Told.{told_line, value_lines, told_text};
 ghost use Rattle.fx_findings.specs.Explored.{view_halt, view_told};
 ghost use Rattle.fx_findings.specs.Text.{finding_text, explored_text};
 
-use crate::explored::{Explored, Finding, Halt, Told};
+use crate::explored::{Explored, Finding, HaltedFiber, Told};
 use crate::lines::{end_line, push_halt_line, push_last_line, push_schedule_line, push_value_line};
 use fx_text::{QueueDecl, Script};
 use std::alloc::{AllocError, Global};
 
-fn push_halt_lines(text: &mut String, halts: &[Halt]) -> Result<(), AllocError>
+fn push_halt_lines(text: &mut String, halts: &[HaltedFiber]) -> Result<(), AllocError>
     ensures { OnOk result (string_bytes text.new
         ≡ string_bytes text.old ++ flat_map told_line (map view_halt halts.now)) }
 {

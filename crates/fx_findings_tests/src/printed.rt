@@ -1,7 +1,7 @@
 //! What is printed of findings that are made by hand, and their statuses.
 use fx_findings::{
-    Compared, Explored, Finding, Halt, INCOMPLETE, Told, UNEXPECTED, compare, explored_status,
-    format_explored,
+    Compared, Explored, Finding, HaltedFiber, INCOMPLETE, Told, UNEXPECTED, compare,
+    explored_status, format_explored,
 };
 use fx_report::{BLOCKED, ENDED};
 use fx_search::Ending;
@@ -13,7 +13,7 @@ use std::test::Fail;
 /// A finding: how each fiber halted, what is left in each queue, and the schedule.
 #[derive(Clone, Copy)]
 struct Row<'a> {
-    halts: &'a [Halt],
+    halts: &'a [HaltedFiber],
     left: &'a [&'a [u64]],
     schedule: Option<&'a [Pick]>,
 }
@@ -21,11 +21,11 @@ struct Row<'a> {
 /// A report in which fiber 1 waits for good.
 const WAITS: Row<'static> = Row {
     halts: &[
-        Halt {
+        HaltedFiber {
             id: 0,
             outcome: Some(Outcome::Succeeded(99)),
         },
-        Halt {
+        HaltedFiber {
             id: 1,
             outcome: None,
         },
@@ -37,11 +37,11 @@ const WAITS: Row<'static> = Row {
 /// One in which all fibers ended, of which no schedule is known.
 const ENDS: Row<'static> = Row {
     halts: &[
-        Halt {
+        HaltedFiber {
             id: 0,
             outcome: Some(Outcome::Errored(3)),
         },
-        Halt {
+        HaltedFiber {
             id: 12,
             outcome: Some(Outcome::Canceled),
         },
@@ -52,7 +52,7 @@ const ENDS: Row<'static> = Row {
 
 /// One that the run without a schedule has.
 const UNCHOSEN: Row<'static> = Row {
-    halts: &[Halt {
+    halts: &[HaltedFiber {
         id: 0,
         outcome: Some(Outcome::Succeeded(0)),
     }],

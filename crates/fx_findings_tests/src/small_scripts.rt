@@ -1,5 +1,5 @@
 //! Small scripts, and what can be told of their runs, by the rules.
-use fx_findings::{Finding, Halt, explore};
+use fx_findings::{Finding, HaltedFiber, explore};
 use fx_search::Ending;
 use fx_term::Outcome;
 use fx_text::parse;
@@ -111,7 +111,7 @@ fn are_left(left: &[Vec<u64>], row: &[&[u64]]) -> bool {
 }
 
 /// Whether the fibers, from 0 on, halted with these outcomes.
-fn have_halted(halts: &[Halt], outcomes: &[Option<Outcome>]) -> bool {
+fn have_halted(halts: &[HaltedFiber], outcomes: &[Option<Outcome>]) -> bool {
     for ((id, outcome), halt) in (0..4096).zip(outcomes).zip(halts) {
         if halt.id != id || halt.outcome != *outcome {
             return false;
