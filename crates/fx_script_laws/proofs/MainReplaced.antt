@@ -32,9 +32,24 @@ unseen_all r f quiet (l ∷ ls) h =
     one _ asked e = cc
 
 -- another first one
-abbrev first_as : {A : Type 0} → A → (ℕ → A) → ℕ → A
+abbrev pub first_as : {A : Type 0} → A → (ℕ → A) → ℕ → A
 first_as a g zero = a
 first_as a g (suc n) = g (suc n)
+
+-- fibers begin as before, but for the main one, which nobody starts
+module _ (origin : ℕ → Origin) (first : Origin) where
+  pub begins_as_new : (low : ℕ) → 1 ≤ low → (ls : List Label) → All (BeginsAs origin) ls → All (IsStartRight low) ls → All (BeginsAs (first_as first origin)) ls
+  begins_as_new low some [] h right = All-nil (BeginsAs (first_as first origin))
+  begins_as_new low some (l ∷ ls) h right =
+      All-cons (BeginsAs (first_as first origin)) l ls (one l (All-head (BeginsAs origin) l ls h) (All-head (IsStartRight low) l ls right))
+      (begins_as_new low some ls (All-tail (BeginsAs origin) l ls h) (All-tail (IsStartRight low) l ls right))
+    where
+      one : (l : Label) → BeginsAs origin l → IsStartRight low l → BeginsAs (first_as first origin) l
+      one (Starts zero b) e right = absurd (let h = right.least in omega arith)
+      one (Starts (suc g) b) e right = e
+      one Silent e right = tt
+      one (Shows v) e right = tt
+      one (Learns g o v) e right = tt
 
 module _ (s : ScriptView) (other : Term) (may : ℕ → Bool) (r : ReportView) (lawful : IsLawfulReport s may r) (needs : need s.term ≡ need other)
     (k : CanComeTo (StopsThere (final_outside s r) 0 (has_ended (lawful.runs.progress 0))) (first_counts (main_origin other)) (Runs other)
@@ -51,20 +66,6 @@ module _ (s : ScriptView) (other : Term) (may : ℕ → Bool) (r : ReportView) (
   -- what holds of main's labels, and of a silent one, holds of the new ones
   moved : (P : Label → Type 0) → P Silent → All P (lawful.runs.labels 0) → All P k.labels
   moved P silent h = all_of_shown P silent k.labels (subst (All P) (sym k.shown_is) (all_shown P (lawful.runs.labels 0) h))
-
-  -- fibers begin as before, but for the main one, which nobody starts
-  begins_as_new : (low : ℕ) → 1 ≤ low → (ls : List Label) → All (BeginsAs lawful.runs.origin) ls → All (IsStartRight low) ls → All (BeginsAs new_origin) ls
-  begins_as_new low some [] h right = All-nil (BeginsAs new_origin)
-  begins_as_new low some (l ∷ ls) h right =
-      All-cons (BeginsAs new_origin) l ls (one l (All-head (BeginsAs lawful.runs.origin) l ls h) (All-head (IsStartRight low) l ls right))
-      (begins_as_new low some ls (All-tail (BeginsAs lawful.runs.origin) l ls h) (All-tail (IsStartRight low) l ls right))
-    where
-      one : (l : Label) → BeginsAs lawful.runs.origin l → IsStartRight low l → BeginsAs new_origin l
-      one (Starts zero b) e right = absurd (let h = right.least in omega arith)
-      one (Starts (suc g) b) e right = e
-      one Silent e right = tt
-      one (Shows v) e right = tt
-      one (Learns g o v) e right = tt
 
   new_run : (f : ℕ) (x : FiberReportView) → fiber_in r f ≡ Some x
       → HasRun s' r f x (new_origin f) (new_labels f) (first_as k.counts lawful.runs.counts f) (first_as k.progress lawful.runs.progress f)
@@ -91,11 +92,12 @@ module _ (s : ScriptView) (other : Term) (may : ℕ → Bool) (r : ReportView) (
 
   new_begins : (f : ℕ) (x : FiberReportView) → fiber_in r f ≡ Some x → All (BeginsAs new_origin) (new_labels f)
   new_begins zero x at =
-      begins_as_new 1 (omega arith) k.labels (moved (BeginsAs lawful.runs.origin) tt (lawful.origins.child 0 x at))
+      begins_as_new lawful.runs.origin (main_origin other) 1 (omega arith) k.labels (moved (BeginsAs lawful.runs.origin) tt (lawful.origins.child 0 x at))
       (run_starts (main_origin other) k.labels k.counts k.progress k.run)
   new_begins (suc f) x at =
       let above = numbers_above s r lawful.starters lawful.runs lawful.origins (suc f) x at in
-      begins_as_new (lawful.runs.origin (suc f)).next (omega arith) (lawful.runs.labels (suc f)) (lawful.origins.child (suc f) x at)
+      begins_as_new lawful.runs.origin (main_origin other) (lawful.runs.origin (suc f)).next (omega arith)
+      (lawful.runs.labels (suc f)) (lawful.origins.child (suc f) x at)
       (run_starts (lawful.runs.origin (suc f)) (lawful.runs.labels (suc f)) (lawful.runs.counts (suc f)) (lawful.runs.progress (suc f))
       (lawful.runs.run (suc f) x at).run)
 
