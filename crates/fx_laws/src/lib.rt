@@ -1,13 +1,15 @@
 //! Laws of cancellation in the form that Cats Effect gives them: two terms of which nobody can tell one
 //! from the other. A function here does nothing: its contract is the law.
 //!
-//! Two terms are compared in two ways, each with its definitions in the file of its name in `specs/`:
+//! The definitions stand in the files of these names in `specs/`. Two terms are compared by what they show, or by what
+//! others see of them:
 //!
 //! | definitions | what they say |
 //! |---|---|
 //! | `Everywhere` | two terms show the same wherever a fiber comes to them, in its term or in a clean-up, and whatever it has done before |
 //! | `ScopedPlaces` | they do so where the clean-ups round them use each name as what it is, as those of a script's fibers do |
 //! | `Others` | others see the same of two fibers: what a fiber notes of its own cancellation and of its resources is left out |
+//! | `WithoutTurns` | a term, and a fiber, with `(pure 0)` for each `(cede)` |
 //!
 //! | laws of | what they say |
 //! |---|---|
