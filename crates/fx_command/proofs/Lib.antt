@@ -1,6 +1,7 @@
 mod Refused
 mod Performed
 mod PictureWords
+mod StoodEventsLaws
 mod WorkersLaws
 mod StatesLaws
 mod Fetched

@@ -10,6 +10,7 @@ pub mod Printable
 pub mod Said
 pub mod Fetched
 pub mod Passed
+pub mod StoodEvents
 pub mod Pictured
 pub mod Placed
 pub mod ToldText

@@ -12,8 +12,9 @@
 //!    runs it on threads and writes these. It has words for people about each fiber that is blocked, and `passed` has
 //!    those about picks of the schedule that were passed over. Or it searches all runs of the script, and
 //!    writes what it has found, or of that the first report that is not expected. `placed` finds where the nodes of
-//!    the script stand in its text, for those words and for the steps; `told_text` writes the steps, and `stood` knows
-//!    at which node each fiber stood last.
+//!    the script stand in its text, for those words and for the steps; `told_text` writes the steps, `stood` knows at
+//!    which node each fiber stood last, and `stood_events` at which place it showed each event, for `pictured`,
+//!    which draws runs.
 //! 5. `stream` is what is written to: a writer, of which contracts know whether it has refused a write.
 //! 6. `command` goes through these in that order, gives the status, and says on standard error those
 //!    words, or why nothing was printed.
@@ -48,6 +49,7 @@ mod schedule_words;
 mod script_words;
 mod states;
 mod stood;
+mod stood_events;
 pub mod stream;
 mod texts;
 mod told_text;

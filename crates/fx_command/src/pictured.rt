@@ -11,11 +11,12 @@ ghost use Rattle.fx_command.specs.Performed.{Performs};
 
 use crate::command_fault::CommandFault;
 use crate::perform::{Performed, format_blocked, format_words};
-use crate::placed::places_of_blocked;
+use crate::placed::{places_in, places_of_blocked};
+use crate::stood_events::stood_events;
 use crate::stream::Stream;
 use fx_model::Report;
-use fx_picture::{PictureFault, format_picture};
-use fx_plain::replay_to_halt;
+use fx_picture::{PictureFault, Stood, format_picture};
+use fx_plain::{replay_to_halt, tell_run};
 use fx_report::{Blocked, FAULT, status_after};
 use fx_run::run_to_halt;
 use fx_sched::Free;
@@ -41,34 +42,36 @@ struct Pictured {
 fn text_of(
     alloc: Global,
     script: &Script,
+    stood: &[Stood],
     report: &Report,
     blocked: &[Blocked],
 ) -> Result<Option<String>, AllocError>
     ensures drawn { IfOk result (λ made. IfSome made (λ text.
-        IsPicture (queue_names (meaning script.now)) report.now blocked.now (string_bytes text))) }
+        IsPicture (queue_names (meaning script.now)) stood.now report.now blocked.now (string_bytes text))) }
     ensures refused { IfOk result
         (λ made. IfNone made (IsTooLarge (queue_names (meaning script.now)) report.now)) }
 {
-    match format_picture(alloc, script, report, blocked) {
+    match format_picture(alloc, script, report, stood, blocked) {
         Ok(text) => Ok(Some(text)),
         Err(PictureFault::TooLarge) => Ok(None),
         Err(PictureFault::Memory) => Err(AllocError),
     }
 }
 
-/// The picture of a report, with these words for people.
+/// The picture of a report, in whose run fibers stood there, with these words for people.
 fn drawn_of(
     alloc: Global,
     script: &Script,
+    stood: &[Stood],
     report: &Report,
     blocked: &[Blocked],
     words: String,
 ) -> Result<Pictured, AllocError>
-    ensures { IfOk result (λ made. IsPictured (queue_names (meaning script.now)) report.now
+    ensures { IfOk result (λ made. IsPictured (queue_names (meaning script.now)) stood.now report.now
         blocked.now (string_bytes words) (string_bytes made.words) made.status
         (string_bytes made.text)) }
 {
-    match text_of(alloc, script, report, blocked)? {
+    match text_of(alloc, script, stood, report, blocked)? {
         Some(text) => Ok(Pictured {
             text,
             words,
@@ -82,7 +85,7 @@ fn drawn_of(
     }
 }
 
-/// Draws the run that the picks choose.
+/// Draws the run that the picks choose, with where its fibers stood.
 pub(crate) fn picture<'a, W: Write>(
     alloc: Global,
     script: &Script,
@@ -96,11 +99,14 @@ pub(crate) fn picture<'a, W: Write>(
         expected result out.old out.new }
 {
     let replayed = replay_to_halt(alloc, script, picks)?;
-    let places = places_of_blocked(alloc, script, source, &replayed.halt.blocked)?;
+    let places = places_in(alloc, script, source)?;
     let words = format_words(alloc, script, &places, &replayed)?;
+    let told = tell_run(alloc, script, picks)?;
+    let stood = stood_events(alloc, script, &places, &told)?;
     let drawn = drawn_of(
         alloc,
         script,
+        &stood,
         &replayed.halt.report,
         &replayed.halt.blocked,
         words,
@@ -129,7 +135,7 @@ pub(crate) fn picture_run<'a, R: Wait + Threads + Sync + RandomSource + AllocGlo
     let ran = run_to_halt(rt, alloc, script, workers, &Free)?;
     let places = places_of_blocked(alloc, script, source, &ran.blocked)?;
     let words = format_blocked(alloc, script, &places, &ran.blocked)?;
-    let drawn = drawn_of(alloc, script, &ran.report, &ran.blocked, words)?;
+    let drawn = drawn_of(alloc, script, &[], &ran.report, &ran.blocked, words)?;
     out.write(&drawn.text)?;
     Ok(Performed {
         status: drawn.status,

@@ -122,7 +122,7 @@ fn number_after(number: usize, told: Told) -> usize
 }
 
 /// The place of this node among those of all, if there is a node that has one.
-fn place_at(places: &[FormPlace], node: Option<NodeId>) -> Option<FormPlace>
+pub(crate) fn place_at(places: &[FormPlace], node: Option<NodeId>) -> Option<FormPlace>
     ensures { result ≡ place_of places.now node }
 {
     let NodeId(place) = node?;

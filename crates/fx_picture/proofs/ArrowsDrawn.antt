@@ -6,6 +6,7 @@ use Rattle.fx_report.specs.declared.blocked.Blocked.{Blocked}
 use Rattle.fx_svg.specs.Content.{Content}
 use Rattle.fx_picture.specs.declared.cause.Cause.{Cause}
 use Rattle.fx_picture.specs.declared.drawn.Drawn.{Drawn}
+use Rattle.fx_picture.specs.declared.stood.Stood.{Stood}
 use Rattle.fx_picture.specs.Causes.{cause_of}
 use Rattle.fx_picture.specs.Folds.{sheet_of}
 use Rattle.fx_picture.specs.Has.{Has, IsArrow}
@@ -49,10 +50,10 @@ module _ (fibers : List FiberReportView) where
       let next : place + suc k ≡ suc place + k = omega arith in
       inr (has_from list ys (suc place) k y e is (subst (λ (n : ℕ). Has (arrows_to fibers y (take n list)) e) next has))
 
-  pub none_missing : (names : List (List ℕ)) (blocked : List Blocked) (list : List Occurrence) (above below : ℕ) (first second : Drawn)
+  pub none_missing : (names : List (List ℕ)) (stood : List Stood) (blocked : List Blocked) (list : List Occurrence) (above below : ℕ) (first second : Drawn)
       (cause : Cause) → above < below → slice_get (sheet_of list).drawn above ≡ Some first → slice_get (sheet_of list).drawn below ≡ Some second
-      → cause_of first.event second.event ≡ Some cause → Has (picture names blocked fibers list) (arrow fibers first second cause)
-  none_missing names blocked list above below first second cause lt is_first is_second stands =
+      → cause_of first.event second.event ≡ Some cause → Has (picture names stood blocked fibers list) (arrow fibers first second cause)
+  none_missing names stood blocked list above below first second cause lt is_first is_second stands =
       let drawn = (sheet_of list).drawn in
       let zero_below : below ≡ 0 + below = omega arith in
       let one = has_to second (take below drawn) above first cause (above_place drawn above below first lt is_first) stands in

@@ -21,6 +21,7 @@ use Rattle.fx_report.specs.declared.blocked.Blocked.{Blocked}
 use Rattle.fx_picture.specs.declared.cause.Cause.{Cause}
 use Rattle.fx_picture.specs.declared.cause.Cause.TheVariants.{Start, End, Request}
 use Rattle.fx_picture.specs.declared.drawn.Drawn.{Drawn}
+use Rattle.fx_picture.specs.declared.stood.Stood.{Stood}
 use Rattle.fx_picture.specs.Causes.{is_told_by, cause_of}
 use Rattle.fx_picture.specs.Folds.{sheet_of}
 use Rattle.fx_picture.specs.IsDrawn.{SaysItsCause, IsDrawn, HasArrow}
@@ -36,7 +37,7 @@ told_by g o (event.First n) proper named says = absurd says
 told_by g o _ proper named says = absurd proper
 
 module _ (s : ScriptView) (may : ℕ → Bool) (r : ReportView) (lawful : IsLawfulReport s may r) (list : List Occurrence)
-    (order : IsCausalOrder s may r lawful list) (names : List (List ℕ)) (blocked : List Blocked) where
+    (order : IsCausalOrder s may r lawful list) (names : List (List ℕ)) (stood : List Stood) (blocked : List Blocked) where
   abbrev event_of : ℕ → ℕ → Event → Occurrence
   event_of f i e = record { fiber = f; place = i; event = e; stamp = stamp_in r f i }
 
@@ -45,7 +46,7 @@ module _ (s : ScriptView) (may : ℕ → Bool) (r : ReportView) (lawful : IsLawf
 
   -- an event that stands on one above it is drawn with an arrow
   is_drawn : (f i g j : ℕ) (e d : Event) (cause : Cause) → slice_get (trace_in r f) i ≡ Some e → slice_get (trace_in r g) j ≡ Some d
-      → order.moment g j < order.moment f i → cause_of (event_of g j d) (event_of f i e) ≡ Some cause → IsDrawn names blocked r list f i g j
+      → order.moment g j < order.moment f i → cause_of (event_of g j d) (event_of f i e) ≡ Some cause → IsDrawn names stood blocked r list f i g j
   is_drawn f i g j e d cause at by above stands =
       let from = drawn_at list (order.moment g j) (event_of g j d) (order.stands g j d by) in
       let to = drawn_at list (order.moment f i) (event_of f i e) (order.stands f i e at) in
@@ -57,7 +58,7 @@ module _ (s : ScriptView) (may : ℕ → Bool) (r : ReportView) (lawful : IsLawf
         begins = record { fiber = ap (λ (o : Occurrence). o.fiber) from.2; place = ap (λ (o : Occurrence). o.place) from.2 };
         ends = record { fiber = ap (λ (o : Occurrence). o.fiber) to.2; place = ap (λ (o : Occurrence). o.place) to.2 };
         goes_down = goes_down list (order.moment g j) (order.moment f i) from.0 to.0 cause above from.1 to.1 joined;
-        has = none_missing r.fibers names blocked list (order.moment g j) (order.moment f i) from.0 to.0 cause above from.1 to.1 joined;
+        has = none_missing r.fibers names stood blocked list (order.moment g j) (order.moment f i) from.0 to.0 cause above from.1 to.1 joined;
       }
 
   tells : (f i g j : ℕ) (l : LearnsOfEnd (trace_in r) lawful.runs.labels f i g j) → SaysItsCause l.learning → is_told_by g l.learning ≡ true
@@ -73,7 +74,7 @@ module _ (s : ScriptView) (may : ℕ → Bool) (r : ReportView) (lawful : IsLawf
           (shown_holds Names labels i _ (run_names _ _ _ _ labels run) l.learns) says
 
   pub cause_is_drawn : (f i g j : ℕ) (e : Event) → slice_get (trace_in r f) i ≡ Some e → SaysItsCause e
-      → Needs (trace_in r) lawful.runs.labels (LeavesQueue s may r lawful) f i g j → IsDrawn names blocked r list f i g j
+      → Needs (trace_in r) lawful.runs.labels (LeavesQueue s may r lawful) f i g j → IsDrawn names stood blocked r list f i g j
   cause_is_drawn f i g j e at says (needs.taken_element t) = absurd (subst SaysItsCause (same_Some e _ (sym at ∙ t.got)) says)
   cause_is_drawn f i g j e at says (needs.end_of_other l) =
       let same : e ≡ l.learning = same_Some e l.learning (sym at ∙ l.tells) in
@@ -84,7 +85,7 @@ module _ (s : ScriptView) (may : ℕ → Bool) (r : ReportView) (lawful : IsLawf
       let above = order.in_order.needed f i g j (slice_get_within _ i e at) (slice_get_within _ j _ started) (needs.start first started) in
       is_drawn f i g j e (event.Start f) Start at started above (rw (eq-eqb i 0 first, eq-eqb f f refl))
 
-  pub seen_is_drawn : (f i : ℕ) → slice_get (trace_in r f) i ≡ Some event.Seen → (Contains r.outside f → ⊥) → HasArrow names blocked r list f i
+  pub seen_is_drawn : (f i : ℕ) → slice_get (trace_in r f) i ≡ Some event.Seen → (Contains r.outside f → ⊥) → HasArrow names stood blocked r list f i
   seen_is_drawn f i at inside =
       let asked = order.in_order.requested f i at inside in
       record {

@@ -4,12 +4,13 @@ use Rattle.fx_model.specs.Report.{FiberReportView}
 use Rattle.fx_order.specs.declared.occurrence.Occurrence.{Occurrence}
 use Rattle.fx_report.specs.declared.blocked.Blocked.{Blocked}
 use Rattle.fx_svg.specs.Content.{rendering}
+use Rattle.fx_picture.specs.declared.stood.Stood.{Stood}
 use Rattle.fx_picture.specs.Folds.{SheetView, sheet_of}
 use Rattle.fx_picture.specs.Picture.{drawing, picture_text}
 
-pub drawn_as : (t₀ t₁ : List ℕ) (names : List (List ℕ)) (blocked : List Blocked) (fibers : List FiberReportView) (list : List Occurrence)
-    (sheet : SheetView) → sheet ≡ sheet_of list → t₁ ≡ t₀ ++ rendering (drawing names blocked fibers sheet)
-    → t₁ ≡ t₀ ++ picture_text names blocked fibers list
+pub drawn_as : (t₀ t₁ : List ℕ) (names : List (List ℕ)) (stood : List Stood) (blocked : List Blocked) (fibers : List FiberReportView) (list : List Occurrence)
+    (sheet : SheetView) → sheet ≡ sheet_of list → t₁ ≡ t₀ ++ rendering (drawing names stood blocked fibers sheet)
+    → t₁ ≡ t₀ ++ picture_text names stood blocked fibers list
 unfolding picture_text
-drawn_as t₀ t₁ names blocked fibers list sheet same is =
-    subst (λ (s : SheetView). t₁ ≡ t₀ ++ rendering (drawing names blocked fibers s)) same is
+drawn_as t₀ t₁ names stood blocked fibers list sheet same is =
+    subst (λ (s : SheetView). t₁ ≡ t₀ ++ rendering (drawing names stood blocked fibers s)) same is

@@ -10,6 +10,7 @@ use Rattle.fx_order.specs.declared.occurrence.Occurrence.{Occurrence}
 use Rattle.fx_report.specs.declared.blocked.Blocked.{Blocked}
 use Rattle.fx_svg.specs.Content.{Content}
 use Rattle.fx_picture.specs.declared.drawn.Drawn.{Drawn}
+use Rattle.fx_picture.specs.declared.stood.Stood.{Stood}
 use Rattle.fx_picture.specs.Folds.{in_row, event_of, sheet_of}
 use Rattle.fx_picture.specs.Has.{Has}
 use Rattle.fx_picture.specs.IsFolded.{events_in}
@@ -64,27 +65,27 @@ stands_in (suc k) (y ∷ xs) x is = elim (cases_eq y.row x.row) [
 ]
 
 -- the mark of a row with events is an element, which stands there
-module _ (names : List (List ℕ)) (fibers : List FiberReportView) where
-  own_mark : (row : ℕ) (list : List Occurrence) (o : Occurrence) → Contains list o → Has (mark_of names fibers row list) (mark_of names fibers row list)
+module _ (names : List (List ℕ)) (stood : List Stood) (fibers : List FiberReportView) where
+  own_mark : (row : ℕ) (list : List Occurrence) (o : Occurrence) → Contains list o → Has (mark_of names stood fibers row list) (mark_of names stood fibers row list)
   own_mark row [] o c = (let lt = c.1 in absurd (omega arith))
   own_mark row (p ∷ []) o c = inl refl
   own_mark row (p ∷ q ∷ os) o c = inl refl
 
-  has_mark : (list : List Drawn) (rows row : ℕ) (e : Content) → row < rows → Has (mark_of names fibers row (in_row row list)) e
-      → Has (marks_in names fibers list rows) e
+  has_mark : (list : List Drawn) (rows row : ℕ) (e : Content) → row < rows → Has (mark_of names stood fibers row (in_row row list)) e
+      → Has (marks_in names stood fibers list rows) e
   has_mark list zero row e lt has = absurd (omega arith)
   has_mark list (suc rows) row e lt has = elim (cases_eq row rows) [
-    | inl same ↦ inr (subst (λ (n : ℕ). Has (mark_of names fibers n (in_row n list)) e) same has)
+    | inl same ↦ inr (subst (λ (n : ℕ). Has (mark_of names stood fibers n (in_row n list)) e) same has)
     | inr other ↦ inl (has_mark list rows row e (omega arith) has)
   ]
 
-pub is_marked : (names : List (List ℕ)) (blocked : List Blocked) (fibers : List FiberReportView) (list : List Occurrence) (place : ℕ) (x : Drawn)
+pub is_marked : (names : List (List ℕ)) (stood : List Stood) (blocked : List Blocked) (fibers : List FiberReportView) (list : List Occurrence) (place : ℕ) (x : Drawn)
     → slice_get (sheet_of list).drawn place ≡ Some x
-    → Contains (in_row x.row (sheet_of list).drawn) x.event × Has (picture names blocked fibers list)
-    (mark_of names fibers x.row (in_row x.row (sheet_of list).drawn))
-is_marked names blocked fibers list place x is =
+    → Contains (in_row x.row (sheet_of list).drawn) x.event × Has (picture names stood blocked fibers list)
+    (mark_of names stood fibers x.row (in_row x.row (sheet_of list).drawn))
+is_marked names stood blocked fibers list place x is =
     let stands = stands_in place (sheet_of list).drawn x is in (
       stands,
-      inr (inr (inr (inr (inr (inr (has_mark names fibers (sheet_of list).drawn (sheet_of list).rows x.row _ ((sheet_is_sound list).below place x is)
-          (own_mark names fibers x.row (in_row x.row (sheet_of list).drawn) x.event stands))))))),
+      inr (inr (inr (inr (inr (inr (has_mark names stood fibers (sheet_of list).drawn (sheet_of list).rows x.row _ ((sheet_is_sound list).below place x is)
+          (own_mark names stood fibers x.row (in_row x.row (sheet_of list).drawn) x.event stands))))))),
     )

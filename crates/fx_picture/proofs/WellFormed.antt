@@ -13,6 +13,7 @@ use Rattle.fx_svg.proofs.WellFormedTexts.{well_formed}
 use Rattle.fx_picture.specs.declared.bar.Bar.{Bar}
 use Rattle.fx_picture.specs.declared.cause.Cause.{Cause}
 use Rattle.fx_picture.specs.declared.drawn.Drawn.{Drawn}
+use Rattle.fx_picture.specs.declared.stood.Stood.{Stood}
 use Rattle.fx_picture.specs.declared.layout.TheConstants.{AGAIN}
 use Rattle.fx_picture.specs.Causes.{cause_of}
 use Rattle.fx_picture.specs.Bars.{life_at, bar_at, closing_row}
@@ -95,26 +96,28 @@ all_arrows : (fibers : List FiberReportView) (list : List Drawn) (place : ℕ) (
 all_arrows fibers list place [] = refl
 all_arrows fibers list place (y ∷ ys) = all_true _ _ (arrows_are fibers y (take place list)) (all_arrows fibers list (suc place) ys)
 
-mark_is : (names : List (List ℕ)) (fibers : List FiberReportView) (row : ℕ) (list : List Occurrence)
-    → has_distinct_keys (mark_of names fibers row list) ≡ true
-mark_is names fibers row [] = refl
-mark_is names fibers row (o ∷ []) = refl
-mark_is names fibers row (o ∷ p ∷ os) = refl
+mark_is : (names : List (List ℕ)) (stood : List Stood) (fibers : List FiberReportView) (row : ℕ) (list : List Occurrence)
+    → has_distinct_keys (mark_of names stood fibers row list) ≡ true
+mark_is names stood fibers row [] = refl
+mark_is names stood fibers row (o ∷ []) = refl
+mark_is names stood fibers row (o ∷ p ∷ os) = refl
 
-marks : (names : List (List ℕ)) (fibers : List FiberReportView) (list : List Drawn) (rows : ℕ) → has_distinct_keys (marks_in names fibers list rows) ≡ true
-marks names fibers list zero = refl
-marks names fibers list (suc row) = all_true _ _ (marks names fibers list row) (mark_is names fibers row (in_row row list))
+marks : (names : List (List ℕ)) (stood : List Stood) (fibers : List FiberReportView) (list : List Drawn) (rows : ℕ)
+    → has_distinct_keys (marks_in names stood fibers list rows) ≡ true
+marks names stood fibers list zero = refl
+marks names stood fibers list (suc row) = all_true _ _ (marks names stood fibers list row) (mark_is names stood fibers row (in_row row list))
 
-pub is_document : (names : List (List ℕ)) (blocked : List Blocked) (fibers : List FiberReportView) (list : List Occurrence)
-    → is_well_formed (picture_text names blocked fibers list) ≡ true
+pub is_document : (names : List (List ℕ)) (stood : List Stood) (blocked : List Blocked) (fibers : List FiberReportView) (list : List Occurrence)
+    → is_well_formed (picture_text names stood blocked fibers list) ≡ true
 unfolding picture_text
-is_document names blocked fibers list =
+is_document names stood blocked fibers list =
     let drawn = (sheet_of list).drawn in
     let rows = (sheet_of list).rows in
     let ground = all_true _ _ (lanes names rows blocked 0 fibers)
     (all_true _ _ (queue_lanes rows (length fibers) names) (bars fibers rows drawn)) in
-    let figures = all_true _ _ (visits fibers (length names) drawn rows) (all_true _ _ (all_arrows fibers drawn 0 drawn) (marks names fibers drawn rows)) in
+    let figures = all_true _ _ (visits fibers (length names) drawn rows)
+    (all_true _ _ (all_arrows fibers drawn 0 drawn) (marks names stood fibers drawn rows)) in
     well_formed tag.Svg (size (length fibers + length names) rows)
     (both (head (length fibers) (length drawn))
-    (both legend (both (ground_of names blocked fibers (sheet_of list)) (figures_of names fibers (sheet_of list)))))
+    (both legend (both (ground_of names blocked fibers (sheet_of list)) (figures_of names stood fibers (sheet_of list)))))
     (all_true _ _ ground figures)

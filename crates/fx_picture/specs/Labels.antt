@@ -5,20 +5,22 @@ use Rattle.fx_model.specs.declared.source.Source.TheVariants.{Nothing, Outcome, 
 use Rattle.fx_model.specs.Report.{FiberReportView}
 use Rattle.fx_order.specs.declared.occurrence.Occurrence.{Occurrence}
 use Rattle.fx_report.specs.declared.blocked.Blocked.{Blocked}
+use Rattle.fx_picture.specs.declared.stood.Stood.{Stood}
+use Rattle.fx_picture.specs.Stood.{stood_at, stood_words}
 use Rattle.fx_report.specs.Text.{number, queue_name, event_text}
 
--- the line of a trace that has the event, without its end
-abbrev pub mark_words : List (List ℕ) → Occurrence → List ℕ
-mark_words names o = decimal o.fiber ++ number o.stamp ++ codes " " ++ event_text names o.event
+-- the line of a trace that has the event, without its end, and where its fiber stood
+abbrev pub mark_words : List (List ℕ) → List Stood → Occurrence → List ℕ
+mark_words names stood o = decimal o.fiber ++ number o.stamp ++ codes " " ++ event_text names o.event ++ stood_words (stood_at stood o.fiber o.place)
 
 -- those of these events, each with the end of the line before it
-abbrev pub line_words : List (List ℕ) → List Occurrence → List ℕ
-line_words names [] = []
-line_words names (o ∷ os) = codes "\n" ++ mark_words names o ++ line_words names os
+abbrev pub line_words : List (List ℕ) → List Stood → List Occurrence → List ℕ
+line_words names stood [] = []
+line_words names stood (o ∷ os) = codes "\n" ++ mark_words names stood o ++ line_words names stood os
 
 -- how many these events are, and which
-abbrev pub fold_words : List (List ℕ) → List Occurrence → List ℕ
-fold_words names list = decimal (length list) ++ codes " events:" ++ line_words names list
+abbrev pub fold_words : List (List ℕ) → List Stood → List Occurrence → List ℕ
+fold_words names stood list = decimal (length list) ++ codes " events:" ++ line_words names stood list
 
 abbrev pub fiber_words : FiberReportView → List ℕ
 fiber_words x = codes "fiber " ++ decimal x.id

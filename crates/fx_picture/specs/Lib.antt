@@ -3,6 +3,7 @@ pub mod Folds
 pub mod Bars
 pub mod Visits
 pub mod Layout
+pub mod Stood
 pub mod Labels
 pub mod Look
 pub mod Elements

@@ -18,6 +18,7 @@ use Rattle.fx_picture.specs.declared.layout.TheConstants.{AGAIN, TOP, ABOVE, NEX
 use Rattle.fx_picture.specs.declared.queues.TheConstants.{BESIDE}
 use Rattle.fx_picture.specs.declared.picture.TheConstants.{TITLE, DESCRIPTION}
 use Rattle.fx_picture.specs.Causes.{cause_of, cause_class}
+use Rattle.fx_picture.specs.declared.stood.Stood.{Stood}
 use Rattle.fx_picture.specs.Folds.{SheetView, sheet_of, in_row}
 use Rattle.fx_picture.specs.Bars.{life_at, bar_at, closing_row, aside, bar_class, bar_words}
 use Rattle.fx_picture.specs.Visits.{queue_at, visit_class, visit_words, count_at, times_words}
@@ -174,28 +175,28 @@ module _ (fibers : List FiberReportView) where
 abbrev pub count_label : ℕ → ℕ → ℕ → Content
 count_label lane row n = label (codes "count") (lane_x lane) (row_y row + BASE) (decimal n)
 
-module _ (names : List (List ℕ)) where
+module _ (names : List (List ℕ)) (stood : List Stood) where
   -- what stands in the mark of several events: the words of the events as a title, the box, and how many they are
   abbrev pub fold_inside : ℕ → ℕ → List Occurrence → Content
   fold_inside lane row list =
-      both (element tag.Title [] (words (fold_words names list))) (both (box (lane_x lane) (row_y row)) (count_label lane row (length list)))
+      both (element tag.Title [] (words (fold_words names stood list))) (both (box (lane_x lane) (row_y row)) (count_label lane row (length list)))
 
   -- that mark, in its lane and its row
   abbrev pub fold : ℕ → ℕ → List Occurrence → Content
   fold lane row list = element tag.Group (set_to key.Class (codes "fold") ∷ []) (fold_inside lane row list)
 
-module _ (names : List (List ℕ)) (fibers : List FiberReportView) where
+module _ (names : List (List ℕ)) (stood : List Stood) (fibers : List FiberReportView) where
   -- the mark of an event in its row, in its fiber's lane, with its words as a title
   abbrev pub mark : ℕ → Occurrence → Content
   mark row o = element tag.Circle
       (set_to key.Class (event_class o.event) ∷ number_of key.CenterX (lane_x (lane_of fibers o.fiber)) ∷ number_of key.CenterY (row_y row)
-      ∷ number_of key.Radius RADIUS ∷ []) (element tag.Title [] (words (mark_words names o)))
+      ∷ number_of key.Radius RADIUS ∷ []) (element tag.Title [] (words (mark_words names stood o)))
 
   -- the mark of the events of a row
   abbrev pub mark_of : ℕ → List Occurrence → Content
   mark_of row [] = nothing
   mark_of row (o ∷ []) = mark row o
-  mark_of row (o ∷ p ∷ os) = fold names (lane_of fibers o.fiber) row (o ∷ p ∷ os)
+  mark_of row (o ∷ p ∷ os) = fold names stood (lane_of fibers o.fiber) row (o ∷ p ∷ os)
 
   -- and those of so many rows
   abbrev pub marks_in : List Drawn → ℕ → Content
@@ -227,21 +228,21 @@ ground_of names blocked fibers sheet =
     (both (queue_lanes_from sheet.rows (length fibers) names) (bars_from fibers sheet.rows sheet.drawn))
 
 -- what happens on them
-abbrev pub figures_of : List (List ℕ) → List FiberReportView → SheetView → Content
-figures_of names fibers sheet =
+abbrev pub figures_of : List (List ℕ) → List Stood → List FiberReportView → SheetView → Content
+figures_of names stood fibers sheet =
     both (visits_in fibers (length names) sheet.drawn sheet.rows)
-    (both (arrows_from fibers sheet.drawn 0 sheet.drawn) (marks_in names fibers sheet.drawn sheet.rows))
+    (both (arrows_from fibers sheet.drawn 0 sheet.drawn) (marks_in names stood fibers sheet.drawn sheet.rows))
 
--- the picture of these fibers with these events, where the script's queues have these names and blocked fibers wait for this
-abbrev pub drawing : List (List ℕ) → List Blocked → List FiberReportView → SheetView → Content
-drawing names blocked fibers sheet = element tag.Svg (size (length fibers + length names) sheet.rows)
+-- the picture of these fibers with these events, where the script's queues have these names, fibers stood there and blocked ones wait for this
+abbrev pub drawing : List (List ℕ) → List Stood → List Blocked → List FiberReportView → SheetView → Content
+drawing names stood blocked fibers sheet = element tag.Svg (size (length fibers + length names) sheet.rows)
     (both (head (length fibers) (length sheet.drawn))
-    (both legend (both (ground_of names blocked fibers sheet) (figures_of names fibers sheet))))
+    (both legend (both (ground_of names blocked fibers sheet) (figures_of names stood fibers sheet))))
 
 -- with these events from top to bottom
-abbrev pub picture : List (List ℕ) → List Blocked → List FiberReportView → List Occurrence → Content
-picture names blocked fibers list = drawing names blocked fibers (sheet_of list)
+abbrev pub picture : List (List ℕ) → List Stood → List Blocked → List FiberReportView → List Occurrence → Content
+picture names stood blocked fibers list = drawing names stood blocked fibers (sheet_of list)
 
 -- its text
-unfoldable pub picture_text : List (List ℕ) → List Blocked → List FiberReportView → List Occurrence → List ℕ
-picture_text names blocked fibers list = rendering (picture names blocked fibers list)
+unfoldable pub picture_text : List (List ℕ) → List Stood → List Blocked → List FiberReportView → List Occurrence → List ℕ
+picture_text names stood blocked fibers list = rendering (picture names stood blocked fibers list)

@@ -3,6 +3,7 @@ ghost use Rattle.std.specs.Prelude.{◌≡◌, ◌++◌, ◌∷◌, [], OnOk, If
 ghost use Rattle.fx_report.specs.Text.{names_of, outcome_text, queue_name, event_text, state_text, number, end_text};
 ghost use Rattle.fx_picture.specs.Labels.{mark_words, line_words, fold_words, fiber_words, wait_of, wait_words, count_words};
 
+use crate::stood::{Stood, push_stood};
 use fx_model::{FiberReport, Source, State};
 use fx_order::Occurrence;
 use fx_report::Blocked;
@@ -85,30 +86,33 @@ fn push_event(text: &mut String, queues: &[QueueDecl], event: Event) -> Result<(
     }
 }
 
-/// Appends the line of a trace that has the event, without its end.
+/// Appends the line of a trace that has the event, without its end, and where its fiber stood.
 fn push_mark_words(
     text: &mut String,
     queues: &[QueueDecl],
+    stood: &[Stood],
     it: Occurrence,
 ) -> Result<(), AllocError>
     ensures { OnOk result (string_bytes text.new
-        ≡ string_bytes text.old ++ mark_words (names_of queues.now) it) }
+        ≡ string_bytes text.old ++ mark_words (names_of queues.now) stood.now it) }
 {
     let (fiber, stamp) = (it.fiber, it.stamp);
     write!(text, "{fiber} {stamp} ")?;
-    push_event(text, queues, it.event)
+    push_event(text, queues, it.event)?;
+    push_stood(text, stood, it)
 }
 
-/// The words of a mark: the line of its event in a trace.
+/// The words of a mark: the line of its event in a trace, and where its fiber stood.
 pub(crate) fn mark_words(
     alloc: Global,
     queues: &[QueueDecl],
+    stood: &[Stood],
     it: Occurrence,
 ) -> Result<String, AllocError>
-    ensures { IfOk result (λ text. string_bytes text ≡ mark_words (names_of queues.now) it) }
+    ensures { IfOk result (λ text. string_bytes text ≡ mark_words (names_of queues.now) stood.now it) }
 {
     let mut text = String::new(alloc);
-    push_mark_words(&mut text, queues, it)?;
+    push_mark_words(&mut text, queues, stood, it)?;
     Ok(text)
 }
 
@@ -116,15 +120,16 @@ pub(crate) fn mark_words(
 fn push_lines(
     text: &mut String,
     queues: &[QueueDecl],
+    stood: &[Stood],
     list: &[Occurrence],
 ) -> Result<(), AllocError>
     ensures { OnOk result (string_bytes text.new
-        ≡ string_bytes text.old ++ line_words (names_of queues.now) list.now) }
+        ≡ string_bytes text.old ++ line_words (names_of queues.now) stood.now list.now) }
 {
     let mut rest = list;
     while let Some((it, more)) = rest.split_first() {
         text.push('\n')?;
-        push_mark_words(text, queues, *it)?;
+        push_mark_words(text, queues, stood, *it)?;
         rest = more;
     }
     Ok(())
@@ -134,14 +139,15 @@ fn push_lines(
 pub(crate) fn fold_words(
     alloc: Global,
     queues: &[QueueDecl],
+    stood: &[Stood],
     list: &[Occurrence],
 ) -> Result<String, AllocError>
     ensures { IfOk result
-        (λ text. string_bytes text ≡ fold_words (names_of queues.now) list.now) }
+        (λ text. string_bytes text ≡ fold_words (names_of queues.now) stood.now list.now) }
 {
     let count = list.len();
     let mut text = format!(in alloc; "{count} events:")?;
-    push_lines(&mut text, queues, list)?;
+    push_lines(&mut text, queues, stood, list)?;
     Ok(text)
 }
 

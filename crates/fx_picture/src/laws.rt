@@ -16,6 +16,7 @@ ghost use Rattle.fx_svg.specs.WellFormed.{is_well_formed};
 ghost use Rattle.fx_picture.specs.declared.cause.Cause.{Cause};
 ghost use Rattle.fx_picture.specs.declared.bar.Bar.{Bar};
 ghost use Rattle.fx_picture.specs.declared.drawn.Drawn.{Drawn};
+ghost use Rattle.fx_picture.specs.declared.stood.Stood.{Stood};
 ghost use Rattle.fx_picture.specs.Causes.{cause_of};
 ghost use Rattle.fx_picture.specs.Folds.{event_of, is_quiet, in_row, sheet_of};
 ghost use Rattle.fx_picture.specs.IsClosed.{Begins, IsClosed};
@@ -26,8 +27,8 @@ ghost use Rattle.fx_picture.specs.Picture.{arrow, arrows_from, mark_of, picture,
 
 /// The text of a picture is a well-formed document.
 pub fn picture_is_well_formed()
-    ensures { (names : List (List ℕ)) (blocked : List Blocked) (fibers : List FiberReportView)
-        (list : List Occurrence) → is_well_formed (picture_text names blocked fibers list) ≡ true }
+    ensures { (names : List (List ℕ)) (stood : List Stood) (blocked : List Blocked) (fibers : List FiberReportView)
+        (list : List Occurrence) → is_well_formed (picture_text names stood blocked fibers list) ≡ true }
 {}
 
 /// What stands among the arrows of a picture is an arrow from an event to one below it that stands on it, and goes down.
@@ -42,21 +43,21 @@ pub fn arrows_join_causes()
 
 /// From each event to each one below it that stands on it there is an arrow.
 pub fn no_arrow_is_missing()
-    ensures { (names : List (List ℕ)) (blocked : List Blocked) (fibers : List FiberReportView)
+    ensures { (names : List (List ℕ)) (stood : List Stood) (blocked : List Blocked) (fibers : List FiberReportView)
         (list : List Occurrence) (above below : ℕ) (first second : Drawn) (cause : Cause) → above < below
         → slice_get (sheet_of list).drawn above ≡ Some first → slice_get (sheet_of list).drawn below ≡ Some second
         → cause_of first.event second.event ≡ Some cause
-        → Has (picture names blocked fibers list) (arrow fibers first second cause) }
+        → Has (picture names stood blocked fibers list) (arrow fibers first second cause) }
 {}
 
 /// Each event of the list has its place in one row, and each row has its mark.
 pub fn each_event_is_drawn_once()
     ensures same { (list : List Occurrence) → map event_of (sheet_of list).drawn ≡ list }
     ensures once { (list : List Occurrence) → IsPermutation list (events_in (sheet_of list).rows (sheet_of list).drawn) }
-    ensures marked { (names : List (List ℕ)) (blocked : List Blocked) (fibers : List FiberReportView)
+    ensures marked { (names : List (List ℕ)) (stood : List Stood) (blocked : List Blocked) (fibers : List FiberReportView)
         (list : List Occurrence) (place : ℕ) (x : Drawn) → slice_get (sheet_of list).drawn place ≡ Some x
-        → Contains (in_row x.row (sheet_of list).drawn) x.event × Has (picture names blocked fibers list)
-        (mark_of names fibers x.row (in_row x.row (sheet_of list).drawn)) }
+        → Contains (in_row x.row (sheet_of list).drawn) x.event × Has (picture names stood blocked fibers list)
+        (mark_of names stood fibers x.row (in_row x.row (sheet_of list).drawn)) }
 {}
 
 /// What shares a row is a run of one lane in which no arrow begins or ends, and nothing of that lane between them stands
@@ -74,15 +75,15 @@ pub fn folds_are_runs()
 pub fn causes_are_drawn()
     ensures needed { (s : ScriptView) (may : ℕ → Bool) (r : ReportView)
         (lawful : IsLawfulReport s may r) (list : List Occurrence)
-        → IsCausalOrder s may r lawful list → (names : List (List ℕ)) (blocked : List Blocked)
+        → IsCausalOrder s may r lawful list → (names : List (List ℕ)) (stood : List Stood) (blocked : List Blocked)
         (f i g j : ℕ) (e : Event) → slice_get (trace_in r f) i ≡ Some e → SaysItsCause e
         → Needs (trace_in r) lawful.runs.labels (LeavesQueue s may r lawful) f i g j
-        → IsDrawn names blocked r list f i g j }
+        → IsDrawn names stood blocked r list f i g j }
     ensures requested { (s : ScriptView) (may : ℕ → Bool) (r : ReportView)
         (lawful : IsLawfulReport s may r) (list : List Occurrence)
-        → IsCausalOrder s may r lawful list → (names : List (List ℕ)) (blocked : List Blocked)
+        → IsCausalOrder s may r lawful list → (names : List (List ℕ)) (stood : List Stood) (blocked : List Blocked)
         (f i : ℕ) → slice_get (trace_in r f) i ≡ Some Seen → (Contains r.outside f → ⊥)
-        → HasArrow names blocked r list f i }
+        → HasArrow names stood blocked r list f i }
 {}
 
 /// Where the list is an order in which causes come first, each bar of a fiber that has ended is closed: its life,

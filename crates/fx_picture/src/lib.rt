@@ -4,7 +4,7 @@
 //! |---|---|
 //! | a fiber | a lane from top to bottom, with its number and how it is at the end above, and what it waits for below |
 //! | a queue | a lane right of these |
-//! | an event | a mark in its fiber's lane, with the line of its trace as a title |
+//! | an event | a mark in its fiber's lane, with the line of its trace as a title, and where its fiber stood, if that is told |
 //! | a long run of events at queues and of resources | one mark, with how many they are, and their lines as a title |
 //! | an event at a queue | a line to that queue's lane, with what was put or taken |
 //! | a cause | an arrow from its mark to that of the event that it caused |
@@ -49,6 +49,7 @@ mod marks;
 mod picture;
 mod queues;
 mod sheet;
+mod stood;
 mod tail;
 mod visit;
 
@@ -56,3 +57,4 @@ pub use cause::Cause;
 pub use fault::PictureFault;
 pub use layout::MOST_EVENTS;
 pub use picture::format_picture;
+pub use stood::Stood;

@@ -10,6 +10,7 @@ use crate::labels::{fold_words, mark_words};
 use crate::layout::{BASE, MOST_EVENTS, MOST_LANES, lane_of, lane_x, row_y};
 use crate::look::event_class;
 use crate::sheet::in_row;
+use crate::stood::Stood;
 use fx_model::FiberReport;
 use fx_order::Occurrence;
 use fx_svg::{Attribute, Key, Tag, Value, push_element, push_end_tag, push_start_tag};
@@ -24,13 +25,14 @@ fn push_mark(
     alloc: Global,
     text: &mut String,
     queues: &[QueueDecl],
+    stood: &[Stood],
     fibers: &[FiberReport],
     row: u32,
     it: Occurrence,
 ) -> Result<(), AllocError>
     requires { length fibers.now ≤ MOST_EVENTS }
     ensures { OnOk result (string_bytes text.new ≡ string_bytes text.old
-        ++ rendering (mark (names_of queues.now) fibers.now row it)) }
+        ++ rendering (mark (names_of queues.now) stood.now fibers.now row it)) }
 {
     let place = [
         Attribute {
@@ -50,7 +52,7 @@ fn push_mark(
             value: Value::Number(RADIUS),
         },
     ];
-    let words = mark_words(alloc, queues, it)?;
+    let words = mark_words(alloc, queues, stood, it)?;
     push_start_tag(text, Tag::Circle, &place)?;
     push_element(text, Tag::Title, &[], &words)?;
     push_end_tag(text, Tag::Circle)
@@ -78,15 +80,16 @@ fn push_fold_inside(
     alloc: Global,
     text: &mut String,
     queues: &[QueueDecl],
+    stood: &[Stood],
     lane: usize,
     row: u32,
     list: &[Occurrence],
 ) -> Result<(), AllocError>
     requires { lane ≤ MOST_LANES }
     ensures { OnOk result (string_bytes text.new ≡ string_bytes text.old
-        ++ rendering (fold_inside (names_of queues.now) lane row list.now)) }
+        ++ rendering (fold_inside (names_of queues.now) stood.now lane row list.now)) }
 {
-    let title = fold_words(alloc, queues, list)?;
+    let title = fold_words(alloc, queues, stood, list)?;
     let center = Point {
         x: lane_x(lane),
         y: row_y(row),
@@ -101,20 +104,21 @@ fn push_fold(
     alloc: Global,
     text: &mut String,
     queues: &[QueueDecl],
+    stood: &[Stood],
     lane: usize,
     row: u32,
     list: &[Occurrence],
 ) -> Result<(), AllocError>
     requires { lane ≤ MOST_LANES }
     ensures { OnOk result (string_bytes text.new ≡ string_bytes text.old
-        ++ rendering (fold (names_of queues.now) lane row list.now)) }
+        ++ rendering (fold (names_of queues.now) stood.now lane row list.now)) }
 {
     let class = [Attribute {
         key: Key::Class,
         value: Value::Words("fold"),
     }];
     push_start_tag(text, Tag::Group, &class)?;
-    push_fold_inside(alloc, text, queues, lane, row, list)?;
+    push_fold_inside(alloc, text, queues, stood, lane, row, list)?;
     push_end_tag(text, Tag::Group)
 }
 
@@ -123,20 +127,21 @@ fn push_mark_of(
     alloc: Global,
     text: &mut String,
     queues: &[QueueDecl],
+    stood: &[Stood],
     fibers: &[FiberReport],
     row: u32,
     list: &[Occurrence],
 ) -> Result<(), AllocError>
     requires { length fibers.now ≤ MOST_EVENTS }
     ensures { OnOk result (string_bytes text.new ≡ string_bytes text.old
-        ++ rendering (mark_of (names_of queues.now) fibers.now row list.now)) }
+        ++ rendering (mark_of (names_of queues.now) stood.now fibers.now row list.now)) }
 {
     match list {
         [] => Ok(()),
-        [event] => push_mark(alloc, text, queues, fibers, row, *event),
+        [event] => push_mark(alloc, text, queues, stood, fibers, row, *event),
         [first, ..] => {
             let lane = lane_of(fibers, first.fiber);
-            push_fold(alloc, text, queues, lane, row, list)
+            push_fold(alloc, text, queues, stood, lane, row, list)
         }
     }
 }
@@ -146,17 +151,18 @@ pub(crate) fn push_marks(
     alloc: Global,
     text: &mut String,
     queues: &[QueueDecl],
+    stood: &[Stood],
     fibers: &[FiberReport],
     drawn: &[Drawn],
     rows: u32,
 ) -> Result<(), AllocError>
     requires { length fibers.now ≤ MOST_EVENTS }
     ensures { OnOk result (string_bytes text.new ≡ string_bytes text.old
-        ++ rendering (marks_in (names_of queues.now) fibers.now drawn.now rows)) }
+        ++ rendering (marks_in (names_of queues.now) stood.now fibers.now drawn.now rows)) }
 {
     for row in 0..rows {
         let list = in_row(alloc, row, drawn)?;
-        push_mark_of(alloc, text, queues, fibers, row, &list)?;
+        push_mark_of(alloc, text, queues, stood, fibers, row, &list)?;
     }
     Ok(())
 }

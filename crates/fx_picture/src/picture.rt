@@ -21,6 +21,7 @@ use crate::look::STYLE;
 use crate::marks::push_marks;
 use crate::queues::{push_queue_lanes, push_visits};
 use crate::sheet::{Sheet, sheet_of};
+use crate::stood::Stood;
 use fx_model::{FiberReport, Report};
 use fx_order::{Occurrence, order_by_stamp};
 use fx_report::Blocked;
@@ -149,6 +150,7 @@ fn push_figures(
     alloc: Global,
     text: &mut String,
     queues: &[QueueDecl],
+    stood: &[Stood],
     fibers: &[FiberReport],
     sheet: &Sheet,
 ) -> Result<(), AllocError>
@@ -156,11 +158,11 @@ fn push_figures(
     requires queues { length queues.now ≤ MOST_EVENTS }
     requires events { length sheet.now.drawn.items ≤ MOST_EVENTS }
     ensures { OnOk result (string_bytes text.new ≡ string_bytes text.old ++ rendering
-        (figures_of (names_of queues.now) fibers.now (view_sheet sheet.now))) }
+        (figures_of (names_of queues.now) stood.now fibers.now (view_sheet sheet.now))) }
 {
     push_visits(alloc, text, fibers, queues.len(), &sheet.drawn, sheet.rows)?;
     push_arrows(text, fibers, &sheet.drawn)?;
-    push_marks(alloc, text, queues, fibers, &sheet.drawn, sheet.rows)
+    push_marks(alloc, text, queues, stood, fibers, &sheet.drawn, sheet.rows)
 }
 
 /// Appends the picture of these events of these fibers, of which these are blocked.
@@ -168,6 +170,7 @@ fn push_drawing(
     alloc: Global,
     text: &mut String,
     queues: &[QueueDecl],
+    stood: &[Stood],
     blocked: &[Blocked],
     fibers: &[FiberReport],
     sheet: &Sheet,
@@ -176,13 +179,13 @@ fn push_drawing(
     requires queues { length queues.now ≤ MOST_EVENTS }
     requires events { length sheet.now.drawn.items ≤ MOST_EVENTS }
     ensures { OnOk result (string_bytes text.new ≡ string_bytes text.old ++ rendering
-        (drawing (names_of queues.now) blocked.now fibers.now (view_sheet sheet.now))) }
+        (drawing (names_of queues.now) stood.now blocked.now fibers.now (view_sheet sheet.now))) }
 {
     push_start(text, fibers.len() + queues.len(), sheet.rows)?;
     push_head(alloc, text, fibers.len(), sheet.drawn.len())?;
     push_legend(text)?;
     push_ground(alloc, text, queues, blocked, fibers, sheet)?;
-    push_figures(alloc, text, queues, fibers, sheet)?;
+    push_figures(alloc, text, queues, stood, fibers, sheet)?;
     push_end_tag(text, Tag::Svg)
 }
 
@@ -191,6 +194,7 @@ fn push_picture(
     alloc: Global,
     text: &mut String,
     queues: &[QueueDecl],
+    stood: &[Stood],
     blocked: &[Blocked],
     fibers: &[FiberReport],
     list: &[Occurrence],
@@ -199,10 +203,10 @@ fn push_picture(
     requires events { length list.now ≤ MOST_EVENTS }
     requires queues { length queues.now ≤ MOST_EVENTS }
     ensures { OnOk result (string_bytes text.new ≡ string_bytes text.old
-        ++ picture_text (names_of queues.now) blocked.now fibers.now list.now) }
+        ++ picture_text (names_of queues.now) stood.now blocked.now fibers.now list.now) }
 {
     let sheet = sheet_of(alloc, list)?;
-    push_drawing(alloc, text, queues, blocked, fibers, &sheet)
+    push_drawing(alloc, text, queues, stood, blocked, fibers, &sheet)
 }
 
 /// The text of the picture with these events.
@@ -210,6 +214,7 @@ fn draw(
     alloc: Global,
     script: &Script,
     report: &Report,
+    stood: &[Stood],
     blocked: &[Blocked],
     list: &[Occurrence],
 ) -> Result<String, AllocError>
@@ -217,13 +222,14 @@ fn draw(
     requires events { length list.now ≤ MOST_EVENTS }
     requires queues { length script.now.queues.items ≤ MOST_EVENTS }
     ensures { IfOk result (λ text. string_bytes text
-        ≡ picture_text (queue_names (meaning script.now)) blocked.now report.now.fibers list.now) }
+        ≡ picture_text (queue_names (meaning script.now)) stood.now blocked.now report.now.fibers list.now) }
 {
     let mut text = String::new(alloc);
     push_picture(
         alloc,
         &mut text,
         &script.queues,
+        stood,
         blocked,
         &report.fibers,
         list,
@@ -231,15 +237,16 @@ fn draw(
     Ok(text)
 }
 
-/// The picture of a report, of which these fibers are blocked. It fails only where memory runs out, or where it would
+/// The picture of a report, of which these fibers are blocked, and in whose run fibers stood there. It fails only where memory runs out, or where it would
 /// be too large.
 pub fn format_picture(
     alloc: Global,
     script: &Script,
     report: &Report,
+    stood: &[Stood],
     blocked: &[Blocked],
 ) -> Result<String, PictureFault>
-    ensures picture { IfOk result (λ text. IsPicture (queue_names (meaning script.now)) report.now
+    ensures picture { IfOk result (λ text. IsPicture (queue_names (meaning script.now)) stood.now report.now
         blocked.now (string_bytes text)) }
     ensures fault { IfErr result (λ fault. fault ≡ TooLarge
         → IsTooLarge (queue_names (meaning script.now)) report.now) }
@@ -254,6 +261,6 @@ pub fn format_picture(
     if list.len() > MOST_EVENTS {
         return Err(PictureFault::TooLarge);
     }
-    let text = draw(alloc, script, report, blocked, &list)?;
+    let text = draw(alloc, script, report, stood, blocked, &list)?;
     Ok(text)
 }

@@ -1,16 +1,35 @@
 //! The picture of a fiber that is canceled while the main fiber waits, of one that waits for good, and of too many events.
 use fx_model::{FiberReport, Report, Source, State};
-use fx_picture::{MOST_EVENTS, PictureFault, format_picture};
+use fx_picture::{MOST_EVENTS, PictureFault, Stood, format_picture};
 use fx_report::{Blocked, Wait};
 use fx_term::Event::{Acquired, Awaited, Cancelled, Ended, Put, Request, Seen, Start};
 use fx_term::Outcome::{Canceled, Succeeded};
 use fx_term::{Event, Stamped};
-use fx_text::parse;
+use fx_text::{Position, parse};
 use std::alloc::{AllocError, Global};
 use std::test::Fail;
 
+/// Where fibers stood in that run: the main fiber at its first event, and the other one at its first two.
+static STOOD: [Stood; 3] = [
+    Stood {
+        fiber: 1,
+        position: Some(Position { line: 3, column: 7 }),
+        is_open: true,
+    },
+    Stood {
+        fiber: 0,
+        position: Some(Position { line: 1, column: 7 }),
+        is_open: false,
+    },
+    Stood {
+        fiber: 1,
+        position: None,
+        is_open: false,
+    },
+];
+
 /// What stands in the picture: rows are 18 apart from 64 on, and lanes 96 from 260 on.
-static DRAWN: [&str; 14] = [
+static DRAWN: [&str; 16] = [
     "<svg xmlns=\"http://www.w3.org/2000/svg\" role=\"img\" width=\"452\" height=\"378\"><title>",
     "<desc>2 fibers and 7 events. Each fiber",
     "<line class=\"lane\" x1=\"260\" y1=\"44\" x2=\"260\" y2=\"200\"></line>",
@@ -22,7 +41,9 @@ static DRAWN: [&str; 14] = [
     "<line class=\"arrow start\" x1=\"260\" y1=\"64\" x2=\"356\" y2=\"100\"></line>",
     "<line class=\"arrow cancel dashed\" x1=\"260\" y1=\"82\" x2=\"356\" y2=\"100\"></line>",
     "<line class=\"arrow end\" x1=\"356\" y1=\"136\" x2=\"260\" y2=\"154\"></line>",
-    "<circle class=\"start\" cx=\"260\" cy=\"64\" r=\"5\"><title>0 1 start 1</title>\n</circle>",
+    "<circle class=\"start\" cx=\"260\" cy=\"64\" r=\"5\"><title>0 1 start 1 at 1:7 closed</title>\n</circle>",
+    "<title>1 3 seen at 3:7</title>",
+    "<title>1 4 cancelled closed</title>",
     "<circle class=\"gone\" cx=\"356\" cy=\"136\" r=\"5\"><title>1 5 ended canceled</title>\n</circle>",
     "<circle class=\"end\" cx=\"260\" cy=\"172\" r=\"5\"><title>0 7 ended succeeded 6</title>\n</circle>\n</svg>\n",
 ];
@@ -119,7 +140,7 @@ fn canceled(alloc: Global) -> Result<Report, AllocError> {
 #[test]
 fn draws_marks_and_arrows(rt: HostRuntime) -> Result<(), Fail> {
     let script = parse(rt.alloc(), b"(main (pure 6))")?;
-    let text = format_picture(rt.alloc(), &script, &canceled(rt.alloc())?, &[])?;
+    let text = format_picture(rt.alloc(), &script, &canceled(rt.alloc())?, &STOOD, &[])?;
     for drawn in &DRAWN {
         assert!(rt; text.contains(*drawn));
     }
@@ -136,7 +157,7 @@ fn draws_what_is_held_and_waited_for(rt: HostRuntime) -> Result<(), Fail> {
         },
         node: None,
     }];
-    let text = format_picture(rt.alloc(), &script, &waiting(rt.alloc())?, &blocked)?;
+    let text = format_picture(rt.alloc(), &script, &waiting(rt.alloc())?, &[], &blocked)?;
     for drawn in &HELD {
         assert!(rt; text.contains(*drawn));
     }
@@ -146,7 +167,7 @@ fn draws_what_is_held_and_waited_for(rt: HostRuntime) -> Result<(), Fail> {
 #[test]
 fn folds_a_loop(rt: HostRuntime) -> Result<(), Fail> {
     let script = parse(rt.alloc(), b"(queue jobs 1) (main (pure 6))")?;
-    let text = format_picture(rt.alloc(), &script, &looping(rt.alloc())?, &[])?;
+    let text = format_picture(rt.alloc(), &script, &looping(rt.alloc())?, &[], &[])?;
     for drawn in &FOLDED {
         assert!(rt; text.contains(*drawn));
     }
@@ -162,7 +183,7 @@ fn refuses_too_many_events(rt: HostRuntime) -> Result<(), Fail> {
     }
     let report = report_of(rt.alloc(), &events, &[])?;
     let refused = matches!(
-        format_picture(rt.alloc(), &script, &report, &[]),
+        format_picture(rt.alloc(), &script, &report, &[], &[]),
         Err(PictureFault::TooLarge)
     );
     assert!(rt; refused);

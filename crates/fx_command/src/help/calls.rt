@@ -176,7 +176,10 @@ of all fibers stand in the one order of their stamps, in which each comes below
 those that it stands on. Arrows go from a start to the first event of its fiber,
 from an end to who learns of it, and from a request to who sees it. Bars show
 how long a fiber lives, where its clean-ups run, and what it holds. Where the
-pointer rests on a mark, its line of fibers trace is shown.
+pointer rests on a mark, its line of fibers trace is shown, with the line and
+the column of its form, and closed where no request would be seen. Eight events
+or more of a fiber, one after the other, at queues and of resources, have one
+mark with their number, and all their lines.
 
 A run of more than 20000 events is not drawn; then the status is 5.
 
@@ -189,8 +192,8 @@ const PICTURE_RUN: &str = "\
 fibers picture-run F WORKERS
 
 Runs the fibers as fibers run F WORKERS does, and draws the run as fibers
-picture does. Of two events of which neither stands on the other the order does
-not say which came first.
+picture does, but for where forms stand. Of two events of which neither stands
+on the other the order does not say which came first.
 
     $ echo '(main (start h (pure 1) (cancel h)))' > script
     $ fibers picture-run script 4 | tail -1

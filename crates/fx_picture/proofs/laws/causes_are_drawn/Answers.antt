@@ -3,6 +3,6 @@ use Rattle.fx_picture.proofs.laws.causes_are_drawn.Goals as goal
 
 pub returns : goal.returns
 returns c = record {
-  needed = λ s may r lawful list order names blocked. cause_is_drawn s may r lawful list order names blocked;
-  requested = λ s may r lawful list order names blocked. seen_is_drawn s may r lawful list order names blocked;
+  needed = λ s may r lawful list order names stood blocked. cause_is_drawn s may r lawful list order names stood blocked;
+  requested = λ s may r lawful list order names stood blocked. seen_is_drawn s may r lawful list order names stood blocked;
 }

@@ -7,5 +7,6 @@ use Rattle.fx_picture.proofs.picture.push_picture.Goals as goal
 pub returns : goal.returns
 returns c =
     on_ok_weaker c.push_drawing.result
-    (drawn_as _ _ (names_of c.args.queues.now) c.args.blocked.now c.args.fibers.now c.args.list.now (view_sheet c.in_ok-sheet.sheet) c.in_ok-sheet.ensures.is)
+    (drawn_as _ _ (names_of c.args.queues.now) c.args.stood.now c.args.blocked.now c.args.fibers.now c.args.list.now
+    (view_sheet c.in_ok-sheet.sheet) c.in_ok-sheet.ensures.is)
     c.push_drawing.ensures

@@ -1,0 +1,14 @@
+use Rattle.std.proofs.Common.{◌≡◌, ◌++◌, length}
+use Rattle.fx_term.specs.Script.{total}
+use Rattle.fx_text.specs.View.{meaning}
+use Rattle.fx_report.specs.Script.{script_of}
+use Rattle.fx_command.specs.StoodEvents.{stood_from, stood_events}
+use Rattle.fx_command.proofs.stood_events.stood_events.Given as goal
+
+-- what is told so far and what is left are all
+abbrev pub invariant-loop-next : goal.invariant-loop-next
+invariant-loop-next l =
+    l.list.items ++ stood_from l.places l.nodes.items l.rest ≡ stood_events l.places (total (script_of (meaning l.script))) l.told
+
+abbrev pub decreases-loop-next : goal.decreases-loop-next
+decreases-loop-next l = length l.rest

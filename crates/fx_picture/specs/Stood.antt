@@ -1,0 +1,23 @@
+-- Where fibers stood when they showed their events, and the words for that.
+use Rattle.std.specs.Prelude.{ℕ, ◌-◌, ◌==◌, Bool, true, false, Option, Some, None, List, [], ◌∷◌, ◌++◌, codes, decimal, if◌then◌else◌}
+use Rattle.fx_text.specs.declared.position.Position.{Position}
+use Rattle.fx_picture.specs.declared.stood.Stood.{Stood}
+
+-- what is told of event i of fiber f, where this is told of all events: of each fiber in the order of its trace
+abbrev pub stood_at : List Stood → ℕ → ℕ → Option Stood
+stood_at [] f i = None
+stood_at (s ∷ stood) f i = if s.fiber == f then (if i == 0 then Some s else stood_at stood f (i - 1)) else stood_at stood f i
+
+-- the line and the column of a form, if they are known
+abbrev pub position_words : Option Position → List ℕ
+position_words None = []
+position_words (Some p) = codes " at " ++ decimal p.line ++ codes ":" ++ decimal p.column
+
+-- a word where a request would not be seen
+abbrev pub open_words : Bool → List ℕ
+open_words true = []
+open_words false = codes " closed"
+
+abbrev pub stood_words : Option Stood → List ℕ
+stood_words None = []
+stood_words (Some s) = position_words s.position ++ open_words s.is_open

@@ -1,0 +1,75 @@
+//! Where fibers stood when they showed their events.
+ghost use Rattle.std.specs.Prelude.{◌≡◌, ◌++◌, OnOk, string_bytes};
+ghost use Rattle.fx_picture.specs.Stood.{stood_at, position_words, open_words, stood_words};
+
+use fx_order::Occurrence;
+use fx_text::Position;
+use std::alloc::AllocError;
+
+/// Where a fiber stood when it showed an event: the number of the fiber, where the form of that step stands in the script's
+/// text, if that is known, and whether a request would have been seen there.
+#[derive(Clone, Copy, PartialEq, Eq, Debug)]
+pub struct Stood {
+    pub fiber: u32,
+    pub position: Option<Position>,
+    pub is_open: bool,
+}
+
+/// What is told of that event, if something is: the first of these of its fiber is told of the first event of that, and so
+/// on.
+fn stood_at(stood: &[Stood], event: Occurrence) -> Option<Stood>
+    ensures { result ≡ stood_at stood.now event.fiber event.place }
+{
+    let mut left = event.place;
+    let mut rest = stood;
+    while let Some((it, more)) = rest.split_first() {
+        if it.fiber == event.fiber {
+            if left == 0 {
+                return Some(*it);
+            }
+            left -= 1;
+        }
+        rest = more;
+    }
+    None
+}
+
+/// Appends where a form stands, if that is known.
+fn push_position(text: &mut String, position: Option<Position>) -> Result<(), AllocError>
+    ensures { OnOk result
+        (string_bytes text.new ≡ string_bytes text.old ++ position_words position) }
+{
+    match position {
+        Some(Position { line, column }) => write!(text, " at {line}:{column}"),
+        None => Ok(()),
+    }
+}
+
+/// Appends a word where a request would not be seen.
+fn push_open(text: &mut String, is_open: bool) -> Result<(), AllocError>
+    ensures { OnOk result (string_bytes text.new ≡ string_bytes text.old ++ open_words is_open) }
+{
+    if is_open {
+        Ok(())
+    } else {
+        text.push_str(" closed")
+    }
+}
+
+/// Appends where the fiber stood when it showed this event, if that is told.
+pub(crate) fn push_stood(
+    text: &mut String,
+    stood: &[Stood],
+    event: Occurrence,
+) -> Result<(), AllocError>
+    ensures { OnOk result
+        (string_bytes text.new ≡ string_bytes text.old ++ stood_words (stood_at stood.now event.fiber event.place)) }
+{
+    match stood_at(stood, event) {
+        Some(it) => {
+            push_position(text, it.position)?;
+            push_open(text, it.is_open)
+        }
+        None => Ok(()),
+    }
+}
