@@ -66,7 +66,8 @@ stands_in (suc k) (y ∷ xs) x is = elim (cases_eq y.row x.row) [
 
 -- the mark of a row with events is an element, which stands there
 module _ (names : List (List ℕ)) (stood : List Stood) (fibers : List FiberReportView) where
-  own_mark : (row : ℕ) (list : List Occurrence) (o : Occurrence) → Contains list o → Has (mark_of names stood fibers row list) (mark_of names stood fibers row list)
+  own_mark : (row : ℕ) (list : List Occurrence) (o : Occurrence) → Contains list o
+      → Has (mark_of names stood fibers row list) (mark_of names stood fibers row list)
   own_mark row [] o c = (let lt = c.1 in absurd (omega arith))
   own_mark row (p ∷ []) o c = inl refl
   own_mark row (p ∷ q ∷ os) o c = inl refl
@@ -79,7 +80,8 @@ module _ (names : List (List ℕ)) (stood : List Stood) (fibers : List FiberRepo
     | inr other ↦ inl (has_mark list rows row e (omega arith) has)
   ]
 
-pub is_marked : (names : List (List ℕ)) (stood : List Stood) (blocked : List Blocked) (fibers : List FiberReportView) (list : List Occurrence) (place : ℕ) (x : Drawn)
+pub is_marked : (names : List (List ℕ)) (stood : List Stood) (blocked : List Blocked) (fibers : List FiberReportView)
+    (list : List Occurrence) (place : ℕ) (x : Drawn)
     → slice_get (sheet_of list).drawn place ≡ Some x
     → Contains (in_row x.row (sheet_of list).drawn) x.event × Has (picture names stood blocked fibers list)
     (mark_of names stood fibers x.row (in_row x.row (sheet_of list).drawn))

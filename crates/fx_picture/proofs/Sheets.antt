@@ -9,8 +9,8 @@ use Rattle.fx_order.specs.declared.occurrence.Occurrence.{Occurrence}
 use Rattle.fx_picture.specs.declared.drawn.Drawn.{Drawn}
 use Rattle.fx_picture.specs.declared.tail.Tail.{Tail}
 use Rattle.fx_picture.specs.declared.tail.TheConstants.{LEAST_RUN}
-use Rattle.fx_picture.specs.Folds.{is_quiet, next_tail, tail_from, no_tail, tail_of, run_below, joins_above, with_row, rows_with}
-use Rattle.fx_picture.specs.Folds.{sheet_from, sheet_of, event_of}
+use Rattle.fx_picture.specs.Folds.{is_quiet, next_tail, tail_from, no_tail, tail_of, run_below}
+use Rattle.fx_picture.specs.Folds.{joins_above, with_row, rows_with, sheet_from, sheet_of, event_of}
 use Rattle.fx_picture.specs.IsFolded.{SharesRow, IsRun}
 
 -- what is one of these or the last
