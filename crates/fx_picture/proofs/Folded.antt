@@ -29,7 +29,8 @@ module _ (names : List (List ℕ)) (stood : List Stood) (lane row : ℕ) (list :
   pub fold_joined : t₁ ≡ t₀ ++ start_tag tag.Group (set_to key.Class (codes "fold") ∷ []) → t₂ ≡ t₁ ++ rendering (fold_inside names stood lane row list)
       → t₃ ≡ t₂ ++ end_tag tag.Group → t₃ ≡ t₀ ++ rendering (fold names stood lane row list)
   fold_joined p q r =
-      within t₀ t₁ t₂ t₃ (start_tag tag.Group (set_to key.Class (codes "fold") ∷ [])) (rendering (fold_inside names stood lane row list)) (end_tag tag.Group) p q r
+      within t₀ t₁ t₂ t₃ (start_tag tag.Group (set_to key.Class (codes "fold") ∷ [])) (rendering (fold_inside names stood lane row list))
+      (end_tag tag.Group) p q r
 
 pub entry_joined : (t₀ t₁ t₂ ws : List ℕ) (row y : ℕ) → y ≡ legend_y row → t₁ ≡ t₀ ++ rendering (fold_sample y)
     → t₂ ≡ t₁ ++ rendering (said y ws) → t₂ ≡ t₀ ++ rendering (fold_entry row ws)
