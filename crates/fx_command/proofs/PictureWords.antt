@@ -8,8 +8,8 @@ use Rattle.fx_picture.specs.declared.stood.Stood.{Stood}
 use Rattle.fx_picture.specs.IsPicture.{IsPicture, IsTooLarge}
 use Rattle.fx_command.specs.Pictured.{IsPictured, drawn, too_large, too_large_line}
 
-pub drawn_with : (names : List (List ℕ)) (stood : List Stood) (r : ReportView) (blocked : List Blocked) (said text : List ℕ) (status : ℕ) → IsPicture names stood r blocked text
-    → status ≡ status_of r → IsPictured names stood r blocked said said status text
+pub drawn_with : (names : List (List ℕ)) (stood : List Stood) (r : ReportView) (blocked : List Blocked) (said text : List ℕ) (status : ℕ)
+    → IsPicture names stood r blocked text → status ≡ status_of r → IsPictured names stood r blocked said said status text
 drawn_with names stood r blocked said text status is told = rw told (drawn is)
 
 pub refused_with : (names : List (List ℕ)) (stood : List Stood) (r : ReportView) (blocked : List Blocked) (said words text : List ℕ) → IsTooLarge names r
