@@ -107,7 +107,7 @@ static OF_TWO: [Line; 2] = [
 ];
 
 /// Those of each worked script.
-static OF_WORKED: [Line; 17] = [
+static OF_WORKED: [Line; 18] = [
     ("parse", "", Row::Text(TextCall::Parse)),
     (
         "PlainWorld::new",
@@ -123,6 +123,11 @@ static OF_WORKED: [Line; 17] = [
         "tell_run",
         "",
         Row::OnScript(OnScript::Text(ScriptCall::Tell)),
+    ),
+    (
+        "format_picture",
+        "",
+        Row::OnScript(OnScript::Text(ScriptCall::Draw)),
     ),
     (
         "write_report",

@@ -9,6 +9,7 @@ use crate::scripts::{Printed, Worked};
 use crate::shown::{is_written, room};
 use fx_fiber::Report;
 use fx_findings::{Compared, compare, explore};
+use fx_picture::{PictureFault, format_picture};
 use fx_plain::{ENDED, OutFault, Told, replay, tell_run, write_report, write_trace};
 use fx_term::Memory;
 use fx_text::Script;
@@ -22,6 +23,8 @@ pub enum ScriptCall {
     Tell,
     /// What a search of all runs has found is compared with the report.
     Compare,
+    /// The report is drawn.
+    Draw,
     /// The writer of this.
     Write(Printed),
 }
@@ -81,6 +84,21 @@ fn compares(alloc: Global, given: &Given, text: &str, refuser: &Refuser) -> Answ
     match compared {
         Ok(Compared { status, .. }) => whole_where(status == ENDED),
         Err(_) => Answer::Memory,
+    }
+}
+
+/// What the picture of the report answers, which is to be the one that ample memory gives.
+fn draws(alloc: Global, given: &Given, refuser: &Refuser) -> Answer {
+    let Ok(whole) = format_picture(alloc, &given.script, &given.report, &[], &[]) else {
+        return UNSET;
+    };
+    refuser.go_on();
+    let drawn = format_picture(alloc, &given.script, &given.report, &[], &[]);
+    refuser.hold();
+    match drawn {
+        Ok(text) => whole_where(text.as_bytes() == whole.as_bytes()),
+        Err(PictureFault::Memory) => Answer::Memory,
+        Err(PictureFault::TooLarge) => OTHER,
     }
 }
 
@@ -147,6 +165,7 @@ pub fn made(
         ScriptCall::Replay => replays(alloc, given, on.report, refuser),
         ScriptCall::Tell => tells(alloc, given, refuser),
         ScriptCall::Compare => compares(alloc, given, on.report, refuser),
+        ScriptCall::Draw => draws(alloc, given, refuser),
         ScriptCall::Write(printed) => written(alloc, given, on, printed, refuser),
     }
 }
