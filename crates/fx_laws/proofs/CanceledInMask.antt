@@ -31,20 +31,20 @@ use Rattle.fx_laws.proofs.Looking.{looking, can_see}
 use Rattle.fx_laws.proofs.Doomed.{known_doomed, forced_doomed}
 
 -- a term that has no number of a region below this one
-record IsApart (low : ℕ) (t t' : Term) : Type 0 where
-  is : t ≡ t'
-  twin : Term
-  alike : Alike low low t twin
+pub record IsApart (low : ℕ) (t t' : Term) : Type 0 where
+  pub is : t ≡ t'
+  pub twin : Term
+  pub alike : Alike low low t twin
 
 module _ (low : ℕ) where
   -- the counts are the same, but that the first fiber is known to be canceled; and the other way round
-  record FirstKnows (c c' : Counts) : Type 0 where
-    first : c ≡ known_canceled c'
-    below : low ≤ c.masks
+  pub record FirstKnows (c c' : Counts) : Type 0 where
+    pub first : c ≡ known_canceled c'
+    pub below : low ≤ c.masks
 
-  record SecondKnows (c c' : Counts) : Type 0 where
-    second : c' ≡ known_canceled c
-    below : low ≤ c.masks
+  pub record SecondKnows (c c' : Counts) : Type 0 where
+    pub second : c' ≡ known_canceled c
+    pub below : low ≤ c.masks
 
   apart_results : (w : Done) (t' : Term) → IsApart low (Finished w) t' → t' ≡ Finished w
   apart_results w t' s = sym s.is
@@ -56,7 +56,7 @@ module _ (low : ℕ) where
   apart_after {c = c} below s r =
       let f = row_alike low low r s.alike (here c.masks below) in (record { is = refl; twin = f.term; alike = f.is_alike }, f.entered.from)
 
-  first_rows : (k : Bool) (c c' d : Counts) (l : Label) (t t' u : Term) → FirstKnows c c' → IsApart low t t' → Row k c t l d u
+  pub first_rows : (k : Bool) (c c' d : Counts) (l : Label) (t t' u : Term) → FirstKnows c c' → IsApart low t t' → Row k c t l d u
       → RowIsFollowed looking FirstKnows (IsApart low) k c' t' l d u
   first_rows k c c' d l t t' u near same r =
       let after = apart_after near.below same r in
@@ -74,7 +74,7 @@ module _ (low : ℕ) where
         same = after.0;
       }
 
-  second_rows : (k : Bool) (c c' d : Counts) (l : Label) (t t' u : Term) → SecondKnows c c' → IsApart low t t' → Row k c t l d u
+  pub second_rows : (k : Bool) (c c' d : Counts) (l : Label) (t t' u : Term) → SecondKnows c c' → IsApart low t t' → Row k c t l d u
       → RowIsFollowed looking SecondKnows (IsApart low) k c' t' l d u
   second_rows k c c' d l t t' u near same r =
       let after = apart_after near.below same r in
@@ -90,16 +90,16 @@ module _ (low : ℕ) where
         same = after.0;
       }
 
-abbrev nothing : Term
+abbrev pub nothing : Term
 nothing = Pure (Number 0)
 
-abbrev outside : List Context
+abbrev pub outside : List Context
 outside = LetIn None Canceled ∷ HandleIn None nothing ∷ []
 
-abbrev in_both : ℕ → List Context
+abbrev pub in_both : ℕ → List Context
 in_both n = LetIn None Canceled ∷ HandleIn None nothing ∷ MaskedIn n ∷ []
 
-abbrev in_one : ℕ → List Context
+abbrev pub in_one : ℕ → List Context
 in_one n = MaskedIn n ∷ []
 
 ends : (n : ℕ) (d d' : Counts) (w : Done) → d.known ≡ true → AreMatched looking d (Runs (placed (in_one n) (Finished w))) d' (Runs (placed (in_both n)
@@ -115,17 +115,17 @@ module _ (n : ℕ) (a : Term) (same : Alike (n + 1) (n + 1) a a) where
   abbrev low : ℕ
   low = n + 1
 
-  apart : IsApart low a a
+  pub apart : IsApart low a a
   apart = record { is = refl; twin = a; alike = same }
 
   shut_in : (fs gs : List Context) → ((t t' : Term) → IsApart low t t' → IsClosedThere fs t) → ((t t' : Term) → IsApart low t t' → IsClosedThere gs t)
       → (t t' : Term) → IsApart low t t' → IsClosedThere fs t × IsClosedThere gs t'
   shut_in fs gs p q t t' s = (p t t' s, subst (λ (y : Term). IsClosedThere gs y) s.is (q t t' s))
 
-  one_shut : (t t' : Term) → IsApart low t t' → IsClosedThere (in_one n) t
+  pub one_shut : (t t' : Term) → IsApart low t t' → IsClosedThere (in_one n) t
   one_shut t t' s = left_shut low low n (in_one n) refl (omega arith) s.alike
 
-  both_shut : (t t' : Term) → IsApart low t t' → IsClosedThere (in_both n) t
+  pub both_shut : (t t' : Term) → IsApart low t t' → IsClosedThere (in_both n) t
   both_shut t t' s = left_shut low low n (in_both n) refl (omega arith) s.alike
 
   -- what comes after the self-request

@@ -46,3 +46,4 @@ pub mod InverseMasks
 pub mod VisibleEvents
 pub mod MainLooks
 pub mod LooksInScripts
+pub mod MaskedWaits

@@ -13,10 +13,11 @@ use Rattle.fx_term.specs.Need.{need}
 use Rattle.fx_term.specs.Scope.{with_name, with_named, IsNew, IsScoped}
 use Rattle.fx_term.specs.Term.{Term, Pure, Raise, Canceled, Let, Handle, Mask, Poll, OnCancel, Bracket}
 use Rattle.fx_term.specs.Script.{ScriptView}
-use Rattle.fx_model.specs.Row.{Label, Silent, Shows, Learns, Starts}
+use Rattle.fx_model.specs.Row.{Counts, Label, Silent, Shows, Learns, Starts}
 use Rattle.fx_model.specs.Origin.{Origin, main_origin}
-use Rattle.fx_model.specs.Run.{events}
-use Rattle.fx_model.specs.Report.{FiberReportView, ReportView, is_request_for, is_requested_in}
+use Rattle.fx_model.specs.Run.{first_counts, Leads, events}
+use Rattle.fx_model.specs.Step.{Progress, Runs, has_ended}
+use Rattle.fx_model.specs.Report.{FiberReportView, ReportView, is_request_for, is_requested_in, final_outside}
 use Rattle.fx_model.specs.LawfulReport.{IsSeenRightly, IsLawfulReport}
 use Rattle.fx_model.proofs.EventLabels.{run_is_proper}
 use Rattle.fx_model.specs.MaskLaws.{IsPlain, forced_after}
@@ -26,14 +27,9 @@ use Rattle.fx_laws.proofs.CanceledInOrder.{in_order_looks_like_all, in_order_loo
 use Rattle.fx_laws.proofs.BracketLaws.{bracket_looks_like_all, bracket_looks_the_same}
 use Rattle.fx_laws.specs.Others.{visible, OthersCanSee, LookTheSame, LooksLikeAllOf, IsCanceledAlone, LookTheSameUnlessCanceledAlone}
 use Rattle.fx_script_laws.specs.LookAlike.{visible_events, HasMainEnded, HasReportLike, IsMainCanceledAlone}
-use Rattle.fx_script_laws.proofs.VisibleEvents.{visible_shown}
-use Rattle.fx_script_laws.proofs.MainLooks.{with_another_main, is_lawful, look_alike}
-
--- some label sees a request
-abbrev sees_request : List Label → Bool
-sees_request [] = false
-sees_request (Shows event.Seen ∷ ls) = true
-sees_request (l ∷ ls) = sees_request ls
+use Rattle.fx_script_laws.proofs.VisibleEvents.{visible_shown, sees_request}
+use Rattle.fx_script_laws.proofs.MaskedWaits.{IsBlockedAt, CanWait, waits_first, waits_second}
+use Rattle.fx_script_laws.proofs.MainLooks.{with_another_main, is_lawful, look_alike, Stops, over, waits}
 
 module _ (r : ReportView) where
   -- none that does so is told wrongly
@@ -83,7 +79,9 @@ module _ (P Q : ℕ → Type 0) (by : (n : ℕ) → P n → Q n) where
   each_by (n ∷ ns) h = All-cons Q n ns (by n (All-head P n ns h)) (each_by ns (All-tail P n ns h))
 
 module _ (s : ScriptView) (other : Term) (may : ℕ → Bool) (r : ReportView) (lawful : IsLawfulReport s may r) (needs : need s.term ≡ need other)
-    (over : HasMainEnded r) (main_may : may 0 ≡ true) (k : OthersCanSee (main_origin other) (visible (lawful.runs.labels 0))) where
+    (main_may : may 0 ≡ true) (k : OthersCanSee (main_origin other) (visible (lawful.runs.labels 0)))
+    (stops : Stops (final_outside s r) (lawful.runs.progress 0) k.counts k.progress)
+    (unseen : has_ended (lawful.runs.progress 0) ≡ false → sees_request k.labels ≡ false) where
   abbrev MayBeAsked : ℕ → Type 0
   MayBeAsked f = (f < 1 + need other) × (may f ≡ true)
 
@@ -105,37 +103,49 @@ module _ (s : ScriptView) (other : Term) (may : ℕ → Bool) (r : ReportView) (
 
   by_outside : (outs : List ℕ) (rise : IsStrictlyIncreasing outs) (named : (f : ℕ) → Contains outs f → MayBeAsked f)
       (same : (f : ℕ) → f ≢ 0 → list_any (λ g. g == f) outs ≡ list_any (λ g. g == f) r.outside)
-      → All (IsSeenRightly (with_another_main s other may r lawful needs over k outs rise named same) 0) k.labels → Like
-  by_outside outs rise named same asked =
+      (main_same : has_ended (lawful.runs.progress 0) ≡ false → list_any (λ g. g == 0) outs ≡ list_any (λ g. g == 0) r.outside)
+      → All (IsSeenRightly (with_another_main s other may r lawful needs k stops outs rise named same main_same) 0) k.labels → Like
+  by_outside outs rise named same main_same asked =
       record {
-        report = with_another_main s other may r lawful needs over k outs rise named same;
-        lawful = is_lawful s other may r lawful needs over k outs rise named same asked;
-        alike = look_alike s other may r lawful needs over k outs rise named same;
+        report = with_another_main s other may r lawful needs k stops outs rise named same main_same;
+        lawful = is_lawful s other may r lawful needs k stops outs rise named same main_same asked;
+        alike = look_alike s other may r lawful needs k stops outs rise named same main_same;
       }
 
-  as_before : All (IsSeenRightly (with_another_main s other may r lawful needs over k r.outside lawful.outside_ascending named (λ f ne. refl)) 0) k.labels
+  as_before : All (IsSeenRightly (with_another_main s other may r lawful needs k stops r.outside lawful.outside_ascending named (λ f ne. refl) (λ w. refl)) 0) k.labels
       → Like
-  as_before asked = by_outside r.outside lawful.outside_ascending named (λ f ne. refl) asked
+  as_before asked = by_outside r.outside lawful.outside_ascending named (λ f ne. refl) (λ w. refl) asked
 
-  with_main_asked : (b : Bool) → list_any (λ g. g == 0) r.outside ≡ b → Like
-  with_main_asked true e =
-      let z = with_another_main s other may r lawful needs over k r.outside lawful.outside_ascending named (λ f ne. refl) in
-      as_before (asked_rightly z (asked_outside z e) k.labels)
-  with_main_asked false e =
-      let rise = rises_from_main r.outside e lawful.outside_ascending in
-      let z = with_another_main s other may r lawful needs over k (0 ∷ r.outside) rise named_with_main others_asked in
-      by_outside (0 ∷ r.outside) rise named_with_main others_asked (asked_rightly z (asked_outside z refl) k.labels)
+  -- main may be added to these where it has ended
+  module _ (ended : has_ended (lawful.runs.progress 0) ≡ true) where
+    not_blocked : (b : Bool) → has_ended (lawful.runs.progress 0) ≡ false → b ≡ list_any (λ g. g == 0) r.outside
+    not_blocked b was = absurd (let e = ended in cc)
 
-  by_labels : (b : Bool) → sees_request k.labels ≡ b → Like
-  by_labels true e = with_main_asked (list_any (λ g. g == 0) r.outside) refl
-  by_labels false e =
-      let z = with_another_main s other may r lawful needs over k r.outside lawful.outside_ascending named (λ f ne. refl) in
-      as_before (unseen_rightly z k.labels e)
+    with_main_asked : (b : Bool) → list_any (λ g. g == 0) r.outside ≡ b → Like
+    with_main_asked true e =
+        let z = with_another_main s other may r lawful needs k stops r.outside lawful.outside_ascending named (λ f ne. refl) (λ w. refl) in
+        as_before (asked_rightly z (asked_outside z e) k.labels)
+    with_main_asked false e =
+        let rise = rises_from_main r.outside e lawful.outside_ascending in
+        let z = with_another_main s other may r lawful needs k stops (0 ∷ r.outside) rise named_with_main others_asked (not_blocked true) in
+        by_outside (0 ∷ r.outside) rise named_with_main others_asked (not_blocked true) (asked_rightly z (asked_outside z refl) k.labels)
+
+    by_labels : (b : Bool) → sees_request k.labels ≡ b → Like
+    by_labels true e = with_main_asked (list_any (λ g. g == 0) r.outside) refl
+    by_labels false e =
+        let z = with_another_main s other may r lawful needs k stops r.outside lawful.outside_ascending named (λ f ne. refl) (λ w. refl) in
+        as_before (unseen_rightly z k.labels e)
 
   report_like : Like
-  report_like = by_labels (sees_request k.labels) refl
+  report_like = by_end (has_ended (lawful.runs.progress 0)) refl
+    where
+      by_end : (b : Bool) → has_ended (lawful.runs.progress 0) ≡ b → Like
+      by_end true e = by_labels e (sees_request k.labels) refl
+      by_end false e =
+          let z = with_another_main s other may r lawful needs k stops r.outside lawful.outside_ascending named (λ f ne. refl) (λ w. refl) in
+          as_before (unseen_rightly z k.labels (unseen e))
 
-module _ (t u : Term) (capacities : List ℕ) (may : ℕ → Bool) (r : ReportView) (needs : need t ≡ need u) (main_may : may 0 ≡ true) (over : HasMainEnded r)
+module _ (t u : Term) (capacities : List ℕ) (may : ℕ → Bool) (r : ReportView) (needs : need t ≡ need u) (main_may : may 0 ≡ true)
     (lawful : IsLawfulReport (record { term = t; capacities = capacities }) may r) where
   abbrev seen_of_main : List Label
   seen_of_main = visible (lawful.runs.labels 0)
@@ -147,20 +157,54 @@ module _ (t u : Term) (capacities : List ℕ) (may : ℕ → Bool) (r : ReportVi
       subst (λ (b : Origin). OthersCanSee b seen_of_main) lawful.origins.main
       (record { labels = lawful.runs.labels 0; counts = lawful.runs.counts 0; progress = lawful.runs.progress 0; run = h.run; visible_is = refl })
 
-  by_other : OthersCanSee (record { term = u; next = 1; end = 1 + need t }) seen_of_main
+  -- the other main fiber can look so, and stops where this one does
+  record CanLook (b : Origin) : Type 0 where
+    pub sees : OthersCanSee b seen_of_main
+    pub stops : Stops (final_outside (record { term = t; capacities = capacities }) r) (lawful.runs.progress 0) sees.counts sees.progress
+    pub unseen : has_ended (lawful.runs.progress 0) ≡ false → sees_request sees.labels ≡ false
+
+  by_look : CanLook (record { term = u; next = 1; end = 1 + need t }) → HasReportLike (record { term = u; capacities = capacities }) may r
+  by_look look =
+      let there : CanLook (main_origin u) = subst (λ (n : ℕ). CanLook (record { term = u; next = 1; end = 1 + n })) needs look in
+      report_like (record { term = t; capacities = capacities }) u may r lawful needs main_may there.sees there.stops there.unseen
+
+  ended_by : HasMainEnded r → has_ended (lawful.runs.progress 0) ≡ true
+  ended_by ends = let x = lawful.starters.main in (lawful.runs.run 0 x.0 x.1).state ∙ ends x.0 x.1
+
+  by_other : has_ended (lawful.runs.progress 0) ≡ true → OthersCanSee (record { term = u; next = 1; end = 1 + need t }) seen_of_main
       → HasReportLike (record { term = u; capacities = capacities }) may r
-  by_other k =
-      report_like (record { term = t; capacities = capacities }) u may r lawful needs over main_may
-      (subst (λ (n : ℕ). OthersCanSee (record { term = u; next = 1; end = 1 + n }) seen_of_main) needs k)
+  by_other e k = by_look (record { sees = k; stops = over e; unseen = λ w. absurd (let h = e in cc) })
 
-  pub looks_same : LookTheSame t u → HasReportLike (record { term = u; capacities = capacities }) may r
-  looks_same same = by_other ((same 1 (1 + need t) seen_of_main).0 main_seen)
+  pub looks_ended : has_ended (lawful.runs.progress 0) ≡ true → LookTheSame t u → HasReportLike (record { term = u; capacities = capacities }) may r
+  looks_ended e same = by_other e ((same 1 (1 + need t) seen_of_main).0 main_seen)
 
-  pub looks_all : LooksLikeAllOf u t → HasReportLike (record { term = u; capacities = capacities }) may r
-  looks_all all = by_other (all 1 (1 + need t) seen_of_main main_seen)
+  -- where main is blocked, by a run of the other main fiber that is so too
+  pub looks_blocked : has_ended (lawful.runs.progress 0) ≡ false
+      → ((ls : List Label) (d : Counts) (q : Progress) → Leads (first_counts (main_origin t)) (Runs t) ls d q
+      → IsBlockedAt (final_outside (record { term = t; capacities = capacities }) r) d q
+      → CanWait (final_outside (record { term = t; capacities = capacities }) r) (first_counts (main_origin t)) (Runs u) (visible ls))
+      → HasReportLike (record { term = u; capacities = capacities }) may r
+  looks_blocked was too =
+      let x = lawful.starters.main in
+      let h = lawful.runs.run 0 x.0 x.1 in
+      let run : Leads (first_counts (main_origin t)) (Runs t) (lawful.runs.labels 0) (lawful.runs.counts 0) (lawful.runs.progress 0) =
+      subst (λ (b : Origin). Leads (first_counts b) (Runs b.term) (lawful.runs.labels 0) (lawful.runs.counts 0) (lawful.runs.progress 0))
+      lawful.origins.main h.run in
+      let w = too (lawful.runs.labels 0) (lawful.runs.counts 0) (lawful.runs.progress 0) run (record { goes_on = was; unable = h.unable }) in
+      by_look (record {
+        sees = record { labels = w.labels; counts = w.counts; progress = w.progress; run = w.run; visible_is = w.visible_is };
+        stops = waits was w.blocked.goes_on w.blocked.unable;
+        unseen = λ e. w.unseen;
+      })
 
-  pub looks_unless : LookTheSameUnlessCanceledAlone t u → (IsMainCanceledAlone r → ⊥) → HasReportLike (record { term = u; capacities = capacities }) may r
-  looks_unless same more = by_other ((same 1 (1 + need t) seen_of_main not_alone).0 main_seen)
+  pub looks_same : HasMainEnded r → LookTheSame t u → HasReportLike (record { term = u; capacities = capacities }) may r
+  looks_same ended same = by_other (ended_by ended) ((same 1 (1 + need t) seen_of_main).0 main_seen)
+
+  pub looks_all : HasMainEnded r → LooksLikeAllOf u t → HasReportLike (record { term = u; capacities = capacities }) may r
+  looks_all ended all = by_other (ended_by ended) (all 1 (1 + need t) seen_of_main main_seen)
+
+  pub looks_unless : HasMainEnded r → LookTheSameUnlessCanceledAlone t u → (IsMainCanceledAlone r → ⊥) → HasReportLike (record { term = u; capacities = capacities }) may r
+  looks_unless ended same more = by_other (ended_by ended) ((same 1 (1 + need t) seen_of_main not_alone).0 main_seen)
     where
       not_alone : IsCanceledAlone seen_of_main → ⊥
       not_alone alone = more (λ x e.
@@ -179,33 +223,47 @@ module _ (scope : ℕ → Option NameKind) (p : ℕ) where
   unused = with_name p kind.OtherPoll scope
 
   module _ (a : Term) (capacities : List ℕ) (may : ℕ → Bool) (r : ReportView) (plain : IsPlain a) (scoped : IsScoped unused a) (main_may : may 0 ≡ true)
-      (over : HasMainEnded r) where
-    pub cancels_after : IsLawfulReport (record { term = Mask p (Let None Canceled a); capacities = capacities }) may r
-        → HasReportLike (record { term = forced_after (Mask p a) Canceled; capacities = capacities }) may r
-    cancels_after lawful =
-        looks_same (Mask p (Let None Canceled a)) (forced_after (Mask p a) Canceled) capacities may r (omega arith) main_may over lawful
-        (canceled_in_mask scope p a plain scoped)
+    where
+      abbrev first : Term
+      first = Mask p (Let None Canceled a)
 
-    pub cancels_before : IsLawfulReport (record { term = forced_after (Mask p a) Canceled; capacities = capacities }) may r
-        → HasReportLike (record { term = Mask p (Let None Canceled a); capacities = capacities }) may r
-    cancels_before lawful =
-        looks_same (forced_after (Mask p a) Canceled) (Mask p (Let None Canceled a)) capacities may r (omega arith) main_may over lawful
-        (turned (canceled_in_mask scope p a plain scoped))
+      abbrev second : Term
+      second = forced_after (Mask p a) Canceled
+
+      pub cancels_after : IsLawfulReport (record { term = Mask p (Let None Canceled a); capacities = capacities }) may r
+          → HasReportLike (record { term = forced_after (Mask p a) Canceled; capacities = capacities }) may r
+      cancels_after lawful = by_end (has_ended (lawful.runs.progress 0)) refl
+        where
+          by_end : (b : Bool) → has_ended (lawful.runs.progress 0) ≡ b → HasReportLike (record { term = second; capacities = capacities }) may r
+          by_end true e = looks_ended first second capacities may r (omega arith) main_may lawful e (canceled_in_mask scope p a plain scoped)
+          by_end false e =
+              looks_blocked first second capacities may r (omega arith) main_may lawful e
+              (waits_second (final_outside (record { term = first; capacities = capacities }) r) scope p a plain scoped (first_counts (main_origin first)) refl)
+
+      pub cancels_before : IsLawfulReport (record { term = forced_after (Mask p a) Canceled; capacities = capacities }) may r
+          → HasReportLike (record { term = Mask p (Let None Canceled a); capacities = capacities }) may r
+      cancels_before lawful = by_end (has_ended (lawful.runs.progress 0)) refl
+        where
+          by_end : (b : Bool) → has_ended (lawful.runs.progress 0) ≡ b → HasReportLike (record { term = first; capacities = capacities }) may r
+          by_end true e = looks_ended second first capacities may r (omega arith) main_may lawful e (turned (canceled_in_mask scope p a plain scoped))
+          by_end false e =
+              looks_blocked second first capacities may r (omega arith) main_may lawful e
+              (waits_first (final_outside (record { term = second; capacities = capacities }) r) scope p a plain scoped (first_counts (main_origin second)) refl)
 
   module _ (f g : Term) (capacities : List ℕ) (may : ℕ → Bool) (r : ReportView) (plain : IsPlain f) (plain' : IsPlain g) (scoped : IsScoped unused f)
-      (scoped' : IsScoped unused g) (main_may : may 0 ≡ true) (over : HasMainEnded r) where
+      (scoped' : IsScoped unused g) (main_may : may 0 ≡ true) (ended : HasMainEnded r) where
     pub in_a_mask : IsLawfulReport (record { term = OnCancel (OnCancel Canceled f) g; capacities = capacities }) may r
         → HasReportLike (record { term = forced_after (Mask p (forced_after f g)) Canceled; capacities = capacities }) may r
     in_a_mask lawful =
-        looks_all (OnCancel (OnCancel Canceled f) g) (forced_after (Mask p (forced_after f g)) Canceled) capacities may r (omega arith) main_may over lawful
+        looks_all (OnCancel (OnCancel Canceled f) g) (forced_after (Mask p (forced_after f g)) Canceled) capacities may r (omega arith) main_may lawful ended
         (in_order_looks_like_all scope p f g plain plain' scoped scoped')
 
     pub in_finalizers : (IsMainCanceledAlone r → ⊥)
         → IsLawfulReport (record { term = forced_after (Mask p (forced_after f g)) Canceled; capacities = capacities }) may r
         → HasReportLike (record { term = OnCancel (OnCancel Canceled f) g; capacities = capacities }) may r
     in_finalizers more lawful =
-        looks_unless (forced_after (Mask p (forced_after f g)) Canceled) (OnCancel (OnCancel Canceled f) g) capacities may r (omega arith) main_may over
-        lawful (turned_unless (in_order_looks_the_same scope p f g plain plain' scoped scoped')) more
+        looks_unless (forced_after (Mask p (forced_after f g)) Canceled) (OnCancel (OnCancel Canceled f) g) capacities may r (omega arith) main_may lawful
+        ended (turned_unless (in_order_looks_the_same scope p f g plain plain' scoped scoped')) more
 
 module _ (scope : ℕ → Option NameKind) (p y e : ℕ) (x : Option ℕ) (a u d : Term) where
   abbrev as_mask : Term
@@ -218,15 +276,15 @@ module _ (scope : ℕ → Option NameKind) (p y e : ℕ) (x : Option ℕ) (a u d
   module _ (capacities : List ℕ) (may : ℕ → Bool) (r : ReportView) (py : p ≢ y) (pe : p ≢ e) (new : IsNew (without_names scope p y e) x) (pa : IsPlain a)
       (pu : IsPlain u) (pd : IsPlain d) (sa : IsScoped (without_names scope p y e) a)
       (su : IsScoped (with_named x kind.Value (without_names scope p y e)) u) (sd : IsScoped (with_named x kind.Value (without_names scope p y e)) d)
-      (none : need d ≡ 0) (main_may : may 0 ≡ true) (over : HasMainEnded r) where
+      (none : need d ≡ 0) (main_may : may 0 ≡ true) (ended : HasMainEnded r) where
     pub bracket_masked : IsLawfulReport (record { term = Bracket x a u d; capacities = capacities }) may r
         → HasReportLike (record { term = as_mask; capacities = capacities }) may r
     bracket_masked lawful =
-        looks_all (Bracket x a u d) as_mask capacities may r (omega (arith, none)) main_may over lawful
+        looks_all (Bracket x a u d) as_mask capacities may r (omega (arith, none)) main_may lawful ended
         (bracket_looks_like_all scope p y e x a u d py pe new pa pu pd sa su sd)
 
     pub mask_bracketed : (IsMainCanceledAlone r → ⊥) → IsLawfulReport (record { term = as_mask; capacities = capacities }) may r
         → HasReportLike (record { term = Bracket x a u d; capacities = capacities }) may r
     mask_bracketed more lawful =
-        looks_unless as_mask (Bracket x a u d) capacities may r (omega (arith, none)) main_may over lawful
+        looks_unless as_mask (Bracket x a u d) capacities may r (omega (arith, none)) main_may lawful ended
         (turned_unless (bracket_looks_the_same scope p y e x a u d py pe new pa pu pd sa su sd)) more

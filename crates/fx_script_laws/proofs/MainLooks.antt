@@ -1,5 +1,5 @@
 -- A report in which main has ended has one that looks the same, where another main fiber can look the same.
-use Rattle.std.proofs.Common.{◌≡◌, ◌≢◌, ℕ, zero, suc, ◌+◌, ◌==◌, ◌<◌, Bool, true, false, ◌||◌, Option, Some, List, [], ◌∷◌, ◌++◌, map, All, Contains}
+use Rattle.std.proofs.Common.{◌≡◌, ◌≢◌, ℕ, zero, suc, ◌+◌, ◌==◌, ◌<◌, Bool, true, false, ◌||◌, Option, Some, None, List, [], ◌∷◌, ◌++◌, map, All, Contains}
 use Rattle.std.proofs.Common.{refl, sym, ◌∙◌, ap, subst, arith}
 use Rattle.std.specs.Prelude.{if◌then◌else◌}
 use Rattle.std.specs.List.{find, list_any}
@@ -23,7 +23,7 @@ use Rattle.fx_model.specs.Run.{events}
 use Rattle.fx_model.specs.Outside.{Outside, outcome_at, can_step, leaf_can_step}
 use Rattle.fx_model.specs.Report.{FiberReportView, ReportView, fiber_in, parent_in, parent_of_report, trace_in, trace_of_report, outcome_shown}
 use Rattle.fx_model.specs.Report.{is_request_for, is_requested_in, final_outside, capacity_of}
-use Rattle.fx_model.specs.LawfulReport.{HasStarters, HasRun, HasRuns, BeginsAs, HasHistory, IsLearnt, IsSeenRightly, IsLawfulReport, starts_of}
+use Rattle.fx_model.specs.LawfulReport.{EndsWith, HasStarters, HasRun, HasRuns, BeginsAs, HasHistory, IsLearnt, IsSeenRightly, IsLawfulReport, starts_of}
 use Rattle.fx_model.specs.LawfulReport.{is_parent}
 use Rattle.fx_model.proofs.EventLabels.{run_is_proper}
 use Rattle.fx_model.proofs.HeadlineLaws.{numbers_above}
@@ -159,9 +159,30 @@ module _ (outcome : ℕ → Option Outcome) (room element : ℕ → Bool) (asked
   can_same f e c (CleansUp k t xs) = leaf_same (leaf t)
   can_same f e c (HasEnded o) = refl
 
+-- a trace that ends with an end tells one
+end_shown : (xs : List Event) (o : Outcome) → outcome_shown (xs ++ event.Ended o ∷ []) ≡ None → ⊥
+end_shown [] o e = none-some o (sym e)
+end_shown (event.Ended v ∷ xs) o e = none-some v (sym e)
+end_shown (x ∷ xs) o e = by_event x e (λ h. end_shown xs o h)
+  where
+    by_event : (x : Event) → outcome_shown (x ∷ xs ++ event.Ended o ∷ []) ≡ None → (outcome_shown (xs ++ event.Ended o ∷ []) ≡ None → ⊥) → ⊥
+    by_event (event.Ended v) h rest = none-some v (sym h)
+    by_event _ h rest = rest h
+
+none_there : (p : Progress) → has_ended p ≡ false → outcome_at p ≡ None
+none_there (HasEnded o) e = absurd cc
+none_there (Runs t) e = refl
+none_there (Unwinds xs) e = refl
+none_there (CleansUp k t xs) e = refl
+
+-- where main was over, or was blocked and the other main fiber is so by the same outside
+pub data Stops (o : Outside) (was : Progress) (c : Counts) (p : Progress) : Type 0 where
+  over : has_ended was ≡ true → Stops o was c p
+  waits : has_ended was ≡ false → has_ended p ≡ false → can_step o 0 c p ≡ false → Stops o was c p
+
 module _ (s : ScriptView) (other : Term) (may : ℕ → Bool) (r : ReportView) (lawful : IsLawfulReport s may r) (needs : need s.term ≡ need other)
-    (over : (x : FiberReportView) → fiber_in r 0 ≡ Some x → x.has_ended ≡ true)
-    (k : OthersCanSee (main_origin other) (visible (lawful.runs.labels 0))) where
+    (k : OthersCanSee (main_origin other) (visible (lawful.runs.labels 0)))
+    (stops : Stops (final_outside s r) (lawful.runs.progress 0) k.counts k.progress) where
   abbrev s' : ScriptView
   s' = record { term = other; capacities = s.capacities }
 
@@ -186,23 +207,32 @@ module _ (s : ScriptView) (other : Term) (may : ℕ → Bool) (r : ReportView) (
       sym (visible_shown k.labels (run_is_proper _ _ _ _ k.labels k.run)) ∙ ap events k.visible_is
       ∙ visible_shown labels0 (run_is_proper _ _ _ _ labels0 run0.run) ∙ ap visible_events run0.trace
 
-  ending : (o : Outcome) × (outcome_at (lawful.runs.progress 0) ≡ Some o)
-  ending = outcome_there (lawful.runs.progress 0) (run0.state ∙ over x0 at0)
+  module _ (ended : has_ended (lawful.runs.progress 0) ≡ true) where
+    ending : (o : Outcome) × (outcome_at (lawful.runs.progress 0) ≡ Some o)
+    ending = outcome_there (lawful.runs.progress 0) ended
 
-  abbrev o0 : Outcome
-  o0 = ending.0
+    abbrev o0 : Outcome
+    o0 = ending.0
 
-  shows_end : outcome_shown es ≡ Some o0
-  shows_end =
-      same_outcome es x0.trace sees_same ∙ sym (ap outcome_shown run0.trace)
-      ∙ run_outcome (lawful.runs.origin 0) labels0 (lawful.runs.counts 0) (lawful.runs.progress 0) run0.run ∙ ending.1
+    shows_end : outcome_shown es ≡ Some o0
+    shows_end =
+        same_outcome es x0.trace sees_same ∙ sym (ap outcome_shown run0.trace)
+        ∙ run_outcome (lawful.runs.origin 0) labels0 (lawful.runs.counts 0) (lawful.runs.progress 0) run0.run ∙ ending.1
 
-  ends_too : k.progress ≡ HasEnded o0
-  ends_too = ended_there k.progress o0 (sym (run_outcome (main_origin other) k.labels k.counts k.progress k.run) ∙ shows_end)
+    ends_too : k.progress ≡ HasEnded o0
+    ends_too = ended_there k.progress o0 (sym (run_outcome (main_origin other) k.labels k.counts k.progress k.run) ∙ shows_end)
+
+  state_main : has_ended k.progress ≡ x0.has_ended
+  state_main = by_stops stops
+    where
+      by_stops : Stops (final_outside s r) (lawful.runs.progress 0) k.counts k.progress → has_ended k.progress ≡ x0.has_ended
+      by_stops (over e) = ap has_ended (ends_too e) ∙ sym e ∙ run0.state
+      by_stops (waits was now unable) = now ∙ sym was ∙ run0.state
 
   -- requested from outside are these, of whom no other than main is added
   module _ (outs : List ℕ) (rise : IsStrictlyIncreasing outs) (named : (f : ℕ) → Contains outs f → (f < 1 + need other) × (may f ≡ true))
-      (out_same : (f : ℕ) → f ≢ 0 → list_any (λ g. g == f) outs ≡ list_any (λ g. g == f) r.outside) where
+      (out_same : (f : ℕ) → f ≢ 0 → list_any (λ g. g == f) outs ≡ list_any (λ g. g == f) r.outside)
+      (out_main : has_ended (lawful.runs.progress 0) ≡ false → list_any (λ g. g == 0) outs ≡ list_any (λ g. g == 0) r.outside) where
     abbrev pub with_another_main : ReportView
     with_another_main = record { fibers = with_main es r.fibers; left = r.left; outside = outs; late = r.late }
 
@@ -238,15 +268,15 @@ module _ (s : ScriptView) (other : Term) (may : ℕ → Bool) (r : ReportView) (
     outcome_is zero = ap outcome_shown trace_main ∙ same_outcome es x0.trace sees_same ∙ sym (ap outcome_shown trace_was)
     outcome_is (suc f) = ap outcome_shown (trace_other (suc f) (suc_not f))
 
-    asked_same : (f : ℕ) → f ≢ 0 → is_requested_in r' f ≡ is_requested_in r f
-    asked_same f ne =
-        let p = asks_all f in
-        let q = out_same f ne in
-        rw (p, q) refl
+    asked_by : (f : ℕ) → list_any (λ g. g == f) outs ≡ list_any (λ g. g == f) r.outside → is_requested_in r' f ≡ is_requested_in r f
+    asked_by f q = let p = asks_all f in rw (p, q) refl
       where
         asks_all : (f : ℕ) → list_any (λ (x : FiberReportView). list_any (is_request_for f) x.trace) (with_main es r.fibers)
             ≡ list_any (λ (x : FiberReportView). list_any (is_request_for f) x.trace) r.fibers
         asks_all f = asks_same es f r.fibers x0 at0 sees_same
+
+    asked_same : (f : ℕ) → f ≢ 0 → is_requested_in r' f ≡ is_requested_in r f
+    asked_same f ne = asked_by f (out_same f ne)
 
     -- who starts whom is as before
     starters : HasStarters r'
@@ -282,32 +312,36 @@ module _ (s : ScriptView) (other : Term) (may : ℕ → Bool) (r : ReportView) (
     abbrev new_labels : ℕ → List Label
     new_labels = first_as k.labels lawful.runs.labels
 
-    unable_other : (f : ℕ) → f ≢ 0 → (c : Counts) (p : Progress) → can_step (final_outside s r) f c p ≡ false
+    unable_too : (f : ℕ) → is_requested_in r' f ≡ is_requested_in r f → (c : Counts) (p : Progress) → can_step (final_outside s r) f c p ≡ false
         → can_step (final_outside s' r') f c p ≡ false
-    unable_other f ne c p h =
+    unable_too f asked c p h =
         let outcomes : (λ (g : ℕ). outcome_shown (trace_in r' g)) ≡ (λ (g : ℕ). outcome_shown (trace_in r g)) = fun_ext outcome_is in
         let o = final_outside s r in
         let first : can_step (record { outcome = o.outcome; has_room = o.has_room; has_element = o.has_element; is_requested = is_requested_in r' }) f c p
-        ≡ false = can_same o.outcome o.has_room o.has_element (is_requested_in r) (is_requested_in r') f (asked_same f ne) c p ∙ h in
+        ≡ false = can_same o.outcome o.has_room o.has_element (is_requested_in r) (is_requested_in r') f asked c p ∙ h in
         subst (λ (g : ℕ → Option Outcome).
         can_step (record { outcome = g; has_room = o.has_room; has_element = o.has_element; is_requested = is_requested_in r' }) f c p ≡ false)
         (sym outcomes) first
 
     unable_main : can_step (final_outside s' r') 0 k.counts k.progress ≡ false
-    unable_main = rw ends_too refl
+    unable_main = by_stops stops
+      where
+        by_stops : Stops (final_outside s r) (lawful.runs.progress 0) k.counts k.progress → can_step (final_outside s' r') 0 k.counts k.progress ≡ false
+        by_stops (over e) = let h = ends_too e in rw h refl
+        by_stops (waits was now unable) = unable_too 0 (asked_by 0 (out_main was)) k.counts k.progress unable
 
     new_run : (f : ℕ) (x : FiberReportView) → fiber_in r' f ≡ Some x
         → HasRun s' r' f x (new_origin f) (new_labels f) (first_as k.counts lawful.runs.counts f) (first_as k.progress lawful.runs.progress f)
     new_run zero x at =
         subst (λ (y : FiberReportView). HasRun s' r' 0 y (main_origin other) k.labels k.counts k.progress) (sym (main_is x at))
-        (record { run = k.run; trace = refl; state = ap has_ended ends_too ∙ sym (over x0 at0); unable = unable_main })
+        (record { run = k.run; trace = refl; state = state_main; unable = unable_main })
     new_run (suc f) x at =
         let h = lawful.runs.run (suc f) x (sym (others_same (suc f) (suc_not f)) ∙ at) in
         record {
           run = h.run;
           trace = h.trace;
           state = h.state;
-          unable = unable_other (suc f) (suc_not f) (lawful.runs.counts (suc f)) (lawful.runs.progress (suc f)) h.unable;
+          unable = unable_too (suc f) (asked_same (suc f) (suc_not f)) (lawful.runs.counts (suc f)) (lawful.runs.progress (suc f)) h.unable;
         }
 
     abbrev new_runs : HasRuns s' r'
@@ -338,11 +372,20 @@ module _ (s : ScriptView) (other : Term) (may : ℕ → Bool) (r : ReportView) (
         (lawful.runs.run (suc f) x was).run)
 
     learnt_same : (l : Label) → IsLearnt r l → IsLearnt r' l
-    learnt_same (Learns zero o e) h =
-        let was = run_stops (lawful.runs.origin 0) labels0 (lawful.runs.counts 0) (lawful.runs.progress 0) o0 run0.run ending.1 in
-        let now = run_stops (main_origin other) k.labels k.counts k.progress o0 k.run (ap outcome_at ends_too) in
-        let same : o0 ≡ o = same_end was.ends.before h.before o0 o (sym was.ends.is ∙ run0.trace ∙ sym trace_was ∙ h.is) in
-        record { before = now.ends.before; is = trace_main ∙ now.ends.is ∙ ap (λ (v : Outcome). now.ends.before ++ event.Ended v ∷ []) same }
+    learnt_same (Learns zero o e) h = by_stops stops
+      where
+        by_stops : Stops (final_outside s r) (lawful.runs.progress 0) k.counts k.progress → EndsWith (trace_in r' 0) o
+        by_stops (over e) =
+            let end = ending e in
+            let was = run_stops (lawful.runs.origin 0) labels0 (lawful.runs.counts 0) (lawful.runs.progress 0) end.0 run0.run end.1 in
+            let now = run_stops (main_origin other) k.labels k.counts k.progress end.0 k.run (ap outcome_at (ends_too e)) in
+            let same : end.0 ≡ o = same_end was.ends.before h.before end.0 o (sym was.ends.is ∙ run0.trace ∙ sym trace_was ∙ h.is) in
+            record { before = now.ends.before; is = trace_main ∙ now.ends.is ∙ ap (λ (v : Outcome). now.ends.before ++ event.Ended v ∷ []) same }
+        by_stops (waits was now unable) =
+            let none : outcome_shown (h.before ++ event.Ended o ∷ []) ≡ None =
+            sym (ap outcome_shown (run0.trace ∙ sym trace_was ∙ h.is))
+            ∙ run_outcome (lawful.runs.origin 0) labels0 (lawful.runs.counts 0) (lawful.runs.progress 0) run0.run ∙ none_there (lawful.runs.progress 0) was in
+            absurd (end_shown h.before o none)
     learnt_same (Learns (suc f) o e) h = record { before = h.before; is = trace_other (suc f) (suc_not f) ∙ h.is }
     learnt_same Silent h = tt
     learnt_same (Shows e) h = tt

@@ -47,7 +47,7 @@ shut_does (InTerm fs) c d l t u shut r = (run_is_shut fs).does c d l t u shut r
 shut_does (InCleanup k rest fs) c d l t u shut r = (cleanup_is_shut k fs rest).does c d l t u tt r
 
 -- it can step where the leaf can
-shut_can : (place : Place) (t : Term) → IsShutWith place t → (o : Outside) (f : ℕ) (c : Counts)
+pub shut_can : (place : Place) (t : Term) → IsShutWith place t → (o : Outside) (f : ℕ) (c : Counts)
     → can_step o f c (come_to place t) ≡ leaf_can_step o (leaf t)
 shut_can (InTerm fs) t shut o f c =
     let e = leaf_placed fs t in

@@ -156,3 +156,9 @@ module _ (P : Label → Type 0) where
       by_label (Shows (event.Begin j)) k rest = here (Shows (event.Begin j)) (private (event.Begin j) refl) (rest k)
       by_label (Shows (event.End j)) k rest = here (Shows (event.End j)) (private (event.End j) refl) (rest k)
       by_label (Shows e) k rest = both (Shows e) k rest
+
+-- some label sees a request
+abbrev pub sees_request : List Label → Bool
+sees_request [] = false
+sees_request (Shows event.Seen ∷ ls) = true
+sees_request (l ∷ ls) = sees_request ls

@@ -1,8 +1,8 @@
-//! Laws of what others see, for whole scripts in which main comes to its end: each lawful report of the one script has
-//! one of the other that looks the same (`LookAlike`). The other fibers, their traces and what is left in the queues
+//! Laws of what others see, for whole scripts: each lawful report of the one script has one of the other that looks the
+//! same (`LookAlike`). The other fibers, their traces and what is left in the queues
 //! are the same in both, and main came to the same outcome and showed the same, but for what it noted of its own
 //! cancellation and of its own resources. Where it notes that it saw a request, in the one report and not in the
-//! other, it was requested from outside. Of a main that is blocked nothing is said.
+//! other, it was requested from outside. Of a main that is blocked the first law alone speaks.
 ghost use Rattle.std.specs.Prelude.{◌≡◌, ◌≢◌, ℕ, Bool, true, List, Option, Some, None};
 ghost use Rattle.fx_term.specs.declared.node.Arg.TheVariants.{Number, Slot};
 ghost use Rattle.fx_term.specs.declared.name_kind.NameKind.{NameKind};
@@ -34,14 +34,14 @@ pub fn scripts_look_the_same()
 {}
 
 /// `uncancelableCanceledAssociatesRightOverFlatMap`: `(main (mask p (seq (canceled) A)))` and
-/// `(main (forcer (mask p A) (canceled)))`, where `A` does not use the poll.
+/// `(main (forcer (mask p A) (canceled)))`, where `A` does not use the poll, whether main has ended or is blocked.
 pub fn scripts_may_cancel_after_a_mask()
     ensures after { (scope : ℕ → Option NameKind) (p : ℕ) (a : Term) (capacities : List ℕ) (may : ℕ → Bool) (r : ReportView)
-        → IsPlain a → IsScoped (with_name p kind.OtherPoll scope) a → may 0 ≡ true → HasMainEnded r
+        → IsPlain a → IsScoped (with_name p kind.OtherPoll scope) a → may 0 ≡ true
         → IsLawfulReport (record { term = Mask p (Let None Canceled a); capacities = capacities }) may r
         → HasReportLike (record { term = forced_after (Mask p a) Canceled; capacities = capacities }) may r }
     ensures before { (scope : ℕ → Option NameKind) (p : ℕ) (a : Term) (capacities : List ℕ) (may : ℕ → Bool) (r : ReportView)
-        → IsPlain a → IsScoped (with_name p kind.OtherPoll scope) a → may 0 ≡ true → HasMainEnded r
+        → IsPlain a → IsScoped (with_name p kind.OtherPoll scope) a → may 0 ≡ true
         → IsLawfulReport (record { term = forced_after (Mask p a) Canceled; capacities = capacities }) may r
         → HasReportLike (record { term = Mask p (Let None Canceled a); capacities = capacities }) may r }
 {}
