@@ -112,7 +112,8 @@ module _ (s : ScriptView) (other : Term) (may : ℕ → Bool) (r : ReportView) (
         alike = look_alike s other may r lawful needs k stops outs rise named same main_same;
       }
 
-  as_before : All (IsSeenRightly (with_another_main s other may r lawful needs k stops r.outside lawful.outside_ascending named (λ f ne. refl) (λ w. refl)) 0) k.labels
+  as_before : All
+      (IsSeenRightly (with_another_main s other may r lawful needs k stops r.outside lawful.outside_ascending named (λ f ne. refl) (λ w. refl)) 0) k.labels
       → Like
   as_before asked = by_outside r.outside lawful.outside_ascending named (λ f ne. refl) (λ w. refl) asked
 
@@ -203,7 +204,8 @@ module _ (t u : Term) (capacities : List ℕ) (may : ℕ → Bool) (r : ReportVi
   pub looks_all : HasMainEnded r → LooksLikeAllOf u t → HasReportLike (record { term = u; capacities = capacities }) may r
   looks_all ended all = by_other (ended_by ended) (all 1 (1 + need t) seen_of_main main_seen)
 
-  pub looks_unless : HasMainEnded r → LookTheSameUnlessCanceledAlone t u → (IsMainCanceledAlone r → ⊥) → HasReportLike (record { term = u; capacities = capacities }) may r
+  pub looks_unless : HasMainEnded r → LookTheSameUnlessCanceledAlone t u → (IsMainCanceledAlone r → ⊥)
+      → HasReportLike (record { term = u; capacities = capacities }) may r
   looks_unless ended same more = by_other (ended_by ended) ((same 1 (1 + need t) seen_of_main not_alone).0 main_seen)
     where
       not_alone : IsCanceledAlone seen_of_main → ⊥
@@ -248,7 +250,8 @@ module _ (scope : ℕ → Option NameKind) (p : ℕ) where
           by_end true e = looks_ended second first capacities may r (omega arith) main_may lawful e (turned (canceled_in_mask scope p a plain scoped))
           by_end false e =
               looks_blocked second first capacities may r (omega arith) main_may lawful e
-              (waits_first (final_outside (record { term = second; capacities = capacities }) r) scope p a plain scoped (first_counts (main_origin second)) refl)
+              (waits_first (final_outside (record { term = second; capacities = capacities }) r) scope p a plain scoped (first_counts (main_origin second))
+              refl)
 
   module _ (f g : Term) (capacities : List ℕ) (may : ℕ → Bool) (r : ReportView) (plain : IsPlain f) (plain' : IsPlain g) (scoped : IsScoped unused f)
       (scoped' : IsScoped unused g) (main_may : may 0 ≡ true) (ended : HasMainEnded r) where

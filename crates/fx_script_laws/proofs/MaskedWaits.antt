@@ -131,8 +131,8 @@ module _ (o : Outside) where
   one_unseen (Learns f v e) ls un h = h
   one_unseen (Starts f b) ls un h = h
 
-  wait_more : {c e : Counts} {p m : Progress} {l' : Label} (l : Label) (ls : List Label) → Step c p l' e m → visible (l' ∷ []) ≡ visible (l ∷ []) → IsUnrequested l'
-      → CanWait e m (visible ls) → CanWait c p (visible (l ∷ ls))
+  wait_more : {c e : Counts} {p m : Progress} {l' : Label} (l : Label) (ls : List Label) → Step c p l' e m → visible (l' ∷ []) ≡ visible (l ∷ [])
+      → IsUnrequested l' → CanWait e m (visible ls) → CanWait c p (visible (l ∷ ls))
   wait_more {e = e} {m = m} {l' = l'} l ls s same un k =
       record {
         labels = l' ∷ k.labels;
