@@ -33,14 +33,20 @@ pub fn put<R: Wait + Drop>(rt: &R, alloc: Global, trial: &Trial) -> Answer {
     })
 }
 
-/// Whether the tasks from this one on come out as they went in.
-fn come_out<R: Wait>(rt: &R, hand: &mut Owner<u64>, tasks: &Tasks<u64>, first: u64) -> bool {
+/// Up to which number the tasks from this one on come out as they went in. None where another one comes.
+fn come_out<R: Wait>(rt: &R, hand: &mut Owner<u64>, tasks: &Tasks<u64>, first: u64) -> Option<u64> {
     for number in first..MANY {
-        if hand.next(rt, tasks) != Some(number) {
-            return false;
+        match hand.next(rt, tasks) {
+            Some(task) if task == number => {}
+            Some(_) => return None,
+            None => return Some(number),
         }
     }
-    hand.next(rt, tasks).is_none()
+    if hand.next(rt, tasks).is_none() {
+        Some(MANY)
+    } else {
+        None
+    }
 }
 
 impl<'a, R: Wait> Call for Putting<'a, R> {
@@ -57,12 +63,12 @@ impl<'a, R: Wait> Call for Putting<'a, R> {
         if self.put < MANY {
             return Answer::Goes;
         }
-        whole_where(come_out(self.rt, &mut self.hand, &self.tasks, 0))
+        whole_where(come_out(self.rt, &mut self.hand, &self.tasks, 0) == Some(MANY))
     }
 }
 
 /// What a worker comes to that steals from another one, with more tasks than its own deque has room for. Where that
-/// is refused more, it steals fewer.
+/// is refused more, it steals fewer. The few that are left to the other one come out there.
 pub fn stolen<R: Wait>(rt: &R, alloc: Global, refuser: &Refuser) -> Answer {
     let Ok((tasks, mut hands)) = Tasks::new(alloc, 2) else {
         return UNSET;
@@ -78,5 +84,8 @@ pub fn stolen<R: Wait>(rt: &R, alloc: Global, refuser: &Refuser) -> Answer {
     refuser.go_on();
     let first = hand.next(rt, &tasks);
     refuser.hold();
-    whole_where(first == Some(0) && come_out(rt, hand, &tasks, 1))
+    let Some(rest) = come_out(rt, hand, &tasks, 1) else {
+        return OTHER;
+    };
+    whole_where(first == Some(0) && come_out(rt, other, &tasks, rest) == Some(MANY))
 }
