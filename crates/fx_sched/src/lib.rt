@@ -10,7 +10,7 @@
 //!
 //! A worker does this again and again ([`work`]):
 //!
-//! 1. It takes a fiber from the front of its own deque, else from another's.
+//! 1. It takes a fiber from the front of its own deque, else from another's that can spare one.
 //! 2. The gate is asked, and what it names is requested from outside; then the fiber has its turn. No
 //!    lock is held meanwhile.
 //! 3. After its turn the fiber is pushed where it gave way; laid down where it has ended; parked where it
@@ -26,9 +26,11 @@
 //! | none, and no other has one | is done: no fiber is able to go on |
 //! | no memory | ends, and gives back the fibers that it has in hand |
 //!
-//! A worker that has more than the fiber that comes next, in its deque or in its hand, calls one that sleeps. No call is missed: a worker
-//! counts as one that sleeps before it looks for the last time, and each call changes a word that it read
-//! before that, and on which it sleeps.
+//! A worker can spare what lies in its deque where that is more than the few to which it comes soon, or where
+//! none of its fibers has waited for long. Then it calls one that sleeps. No call is missed: a worker counts as
+//! one that sleeps before it looks for the last time, and each call changes a word that it read before that, and
+//! on which it sleeps. Who has slept twice and was not called takes also what lies with a worker that has made no
+//! turn in between.
 //!
 //! What is known of a fiber wherever it comes from is what its type says: its run, and that its port
 //! agrees with what it did. A fiber is never copied, since its type has no copies.
