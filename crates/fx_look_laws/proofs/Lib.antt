@@ -1,0 +1,14 @@
+pub mod OtherTerms
+pub mod OtherRows
+pub mod OtherSteps
+pub mod LikeLabels
+pub mod FiberNumbers
+pub mod Requests
+pub mod FibersReplaced
+pub mod TracesReplaced
+pub mod ReportsLike
+pub mod FibersLook
+pub mod PlainPuts
+pub mod EndedLooks
+pub mod FiberLaws
+pub mod ExampleFibers

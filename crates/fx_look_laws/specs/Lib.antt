@@ -1,0 +1,2 @@
+pub mod OtherFibers
+pub mod FibersLookAlike
