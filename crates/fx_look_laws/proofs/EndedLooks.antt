@@ -14,7 +14,7 @@ use Rattle.fx_laws.specs.Others.{OthersCanSee, LooksLikeAllOf, IsCanceledAlone, 
 use Rattle.fx_script_laws.specs.Interchange.{StopsThere}
 use Rattle.fx_script_laws.specs.LookAlike.{visible_events}
 use Rattle.fx_script_laws.proofs.VisibleEvents.{same_outcome, visible_shown}
-use Rattle.fx_look_laws.specs.FibersLookAlike.{CanEndSo, EndsLikeAllOf, of_ended, of_ended_not_alone, is_canceled_alone}
+use Rattle.fx_look_laws.specs.FibersLookAlike.{CanEndSo, EndsLikeAllOf, of_ended, of_ended_but_alone, is_canceled_alone}
 
 outcome_there : (p : Progress) → has_ended p ≡ true → (o : Outcome) × (outcome_at p ≡ Some o)
 outcome_there (HasEnded o) e = (o, refl)
@@ -67,10 +67,10 @@ ended_like_all t u all o f next end false ls so h = absurd cc
 not_alone : (ls : List Label) → not (is_canceled_alone (events ls)) ≡ true → IsCanceledAlone ls → ⊥
 not_alone ls so alone = absurd (let e : not (is_canceled_alone (events ls)) ≡ false = rw alone refl in cc)
 
-pub ended_like_unless : (t u : Term) → LookTheSameUnlessCanceledAlone t u → EndsLikeAllOf of_ended_not_alone u t
+pub ended_like_unless : (t u : Term) → LookTheSameUnlessCanceledAlone t u → EndsLikeAllOf of_ended_but_alone u t
 ended_like_unless t u same o f next end true ls so h = looks_ended o f u t next end ls (same next end ls (not_alone ls so)).0 h
 ended_like_unless t u same o f next end false ls so h = absurd cc
 
-pub ended_unless_back : (t u : Term) → LookTheSameUnlessCanceledAlone t u → EndsLikeAllOf of_ended_not_alone t u
+pub ended_unless_back : (t u : Term) → LookTheSameUnlessCanceledAlone t u → EndsLikeAllOf of_ended_but_alone t u
 ended_unless_back t u same o f next end true ls so h = looks_ended o f t u next end ls (same next end ls (not_alone ls so)).1 h
 ended_unless_back t u same o f next end false ls so h = absurd cc

@@ -10,5 +10,7 @@ pub mod ReportsLike
 pub mod FibersLook
 pub mod PlainPuts
 pub mod EndedLooks
+pub mod WaitsLike
+pub mod OrderWaits
 pub mod FiberLaws
 pub mod ExampleFibers

@@ -68,16 +68,19 @@ pub record LooksLikeAllWithNumbers (is_so : Bool → List Event → Bool) (own :
 abbrev pub BeginsWith : (ℕ → Bool) → Term → (s : ScriptView) (may : ℕ → Bool) (r : ReportView) → IsLawfulReport s may r → ℕ → Type 0
 BeginsWith own t s may r lawful f = IsOfTerm own t (lawful.runs.origin f).term
 
--- of which fibers such a law speaks: of each; of one that has ended; and of one that has, but not as canceled with nothing else that others saw
-abbrev pub of_any : Bool → List Event → Bool
-of_any ended es = true
-
-abbrev pub of_ended : Bool → List Event → Bool
-of_ended ended es = ended
-
+-- of which fibers such a law speaks: of each; of each but one that was canceled, with nothing else that others saw; and of those that have ended, too
 abbrev pub is_canceled_alone : List Event → Bool
 is_canceled_alone (event.Ended outcome.Canceled ∷ []) = true
 is_canceled_alone _ = false
 
-abbrev pub of_ended_not_alone : Bool → List Event → Bool
-of_ended_not_alone ended es = ended && not (is_canceled_alone es)
+abbrev pub of_any : Bool → List Event → Bool
+of_any ended es = true
+
+abbrev pub of_any_but_alone : Bool → List Event → Bool
+of_any_but_alone ended es = not (ended && is_canceled_alone es)
+
+abbrev pub of_ended : Bool → List Event → Bool
+of_ended ended es = ended
+
+abbrev pub of_ended_but_alone : Bool → List Event → Bool
+of_ended_but_alone ended es = ended && not (is_canceled_alone es)

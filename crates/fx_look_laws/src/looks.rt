@@ -14,7 +14,7 @@ ghost use Rattle.fx_model.specs.Report.{ReportView};
 ghost use Rattle.fx_laws.specs.Names.{without_names};
 ghost use Rattle.fx_laws.specs.Others.{LooksLikeAllOf, LookTheSameUnlessCanceledAlone};
 ghost use Rattle.fx_look_laws.specs.FibersLookAlike.{EndsLikeAllOf, LooksLikeAllWithNumbers, BeginsWith, HasReportWithFibersLike};
-ghost use Rattle.fx_look_laws.specs.FibersLookAlike.{of_any, of_ended, of_ended_not_alone};
+ghost use Rattle.fx_look_laws.specs.FibersLookAlike.{of_any, of_any_but_alone, of_ended, of_ended_but_alone};
 ghost use Rattle.fx_look_laws.specs.OtherFibers.{not_in};
 
 /// Of two terms of which the second looks like all of the first, a fiber with the second ends so that others see what
@@ -22,7 +22,7 @@ ghost use Rattle.fx_look_laws.specs.OtherFibers.{not_in};
 /// are canceled alone.
 pub fn what_looks_the_same_ends_the_same()
     ensures all { (t u : Term) → LooksLikeAllOf u t → EndsLikeAllOf of_ended u t }
-    ensures unless { (t u : Term) → LookTheSameUnlessCanceledAlone t u → EndsLikeAllOf of_ended_not_alone u t }
+    ensures unless { (t u : Term) → LookTheSameUnlessCanceledAlone t u → EndsLikeAllOf of_ended_but_alone u t }
 {}
 
 /// `uncancelableCanceledAssociatesRightOverFlatMap`: `(mask p (seq (canceled) A))` and
@@ -35,16 +35,16 @@ pub fn fibers_may_cancel_after_a_mask()
 {}
 
 /// `canceledSequencesOnCancelInOrder`: `(oncancel (oncancel (canceled) F) G)` and
-/// `(forcer (mask p (forcer F G)) (canceled))`, where neither uses the poll, of fibers that have ended. The latter can
-/// be canceled before its mask, which looks as if it was canceled alone.
+/// `(forcer (mask p (forcer F G)) (canceled))`, where neither uses the poll, whether the fiber has ended or is blocked.
+/// The latter can be canceled before its mask, which looks as if it was canceled alone.
 pub fn fibers_may_finalize_in_order()
     ensures masked { (scope : ℕ → Option NameKind) (p : ℕ) (f g : Term) → IsPlain f → IsPlain g
         → IsScoped (with_name p kind.OtherPoll (elsewhere scope)) f → IsScoped (with_name p kind.OtherPoll (elsewhere scope)) g
-        → LooksLikeAllWithNumbers of_ended (not_in scope) (OnCancel (OnCancel Canceled f) g)
+        → LooksLikeAllWithNumbers of_any (not_in scope) (OnCancel (OnCancel Canceled f) g)
         (forced_after (Mask p (forced_after f g)) Canceled) }
     ensures finalized { (scope : ℕ → Option NameKind) (p : ℕ) (f g : Term) → IsPlain f → IsPlain g
         → IsScoped (with_name p kind.OtherPoll (elsewhere scope)) f → IsScoped (with_name p kind.OtherPoll (elsewhere scope)) g
-        → LooksLikeAllWithNumbers of_ended_not_alone (not_in scope) (forced_after (Mask p (forced_after f g)) Canceled)
+        → LooksLikeAllWithNumbers of_any_but_alone (not_in scope) (forced_after (Mask p (forced_after f g)) Canceled)
         (OnCancel (OnCancel Canceled f) g) }
 {}
 
@@ -69,7 +69,7 @@ pub fn fibers_may_bracket_by_a_mask()
         → IsScoped (without_names (elsewhere scope) p y e) a
         → IsScoped (with_named x kind.Value (without_names (elsewhere scope) p y e)) u
         → IsScoped (with_named x kind.Value (without_names (elsewhere scope) p y e)) d → need d ≡ 0
-        → LooksLikeAllWithNumbers of_ended_not_alone (not_in scope)
+        → LooksLikeAllWithNumbers of_ended_but_alone (not_in scope)
         (Mask p (Let x a
         (Let (Some y)
         (Handle (OnCancel (Poll (Slot p) u) d) (Some e) (Let None (Handle d None (Pure (Number 0))) (Raise (Slot e))))

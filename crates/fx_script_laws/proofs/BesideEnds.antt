@@ -33,7 +33,7 @@ same_end o alike.slot = refl
 
 module _ (low low' : ℕ) (o : Outside) where
   -- alike leaves wait for the same
-  waits_alike : {t t' : Term} → Alike low low' t t' → leaf_can_step o (leaf t) ≡ leaf_can_step o (leaf t')
+  pub waits_alike : {t t' : Term} → Alike low low' t t' → leaf_can_step o (leaf t) ≡ leaf_can_step o (leaf t')
   waits_alike (alike.let_ p u q) = waits_alike p
   waits_alike (alike.handle p u q) = waits_alike p
   waits_alike (alike.oncancel p q) = waits_alike p

@@ -44,7 +44,7 @@ module _ (o : Outside) where
   abbrev pub IsNeverBlocked : Counts → Progress → Type 0
   IsNeverBlocked c p = (ls : List Label) (d : Counts) (q : Progress) → Leads c p ls d q → IsBlockedAt d q → ⊥
 
-  ended_never : (c : Counts) (v : Outcome) → IsNeverBlocked c (HasEnded v)
+  pub ended_never : (c : Counts) (v : Outcome) → IsNeverBlocked c (HasEnded v)
   ended_never c v [] d q h b = let e = ap has_ended h.1 in let g = b.goes_on in absurd cc
   ended_never c v (l ∷ ls) d q h b = no_step h.2
     where
@@ -52,15 +52,15 @@ module _ (o : Outside) where
       no_step s = elim s [ ]
 
   -- the one step that there is
-  forced_never : {c e : Counts} {p m : Progress} {l : Label} → IsForced c p l e m → can_step o 0 c p ≡ true → IsNeverBlocked e m → IsNeverBlocked c p
+  pub forced_never : {c e : Counts} {p m : Progress} {l : Label} → IsForced c p l e m → can_step o 0 c p ≡ true → IsNeverBlocked e m → IsNeverBlocked c p
   forced_never {c} {p = p} f can next [] d q h b = let k : can_step o 0 c p ≡ false = rw (h.0, h.1) at b.unable in absurd cc
   forced_never {e = e} {m = m} f can next (l ∷ ls) d q h b =
       let i = f.only l h.0 h.1 h.2 in let go : Leads e m ls d q = rw (sym i.1, sym i.2) h.3 in next ls d q go b
 
-  unwinds_never : (c : Counts) → IsNeverBlocked c (Unwinds [])
+  pub unwinds_never : (c : Counts) → IsNeverBlocked c (Unwinds [])
   unwinds_never c = forced_never (unwound c) refl (ended_never c _)
 
-  must_never : (c : Counts) (t : Term) → must_cancel c.known t ≡ true → cleanup_terms t ≡ [] → IsNeverBlocked c (Runs t)
+  pub must_never : (c : Counts) (t : Term) → must_cancel c.known t ≡ true → cleanup_terms t ≡ [] → IsNeverBlocked c (Runs t)
   must_never c t must clean =
       forced_never (must_forced c t must) (rw must refl) (rw clean (unwinds_never c))
 
@@ -96,7 +96,7 @@ module _ (o : Outside) where
   value_never : (n : ℕ) (c : Counts) → IsNeverBlocked c (Runs (Let None (Finished (Val n)) Canceled))
   value_never n = open_never (Let None (Finished (Val n)) Canceled) Canceled (let_value_leads None n Canceled) refl refl (λ v. refl) canceled_never
 
-  result_never : (w : Done) (c : Counts) → IsNeverBlocked c (Runs (placed outside (Finished w)))
+  pub result_never : (w : Done) (c : Counts) → IsNeverBlocked c (Runs (placed outside (Finished w)))
   result_never (Val n) =
       open_never (placed outside (Finished (Val n))) (Let None (Finished (Val n)) Canceled)
       (leads_placed (LetIn None Canceled ∷ []) (handle_value_leads None n nothing)) refl refl (λ v. refl) (value_never n)
@@ -106,7 +106,7 @@ module _ (o : Outside) where
       (open_never (Let None nothing Canceled) (Let None (Finished (Val 0)) Canceled) (leads_placed (LetIn None Canceled ∷ []) (pure_leads 0)) refl refl
       (λ v. refl) (value_never 0))
 
-  both_never : (n : ℕ) (w : Done) (c : Counts) → IsNeverBlocked c (Runs (placed (in_both n) (Finished w)))
+  pub both_never : (n : ℕ) (w : Done) (c : Counts) → IsNeverBlocked c (Runs (placed (in_both n) (Finished w)))
   both_never n w c = forced_never (runs_only refl (only_placed outside (only_silent c (masked_leads n w)))) refl (result_never w c)
 
   one_never : (n : ℕ) (w : Done) (c : Counts) → c.known ≡ true → IsNeverBlocked c (Runs (placed (in_one n) (Finished w)))
@@ -236,13 +236,13 @@ module _ (o : Outside) where
             let all : Leads c (running fs (Finished w)) (l ∷ ls) d q = subst (λ (z : Term). Leads c (running fs z) (l ∷ ls) d q) (sym is) whole in
             absurd (results w c c' near (l ∷ ls) d q all b)
 
-  record IsPeeled (e : Counts) (m : Progress) (l : Label) (ls : List Label) (d : Counts) (q : Progress) : Type 0 where
+  pub record IsPeeled (e : Counts) (m : Progress) (l : Label) (ls : List Label) (d : Counts) (q : Progress) : Type 0 where
     pub rest : List Label
     pub is : ls ≡ l ∷ rest
     pub run : Leads e m rest d q
 
   -- a blocked run makes the one step that there is
-  peel : {c e : Counts} {p m : Progress} {l : Label} → IsForced c p l e m → can_step o 0 c p ≡ true → (ls : List Label) (d : Counts) (q : Progress)
+  pub peel : {c e : Counts} {p m : Progress} {l : Label} → IsForced c p l e m → can_step o 0 c p ≡ true → (ls : List Label) (d : Counts) (q : Progress)
       → Leads c p ls d q → IsBlockedAt d q → IsPeeled e m l ls d q
   peel {c} {p = p} f can [] d q h b = absurd (let k : can_step o 0 c p ≡ false = rw (h.0, h.1) at b.unable in cc)
   peel {e = e} {m = m} f can (l ∷ ls) d q h b =
@@ -250,7 +250,7 @@ module _ (o : Outside) where
       record { rest = ls; is = ap (λ (x : Label). x ∷ ls) i.0; run = let go : Leads e m ls d q = rw (sym i.1, sym i.2) h.3 in go }
 
   -- a blocked run of a fiber at a mask, with nothing round it that closes a place or is to be cleaned up, enters it
-  enters : (fs : List Context) (p : ℕ) (t : Term) → is_open (placed fs (Mask p t)) ≡ true → must_cancel false (placed fs (Mask p t)) ≡ false
+  pub enters : (fs : List Context) (p : ℕ) (t : Term) → is_open (placed fs (Mask p t)) ≡ true → must_cancel false (placed fs (Mask p t)) ≡ false
       → cleanup_terms (placed fs (Mask p t)) ≡ [] → (c : Counts) → c.known ≡ false → (ls : List Label) (d : Counts) (q : Progress)
       → Leads c (Runs (placed fs (Mask p t))) ls d q → IsBlockedAt d q
       → IsPeeled (one_more_mask c) (Runs (placed fs (Masked c.masks (put p c.masks t)))) Silent ls d q

@@ -37,12 +37,12 @@ come_deeper (InTerm fs) gs t = let e = placed_append fs gs t in cc
 come_deeper (InCleanup k rest fs) gs t = let e = placed_append fs gs t in cc
 
 -- a step there is a row of the term, unless that is a result
-shut_only : (place : Place) (c d : Counts) (l : Label) (t : Term) (q : Progress) → IsShutWith place t → Step c (come_to place t) l d q
+pub shut_only : (place : Place) (c d : Counts) (l : Label) (t : Term) (q : Progress) → IsShutWith place t → Step c (come_to place t) l d q
     → ShutStep (come_to place) c t l d q
 shut_only (InTerm fs) c d l t q shut s = (run_is_shut fs).only c d l t q shut s
 shut_only (InCleanup k rest fs) c d l t q shut s = (cleanup_is_shut k fs rest).only c d l t q tt s
 
-shut_does : (place : Place) (c d : Counts) (l : Label) (t u : Term) → IsShutWith place t → Row true c t l d u → Step c (come_to place t) l d (come_to place u)
+pub shut_does : (place : Place) (c d : Counts) (l : Label) (t u : Term) → IsShutWith place t → Row true c t l d u → Step c (come_to place t) l d (come_to place u)
 shut_does (InTerm fs) c d l t u shut r = (run_is_shut fs).does c d l t u shut r
 shut_does (InCleanup k rest fs) c d l t u shut r = (cleanup_is_shut k fs rest).does c d l t u tt r
 
@@ -56,7 +56,7 @@ shut_can (InTerm fs) t shut o f c =
     h ∙ ap (leaf_can_step o) e
 shut_can (InCleanup k rest fs) t shut o f c = ap (leaf_can_step o) (leaf_placed fs t)
 
-goes_on : (place : Place) (t : Term) → has_ended (come_to place t) ≡ false
+pub goes_on : (place : Place) (t : Term) → has_ended (come_to place t) ≡ false
 goes_on (InTerm fs) t = refl
 goes_on (InCleanup k rest fs) t = refl
 
