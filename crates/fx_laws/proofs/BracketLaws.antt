@@ -35,7 +35,7 @@ use Rattle.fx_laws.proofs.Looking.{looking, can_see}
 use Rattle.fx_laws.proofs.MaskStarts.{sees_inside, sees_no_more}
 
 -- what comes after the acquire part, with the region that the poll opens
-abbrev rest : ℕ → ℕ → Term → Term → Term
+abbrev pub rest : ℕ → ℕ → Term → Term → Term
 rest y ex u r =
     Let (Some y) (Handle (OnCancel (Poll (Number 0) u) r) (Some ex) (Let None (Handle r None (Pure (Number 0))) (Raise (Slot ex)))) (Let None r (Pure (Slot y)))
 
@@ -54,7 +54,7 @@ poll_leads q t = record { there = λ k c. rule.poll; only = λ k c d l w h. one 
     one rule.poll = (refl, refl, refl)
     one (rule.inside f g h r) = absurd (no_context f _ _ refl g)
 
-only_acquired : (c : Counts) (x : Option ℕ) (n : ℕ) (u r : Term) → IsOnlyRow c (Bracket x (Finished (Val n)) u r) (Shows (event.Acquired c.acquired))
+pub only_acquired : (c : Counts) (x : Option ℕ) (n : ℕ) (u r : Term) → IsOnlyRow c (Bracket x (Finished (Val n)) u r) (Shows (event.Acquired c.acquired))
     (one_more_acquired c) (InUse c.acquired (put_named x n u) (put_named x n r))
 only_acquired c x n u r = record { there = rule.acquired; only = λ m e w h. one h; going = λ w f. cc }
   where
@@ -131,7 +131,7 @@ put_named_used : (x : Option ℕ) (z k : ℕ) (t : Term) → IsUsedAs kind.Other
 put_named_used None z k t h = h
 put_named_used (Some x) z k t h = put_used z kind.OtherPoll x k t h
 
-unused_after : (x : Option ℕ) (z : ℕ) (scope : ℕ → Option NameKind) (t : Term) → scope z ≡ Some kind.OtherPoll → IsNew scope x
+pub unused_after : (x : Option ℕ) (z : ℕ) (scope : ℕ → Option NameKind) (t : Term) → scope z ≡ Some kind.OtherPoll → IsNew scope x
     → IsScoped (with_named x kind.Value scope) t → (k n : ℕ) → put z n (put_named x k t) ≡ put_named x k t
 unused_after x z scope t e new scoped k n =
     let used = scoped_used z (with_named x kind.Value scope) kind.OtherPoll t (still_there x z scope e new) scoped in
@@ -140,7 +140,7 @@ unused_after x z scope t e new scoped k n =
 slot_kept : (x z k : ℕ) → z ≢ x → put_arg x k (Slot z) ≡ Slot z
 slot_kept x z k other = rw (ne_eqb z x other) refl
 
-rest_after : (x : Option ℕ) (y ex : ℕ) (u r : Term) → ((z : ℕ) → x ≡ Some z → (y ≢ z) × (ex ≢ z)) → (k : ℕ)
+pub rest_after : (x : Option ℕ) (y ex : ℕ) (u r : Term) → ((z : ℕ) → x ≡ Some z → (y ≢ z) × (ex ≢ z)) → (k : ℕ)
     → put_named x k (rest y ex u r) ≡ rest y ex (put_named x k u) (put_named x k r)
 rest_after None y ex u r other k = refl
 rest_after (Some x) y ex u r other k = let o = other x refl in rw (slot_kept x y k o.0, slot_kept x ex k o.1) refl
@@ -149,24 +149,24 @@ module _ (scope : ℕ → Option NameKind) (p y ex : ℕ) (x : Option ℕ) (a u 
     (plain_a : IsPlain a) (plain_u : IsPlain u) (plain_r : IsPlain r) (scoped_a : IsScoped (without_names scope p y ex) a)
     (scoped_u : IsScoped (with_named x kind.Value (without_names scope p y ex)) u) (scoped_r : IsScoped (with_named x kind.Value
     (without_names scope p y ex)) r) where
-  abbrev outer : ℕ → Option NameKind
+  abbrev pub outer : ℕ → Option NameKind
   outer = without_names scope p y ex
 
-  abbrev inner : ℕ → Option NameKind
+  abbrev pub inner : ℕ → Option NameKind
   inner = with_named x kind.Value outer
 
   p_there : outer p ≡ Some kind.OtherPoll
   p_there = name_is p kind.OtherPoll (with_name y kind.OtherPoll (with_name ex kind.OtherPoll scope))
 
-  y_there : outer y ≡ Some kind.OtherPoll
+  pub y_there : outer y ≡ Some kind.OtherPoll
   y_there = kept_under p y (with_name y kind.OtherPoll (with_name ex kind.OtherPoll scope)) (name_is y kind.OtherPoll (with_name ex kind.OtherPoll scope))
 
-  ex_there : outer ex ≡ Some kind.OtherPoll
+  pub ex_there : outer ex ≡ Some kind.OtherPoll
   ex_there =
       kept_under p ex (with_name y kind.OtherPoll (with_name ex kind.OtherPoll scope))
       (kept_under y ex (with_name ex kind.OtherPoll scope) (name_is ex kind.OtherPoll scope))
 
-  others : (z : ℕ) → x ≡ Some z → (y ≢ z) × (ex ≢ z)
+  pub others : (z : ℕ) → x ≡ Some z → (y ≢ z) × (ex ≢ z)
   others z e =
       let none : outer z ≡ None = subst (λ (o : Option ℕ). IsNew outer o) e new in (
         λ same. let there : outer z ≡ Some kind.OtherPoll = subst (λ (n : ℕ). outer n ≡ Some kind.OtherPoll) same y_there in apart there none,
@@ -176,7 +176,7 @@ module _ (scope : ℕ → Option NameKind) (p y ex : ℕ) (x : Option ℕ) (a u 
       apart : {o : Option NameKind} → o ≡ Some kind.OtherPoll → o ≡ None → ⊥
       apart f g = absurd cc
 
-  same_after : (t : Term) → IsPlain t → IsScoped inner t → (k n m : ℕ) → Alike n m (put_named x k t) (put_named x k t)
+  pub same_after : (t : Term) → IsPlain t → IsScoped inner t → (k n m : ℕ) → Alike n m (put_named x k t) (put_named x k t)
   same_after t plain scoped k n m = put_named_alike n m x k (plain_alike n m inner t plain scoped) (scoped_binder_used outer kind.Value x t scoped)
 
   p_unused : (t : Term) → IsScoped inner t → (n : ℕ) → put p n t ≡ t
@@ -188,13 +188,13 @@ module _ (scope : ℕ → Option NameKind) (p y ex : ℕ) (x : Option ℕ) (a u 
       bracket_beside x y ex a u r (λ n m. plain_alike n m outer a plain_a scoped_a) (same_after u plain_u scoped_u) (same_after r plain_r scoped_r)
       (unused_after x y outer r y_there new scoped_r) (unused_after x ex outer r ex_there new scoped_r) (rest_after x y ex u r others) next end
 
-  abbrev body : Term
+  abbrev pub body : Term
   body =
       Let x a
       (Let (Some y) (Handle (OnCancel (Poll (Slot p) u) r) (Some ex) (Let None (Handle r None (Pure (Number 0))) (Raise (Slot ex))))
       (Let None r (Pure (Slot y))))
 
-  body_entered : put p 0 body ≡ Let x a (rest y ex u r)
+  pub body_entered : put p 0 body ≡ Let x a (rest y ex u r)
   body_entered =
       rw (
         put_other_poll p outer a p_there scoped_a 0,

@@ -33,7 +33,7 @@ use Rattle.fx_laws.proofs.Looking.{looking}
 abbrev nothing : Term
 nothing = Pure (Number 0)
 
-only_released : (c : Counts) (k : ℕ) (w v : Done) → IsOnlyRow c (InRelease k (Finished w) v) (Shows (event.End k)) c (Finished (after_release w v))
+pub only_released : (c : Counts) (k : ℕ) (w v : Done) → IsOnlyRow c (InRelease k (Finished w) v) (Shows (event.End k)) c (Finished (after_release w v))
 only_released c k w v = record { there = rule.released; only = λ m e u r. one r; going = λ u e. cc }
   where
     one : {m : Label} {e : Counts} {u : Term} → Row true c (InRelease k (Finished w) v) m e u
@@ -41,10 +41,10 @@ only_released c k w v = record { there = rule.released; only = λ m e u r. one r
     one rule.released = (refl, refl, refl)
     one (rule.inside f e g r) = absurd (result_has_no_row (part_row (InReleaseIn k v) f (Finished w) e g r).1 refl)
 
-abbrev IsUsed : ℕ → Done → Term → Counts → Label → Counts → Term → Type 0
+abbrev pub IsUsed : ℕ → Done → Term → Counts → Label → Counts → Term → Type 0
 IsUsed k w r c l d u = (l ≡ Shows (event.Begin k)) × (d ≡ c) × (u ≡ InRelease k r w)
 
-used_row : {b : Bool} {c d : Counts} {l : Label} {u : Term} (k : ℕ) (w : Done) (r : Term) → Row b c (InUse k (Finished w) r) l d u → IsUsed k w r c l d u
+pub used_row : {b : Bool} {c d : Counts} {l : Label} {u : Term} (k : ℕ) (w : Done) (r : Term) → Row b c (InUse k (Finished w) r) l d u → IsUsed k w r c l d u
 used_row k w r rule.used = (refl, refl, refl)
 used_row k w r (rule.inside f e g h) = absurd (result_has_no_row (part_row (InUseIn k r) f (Finished w) e g h).1 refl)
 

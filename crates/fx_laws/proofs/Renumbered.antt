@@ -20,24 +20,24 @@ use Rattle.fx_laws.proofs.Results.{results_matched}
 use Rattle.fx_laws.proofs.Looking.{looking}
 
 -- the same context but for the number of its resource
-data IsContextToo : Context → Context → Type 0 where
+pub data IsContextToo : Context → Context → Type 0 where
   itself : {f : Context} → IsContextToo f f
   use_too : {k k' : ℕ} {r : Term} → IsContextToo (InUseIn k r) (InUseIn k' r)
   use_case_too : {k k' y z : ℕ} {s e d : Term} → IsContextToo (InUseCaseIn k y s z e d) (InUseCaseIn k' y s z e d)
   release_too : {k k' : ℕ} {w : Done} → IsContextToo (InReleaseIn k w) (InReleaseIn k' w)
 
 -- the same term but for the numbers of the resources in use
-data IsRenumbered : Term → Term → Type 0 where
+pub data IsRenumbered : Term → Term → Type 0 where
   same : {t : Term} → IsRenumbered t t
   within : {f g : Context} {t t' a a' : Term} → t ≡ plug f a → t' ≡ plug g a' → IsContextToo f g → IsRenumbered a a' → IsRenumbered t t'
 
 abbrev pub with_acquired : ℕ → Counts → Counts
 with_acquired n c = record c { acquired = n }
 
-record HasAcquiredOthers (c c' : Counts) : Type 0 where
-  is : c' ≡ with_acquired c'.acquired c
+pub record HasAcquiredOthers (c c' : Counts) : Type 0 where
+  pub is : c' ≡ with_acquired c'.acquired c
 
-abbrev IsFollowedSo : Bool → Counts → Term → Label → Counts → Term → Type 0
+abbrev pub IsFollowedSo : Bool → Counts → Term → Label → Counts → Term → Type 0
 IsFollowedSo = RowIsFollowed looking HasAcquiredOthers IsRenumbered
 
 so : (n : ℕ) (c d : Counts) {k : Bool} {t u : Term} {l : Label} → Row k (with_acquired n c) t l (with_acquired n d) u
@@ -114,7 +114,7 @@ own_row n (rule.inside f e g r) =
       same = within g refl itself i.same;
     }
 
-renumbered_result : (w : Done) (t' : Term) → IsRenumbered (Finished w) t' → t' ≡ Finished w
+pub renumbered_result : (w : Done) (t' : Term) → IsRenumbered (Finished w) t' → t' ≡ Finished w
 renumbered_result w t' same = refl
 renumbered_result w t' (within {f = f} {a = a} e e' fg more) = absurd (no_context f a (Finished w) refl e)
 
@@ -206,7 +206,7 @@ renumbered_row n {k} {c} {d} {u = u} {l = l} (within {f = f} {g = g} {a = a} {a'
     subst (λ (z : Term). IsFollowedSo k (with_acquired n c) z l d u) (sym e')
     (part_followed n (row_of_part f whole) refl fg more whole (λ y q. renumbered_row n more q))
 
-renumbered_rows : (k : Bool) (c c' d : Counts) (l : Label) (t t' u : Term) → HasAcquiredOthers c c' → IsRenumbered t t' → Row k c t l d u
+pub renumbered_rows : (k : Bool) (c c' d : Counts) (l : Label) (t t' u : Term) → HasAcquiredOthers c c' → IsRenumbered t t' → Row k c t l d u
     → IsFollowedSo k c' t' l d u
 renumbered_rows k c c' d l t t' u near more r =
     subst (λ (e : Counts). IsFollowedSo k e t' l d u) (sym near.is) (renumbered_row c'.acquired more r)
@@ -218,23 +218,23 @@ closed_too outer use_too = refl
 closed_too outer use_case_too = refl
 closed_too outer release_too = refl
 
-renumbered_closed : {t t' : Term} (outer : List Closing) → IsRenumbered t t' → closed_regions outer t ≡ closed_regions outer t'
+pub renumbered_closed : {t t' : Term} (outer : List Closing) → IsRenumbered t t' → closed_regions outer t ≡ closed_regions outer t'
 renumbered_closed outer same = refl
 renumbered_closed outer (within {f = f} {g = g} {a = a} {a' = a'} e e' fg more) =
     ap (closed_regions outer) e ∙ closed_plug outer f a ∙ ap (λ (cs : List Closing). closed_regions cs a) (closed_too outer fg)
     ∙ renumbered_closed (closed_under outer g) more ∙ sym (closed_plug outer g a') ∙ ap (closed_regions outer) (sym e')
 
-renumbered_leaf : {t t' : Term} → IsRenumbered t t' → leaf t ≡ leaf t'
+pub renumbered_leaf : {t t' : Term} → IsRenumbered t t' → leaf t ≡ leaf t'
 renumbered_leaf same = refl
 renumbered_leaf (within {f = f} {g = g} {a = a} {a' = a'} e e' fg more) =
     ap leaf e ∙ leaf_plug f a ∙ renumbered_leaf more ∙ sym (leaf_plug g a') ∙ ap leaf (sym e')
 
-renumbered_must : (c c' : Counts) (t t' : Term) → HasAcquiredOthers c c' → IsRenumbered t t' → must_cancel c.known t ≡ must_cancel c'.known t'
+pub renumbered_must : (c c' : Counts) (t t' : Term) → HasAcquiredOthers c c' → IsRenumbered t t' → must_cancel c.known t ≡ must_cancel c'.known t'
 renumbered_must c c' t t' near more =
     let p = renumbered_closed [] more in let q = renumbered_leaf more in let r : c'.known ≡ c.known = ap (λ (e : Counts). e.known) near.is in cc
 
 -- its clean-ups are the same
-abbrev AreCleanupsToo : List CleanupTerm → List CleanupTerm → Type 0
+abbrev pub AreCleanupsToo : List CleanupTerm → List CleanupTerm → Type 0
 AreCleanupsToo xs ys = AreSameBefore looking IsRenumbered [] [] xs ys
 
 all_too : (xs : List CleanupTerm) → AreCleanupsToo xs xs
@@ -262,7 +262,7 @@ with_too use_too p = append_too p (release refl refl same last)
 with_too use_case_too p = append_too p (release refl refl same last)
 with_too release_too p = p
 
-clean_too : {t t' : Term} → IsRenumbered t t' → AreCleanupsToo (cleanup_terms t) (cleanup_terms t')
+pub clean_too : {t t' : Term} → IsRenumbered t t' → AreCleanupsToo (cleanup_terms t) (cleanup_terms t')
 clean_too {t} same = all_too (cleanup_terms t)
 clean_too {t} {t'} (within {f = f} {g = g} {a = a} {a' = a'} e e' fg more) =
     let left : cleanup_terms t ≡ cleanups_with f (cleanup_terms a) = ap cleanup_terms e ∙ cleanups_plug f a in

@@ -26,6 +26,7 @@ use Rattle.fx_look_laws.specs.FibersLookAlike.{CanEndSo, EndsLikeAllOf, LooksLik
 use Rattle.fx_look_laws.specs.OtherFibers.{not_in}
 use Rattle.fx_look_laws.proofs.EndedLooks.{ended_like_all, ended_unless_back}
 use Rattle.fx_look_laws.proofs.PlainPuts.{IsThere, there_under, there_first, put_stays_scoped, put_stays_plain}
+use Rattle.fx_look_laws.proofs.BracketWaits.{bracket_masked_waits, mask_bracketed_waits}
 use Rattle.fx_look_laws.proofs.OrderWaits.{order_masked_waits, order_finalized_waits}
 use Rattle.fx_look_laws.proofs.Requests.{can_same}
 use Rattle.fx_look_laws.proofs.WaitsLike.{CanStop, WaitsLike}
@@ -261,10 +262,13 @@ module _ (scope : ℕ → Option NameKind) where
   bracket_needs : (t u : Term) → IsOfBracket t u → need t ≡ need u
   bracket_needs t u (of_bracket p y e x a v d h) = let none = h.starts_none in omega (arith, none)
 
-  bracket_ends : (t u : Term) → IsOfBracket t u → EndsLikeAllOf of_ended u t
+  bracket_ends : (t u : Term) → IsOfBracket t u → EndsLikeAllOf of_any u t
   bracket_ends t u (of_bracket p y e x a v d h) =
-      ended_like_all u t
-      (bracket_looks_like_all (elsewhere scope) p y e x a v d h.p_y h.p_e h.new_x h.plain_a h.plain_u h.plain_d h.scoped_a h.scoped_u h.scoped_d)
+      ends_or_waits t u
+      (ended_like_all u t
+      (bracket_looks_like_all (elsewhere scope) p y e x a v d h.p_y h.p_e h.new_x h.plain_a h.plain_u h.plain_d h.scoped_a h.scoped_u h.scoped_d))
+      (λ o next end. bracket_masked_waits o (elsewhere scope) p y e x a v d h.p_y h.p_e h.new_x h.plain_a h.plain_u h.plain_d h.scoped_a h.scoped_u h.scoped_d
+      next end)
 
   bracket_turned_puts : (x n : ℕ) (t u : Term) → not_in scope x ≡ false → IsOfBracketTurned t u → IsOfBracketTurned (put x n t) (put x n u)
   bracket_turned_puts x n t u free (bracket_turned h) = bracket_turned (bracket_puts x n u t free h)
@@ -272,10 +276,13 @@ module _ (scope : ℕ → Option NameKind) where
   bracket_turned_needs : (t u : Term) → IsOfBracketTurned t u → need t ≡ need u
   bracket_turned_needs t u (bracket_turned h) = sym (bracket_needs u t h)
 
-  bracket_turned_ends : (t u : Term) → IsOfBracketTurned t u → EndsLikeAllOf of_ended_but_alone u t
+  bracket_turned_ends : (t u : Term) → IsOfBracketTurned t u → EndsLikeAllOf of_any_but_alone u t
   bracket_turned_ends t u (bracket_turned (of_bracket p y e x a v d h)) =
-      ended_unless_back u t
-      (bracket_looks_the_same (elsewhere scope) p y e x a v d h.p_y h.p_e h.new_x h.plain_a h.plain_u h.plain_d h.scoped_a h.scoped_u h.scoped_d)
+      ends_or_waits_but_alone t u
+      (ended_unless_back u t
+      (bracket_looks_the_same (elsewhere scope) p y e x a v d h.p_y h.p_e h.new_x h.plain_a h.plain_u h.plain_d h.scoped_a h.scoped_u h.scoped_d))
+      (λ o next end. mask_bracketed_waits o (elsewhere scope) p y e x a v d h.p_y h.p_e h.new_x h.plain_a h.plain_u h.plain_d h.scoped_a h.scoped_u h.scoped_d
+      next end)
 
   module _ (p y e : ℕ) (x : Option ℕ) (a u d : Term) (new_p : scope p ≡ None) (new_y : scope y ≡ None) (new_e : scope e ≡ None) (py : p ≢ y) (pe : p ≢ e)
       (new : IsNew (without_names (elsewhere scope) p y e) x) (pa : IsPlain a) (pu : IsPlain u) (pd : IsPlain d)
@@ -300,20 +307,20 @@ module _ (scope : ℕ → Option NameKind) where
           starts_none = none;
         }
 
-    pub bracket_masked : LooksLikeAllWithNumbers of_ended (not_in scope) (Bracket x a u d)
+    pub bracket_masked : LooksLikeAllWithNumbers of_any (not_in scope) (Bracket x a u d)
         (Mask p (Let x a
         (Let (Some y)
         (Handle (OnCancel (Poll (Slot p) u) d) (Some e) (Let None (Handle d None (Pure (Number 0))) (Raise (Slot e))))
         (Let None d (Pure (Slot y))))))
     bracket_masked =
-        looks_with_numbers of_ended (not_in scope) IsOfBracket bracket_puts bracket_needs bracket_ends _ _ (of_bracket p y e x a u d bracket_of)
+        looks_with_numbers of_any (not_in scope) IsOfBracket bracket_puts bracket_needs bracket_ends _ _ (of_bracket p y e x a u d bracket_of)
 
-    pub mask_bracketed : LooksLikeAllWithNumbers of_ended_but_alone (not_in scope)
+    pub mask_bracketed : LooksLikeAllWithNumbers of_any_but_alone (not_in scope)
         (Mask p (Let x a
         (Let (Some y)
         (Handle (OnCancel (Poll (Slot p) u) d) (Some e) (Let None (Handle d None (Pure (Number 0))) (Raise (Slot e))))
         (Let None d (Pure (Slot y))))))
         (Bracket x a u d)
     mask_bracketed =
-        looks_with_numbers of_ended_but_alone (not_in scope) IsOfBracketTurned bracket_turned_puts bracket_turned_needs bracket_turned_ends _ _
+        looks_with_numbers of_any_but_alone (not_in scope) IsOfBracketTurned bracket_turned_puts bracket_turned_needs bracket_turned_ends _ _
         (bracket_turned (of_bracket p y e x a u d bracket_of))

@@ -11,6 +11,8 @@ pub mod FibersLook
 pub mod PlainPuts
 pub mod EndedLooks
 pub mod WaitsLike
+pub mod OpenWaits
 pub mod OrderWaits
+pub mod BracketWaits
 pub mod FiberLaws
 pub mod ExampleFibers

@@ -59,7 +59,7 @@ module _ (o : Outside) where
       }
 
   -- one step of which others see the same
-  step_like : {c' e' : Counts} {p' m' : Progress} {l' : Label} (l : Label) (ls : List Label) → Step c' p' l' e' m'
+  pub step_like : {c' e' : Counts} {p' m' : Progress} {l' : Label} (l : Label) (ls : List Label) → Step c' p' l' e' m'
       → visible (l' ∷ []) ≡ visible (l ∷ []) → CanStop e' m' (visible ls) → CanStop c' p' (visible (l ∷ ls))
   step_like {e' = e'} {m' = m'} {l' = l'} l ls s same k =
       record {
@@ -78,7 +78,7 @@ module _ (o : Outside) where
       (results : ResultsAreResults looking Near Same) (leaves : (t t' : Term) → Same t t' → leaf_can_step o (leaf t) ≡ leaf_can_step o (leaf t'))
       (place place' : Place) (shut : (t t' : Term) → Same t t' → IsShutWith place t × IsShutWith place' t')
       (ends : (c c' : Counts) → Near c c' → (w : Done) → WaitsLike c (come_to place (Finished w)) c' (come_to place' (Finished w))) where
-    shut_waits : (ls : List Label) (c c' d : Counts) (q : Progress) (t t' : Term) → Near c c' → Same t t' → Leads c (come_to place t) ls d q
+    pub shut_waits : (ls : List Label) (c c' d : Counts) (q : Progress) (t t' : Term) → Near c c' → Same t t' → Leads c (come_to place t) ls d q
         → IsBlockedAt o d q → CanStop c' (come_to place' t') (visible ls)
     shut_waits [] c c' d q t t' near same h b =
         let s = shut t t' same in

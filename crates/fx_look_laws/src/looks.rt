@@ -49,8 +49,8 @@ pub fn fibers_may_finalize_in_order()
 {}
 
 /// What a bracket is: `(bracket x A U R)` and the mask that acquires, polls the use and releases after it (`fx_laws`,
-/// `bracket_is_a_mask_with_a_polled_use`), where `R` starts no fiber, of fibers that have ended. The names of the mask
-/// are new ones. It can be canceled before it is entered.
+/// `bracket_is_a_mask_with_a_polled_use`), where `R` starts no fiber, whether the fiber has ended or is blocked. The names
+/// of the mask are new ones. It can be canceled before it is entered.
 pub fn fibers_may_bracket_by_a_mask()
     ensures masked { (scope : ℕ → Option NameKind) (p y e : ℕ) (x : Option ℕ) (a u d : Term)
         → IsNew scope (Some p) → IsNew scope (Some y) → IsNew scope (Some e) → p ≢ y → p ≢ e
@@ -58,7 +58,7 @@ pub fn fibers_may_bracket_by_a_mask()
         → IsScoped (without_names (elsewhere scope) p y e) a
         → IsScoped (with_named x kind.Value (without_names (elsewhere scope) p y e)) u
         → IsScoped (with_named x kind.Value (without_names (elsewhere scope) p y e)) d → need d ≡ 0
-        → LooksLikeAllWithNumbers of_ended (not_in scope) (Bracket x a u d)
+        → LooksLikeAllWithNumbers of_any (not_in scope) (Bracket x a u d)
         (Mask p (Let x a
         (Let (Some y)
         (Handle (OnCancel (Poll (Slot p) u) d) (Some e) (Let None (Handle d None (Pure (Number 0))) (Raise (Slot e))))
@@ -69,8 +69,7 @@ pub fn fibers_may_bracket_by_a_mask()
         → IsScoped (without_names (elsewhere scope) p y e) a
         → IsScoped (with_named x kind.Value (without_names (elsewhere scope) p y e)) u
         → IsScoped (with_named x kind.Value (without_names (elsewhere scope) p y e)) d → need d ≡ 0
-        → LooksLikeAllWithNumbers of_ended_but_alone (not_in scope)
-        (Mask p (Let x a
+        → LooksLikeAllWithNumbers of_any_but_alone (not_in scope) (Mask p (Let x a
         (Let (Some y)
         (Handle (OnCancel (Poll (Slot p) u) d) (Some e) (Let None (Handle d None (Pure (Number 0))) (Raise (Slot e))))
         (Let None d (Pure (Slot y))))))
