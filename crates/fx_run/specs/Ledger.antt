@@ -25,6 +25,10 @@ empty_ledger total = record {
   beyond = None;
 }
 
+-- the fiber of this number was given
+abbrev pub with_given : ℕ → LedgerView → LedgerView
+with_given id v = record v { given = slice_set v.given id true }
+
 -- what was told first stands
 abbrev pub first_of : {A : Type 0} → Option A → A → Option A
 first_of None x = Some x
@@ -62,7 +66,7 @@ with_events id (e ∷ es) v = with_events id es (with_event id e v)
 
 -- fiber id was given, with this trace
 abbrev pub with_trace : ℕ → List Event → LedgerView → LedgerView
-with_trace id es v = with_events id es (record v { given = slice_set v.given id true })
+with_trace id es v = with_events id es (with_given id v)
 
 -- the fiber was given, with its trace
 abbrev pub with_fiber : BareView → LedgerView → LedgerView

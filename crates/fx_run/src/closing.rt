@@ -13,10 +13,10 @@ ghost use Rattle.fx_run.specs.LawfulRun.{IsLawfulHalt};
 ghost use Rattle.fx_run.specs.Closing.{AreMarked, IsReportOf, IsCloseFault};
 
 use crate::gathered::Gathered;
-use crate::lost::test_for_lost;
+use crate::lost::whole_ledger;
 use crate::run_fault::RunFault;
 use crate::waits::all_blocked;
-use crate::whole_report::report;
+use crate::whole_report::report_by;
 use fx_fiber::main_begin;
 use fx_port::{Marks, close_queues};
 use fx_queue::FiberQueue;
@@ -76,11 +76,11 @@ pub(crate) fn close_run<R: Wait>(
         noted,
     } = gathered;
     let numbers = main_begin(alloc, &script.code).end;
-    test_for_lost(alloc, script, &bares)?;
+    let ledger = whole_ledger(alloc, script.total(), &bares)?;
     let outside = marked(alloc, numbers, &noted)?;
     words.close(seat);
     let left = close_queues(rt, alloc, queues, passes)?;
     let blocked = all_blocked(alloc, &script.code, &bares)?;
-    let report = report(alloc, script, bares, left, outside, late)?;
+    let report = report_by(alloc, script, ledger, bares, left, outside, late)?;
     Ok(Halt { report, blocked })
 }

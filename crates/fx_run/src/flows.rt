@@ -1,10 +1,9 @@
 //! How many elements fibers put into each queue, and got from it.
 ghost use Rattle.std.specs.Prelude.{◌≡◌, length, IfOk};
-ghost use Rattle.fx_term.specs.Stamped.{events_in};
-ghost use Rattle.fx_run.specs.Flows.{no_flows, with_one, with_move, with_moves, rest_in, rests_in};
+ghost use Rattle.fx_run.specs.Flows.{no_flows, with_one, with_move, rest_in, rests_in};
 
 use crate::queue_lengths::saturating_u32;
-use fx_term::{Event, Memory, Stamped};
+use fx_term::{Event, Memory};
 use std::alloc::Global;
 use std::marker::Model;
 
@@ -34,22 +33,15 @@ impl Flows {
         })
     }
 
-    fn event(&mut self, event: Event)
+    /// Counts what was put or got by this.
+    #[inline(always)]
+    pub fn event(&mut self, event: Event)
         ensures { self.new ≡ with_move event self.old }
     {
         match event {
             Event::Put(queue, _) => count(&mut self.puts, queue),
             Event::Got(queue, _) => count(&mut self.gots, queue),
             _ => {}
-        }
-    }
-
-    /// Counts what a fiber put and got.
-    pub fn events(&mut self, trace: &[Stamped])
-        ensures { self.new ≡ with_moves (events_in trace.now) self.old }
-    {
-        for k in 0..trace.len() {
-            self.event(trace[k].event);
         }
     }
 

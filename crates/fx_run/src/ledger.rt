@@ -1,7 +1,7 @@
 //! What traces tell, by fiber number.
 ghost use Rattle.std.specs.Prelude.{◌≡◌, ℕ, ◌<◌, true, false, IfOk, IfSome, IfNone};
 ghost use Rattle.fx_term.specs.Stamped.{events_in};
-ghost use Rattle.fx_run.specs.Ledger.{empty_ledger, with_start, with_request, with_end};
+ghost use Rattle.fx_run.specs.Ledger.{empty_ledger, with_given, with_start, with_request, with_end};
 ghost use Rattle.fx_run.specs.Ledger.{with_event, with_events, with_trace, with_fibers, with_requests};
 ghost use Rattle.fx_run.specs.Ledger.{with_marks};
 ghost use Rattle.fx_run.specs.Ledger.{is_lost_in, IsFirstLost};
@@ -89,7 +89,9 @@ impl Ledger {
         }
     }
 
-    fn event(&mut self, id: u32, event: Event)
+    /// The fiber of this number showed this.
+    #[inline(always)]
+    pub fn event(&mut self, id: u32, event: Event)
         ensures { self.new ≡ with_event id event self.old }
     {
         match event {
@@ -108,13 +110,20 @@ impl Ledger {
         }
     }
 
-    /// The fiber of this number was given, with this trace.
-    pub fn fiber(&mut self, id: u32, trace: &[Stamped])
-        ensures { self.new ≡ with_trace id (events_in trace.now) self.old }
+    /// The fiber of this number was given.
+    pub fn give(&mut self, id: u32)
+        ensures { self.new ≡ with_given id self.old }
     {
         if let Some(is_given) = self.given.get_mut(id as usize) {
             *is_given = true;
         }
+    }
+
+    /// The fiber of this number was given, with this trace.
+    fn fiber(&mut self, id: u32, trace: &[Stamped])
+        ensures { self.new ≡ with_trace id (events_in trace.now) self.old }
+    {
+        self.give(id);
         self.events(id, trace);
     }
 

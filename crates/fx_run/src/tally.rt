@@ -1,15 +1,17 @@
 //! What fibers have done between two rounds.
 ghost use Rattle.std.specs.Prelude.{◌≡◌, IfOk};
+ghost use Rattle.fx_term.specs.Stamped.{events_in};
 ghost use Rattle.fx_text.specs.View.{meaning};
 ghost use Rattle.fx_report.specs.Script.{script_of};
 ghost use Rattle.fx_run.specs.Flows.{rests_in};
-ghost use Rattle.fx_run.specs.Tally.{empty_tally, with_live, with_lives};
+ghost use Rattle.fx_run.specs.Ledger.{with_given, with_marks};
+ghost use Rattle.fx_run.specs.Tally.{empty_tally, with_shown, with_all_shown, with_live, with_lives};
 
 use crate::flows::Flows;
 use crate::ledger::Ledger;
 use fx_fiber::Fiber;
-use fx_port::{RunBrand, ThreadPort};
-use fx_term::{Memory, Outcome};
+use fx_port::{Marks, RunBrand, ThreadPort};
+use fx_term::{Event, Memory, Outcome, Stamped};
 use fx_text::Script;
 use std::alloc::Global;
 use std::marker::Model;
@@ -42,12 +44,47 @@ impl Tally {
         })
     }
 
+    /// The fiber of this number is there.
+    fn give(&mut self, id: u32)
+        ensures { self.new ≡ record self.old { ledger = with_given id self.old.ledger } }
+    {
+        self.ledger.give(id);
+    }
+
+    /// Those that are marked were requested from outside.
+    fn marks(&mut self, marks: &Marks)
+        ensures { self.new ≡ record self.old { ledger = with_marks 0 marks.now self.old.ledger } }
+    {
+        self.ledger.marks(marks);
+    }
+
+    /// The fiber of this number showed this.
+    #[inline(always)]
+    fn event(&mut self, id: u32, event: Event)
+        ensures { self.new ≡ with_shown id event self.old }
+    {
+        match event {
+            Event::Put(..) | Event::Got(..) => self.flows.event(event),
+            _ => self.ledger.event(id, event),
+        }
+    }
+
+    /// It showed all of these, which are walked once for the ledger and the flows.
+    fn events(&mut self, id: u32, trace: &[Stamped])
+        ensures { self.new ≡ with_all_shown id (events_in trace.now) self.old }
+    {
+        for k in 0..trace.len() {
+            self.event(id, trace[k].event);
+        }
+    }
+
     fn fiber<'a, R: Wait, N: RunBrand>(&mut self, fiber: &Fiber<ThreadPort<'a, R, N>>)
         ensures { self.new ≡ with_live fiber.now self.old }
     {
-        self.ledger.fiber(fiber.id(), fiber.trace());
-        self.ledger.marks(fiber.port().noted());
-        self.flows.events(fiber.trace());
+        let id = fiber.id();
+        self.give(id);
+        self.events(id, fiber.trace());
+        self.marks(fiber.port().noted());
     }
 
     /// These fibers are there.

@@ -10,6 +10,7 @@ use Rattle.fx_report.specs.Script.{script_of}
 use Rattle.fx_report.specs.Waits.{IsBlockedAtQueueBelow}
 use Rattle.fx_report.proofs.QueueNames.{names_declared}
 use Rattle.fx_report.proofs.WritableReports.{lawful_is_writable}
+use Rattle.fx_run.specs.Ledger.{empty_ledger, with_fibers}
 use Rattle.fx_run.specs.Reported.{RanCode, NoneIsLost}
 use Rattle.fx_run.specs.RunWaits.{StandsAmong, all_waits}
 use Rattle.fx_run.specs.Closing.{AreMarked}
@@ -18,27 +19,36 @@ use Rattle.fx_run.proofs.EndLaws.{all_below, ran_so, seat_whole, passes_whole}
 use Rattle.fx_run.proofs.LawfulRuns.{halts_lawfully, blocked_below}
 use Rattle.fx_run.proofs.closing.close_run.Goals as goal
 
-pub test_for_lost-requires-clause-below : goal.test_for_lost-requires-clause-below
-test_for_lost-requires-clause-below g c =
-    let n = total (script_of (meaning c.args.script.now)) in
-    subst (All (λ (x : BareView). x.id < n)) (sym c.deref.ensures.value)
-    (all_below c.args.script.now.code.nodes c.args.words c.args.queues.items c.args.gathered c.requires.gathered n c.requires.fibers)
+pub whole_ledger-requires-clause-below : goal.whole_ledger-requires-clause-below
+whole_ledger-requires-clause-below g c =
+    subst (All (λ (x : BareView). x.id < c.total.result)) (sym c.deref.ensures.value)
+    (all_below c.args.script.now.code.nodes c.args.words c.args.queues.items c.args.gathered c.requires.gathered c.total.result
+    (c.requires.fibers ∙ sym c.total.ensures.is))
+
+pub report_by-requires-clause-told : goal.report_by-requires-clause-told
+report_by-requires-clause-told g c =
+    c.in_ok-ledger.ensures.told
+    ∙ ap (λ (bares : List BareView). with_fibers bares (empty_ledger c.total.result)) c.deref.ensures.value
+    ∙ ap (λ (n : ℕ). with_fibers c.args.gathered.bares.items (empty_ledger n)) c.total.ensures.is
+
+pub report_by-requires-clause-whole : goal.report_by-requires-clause-whole
+report_by-requires-clause-whole g c = subst NoneIsLost c.deref.ensures.value c.in_ok-ledger.ensures.whole
 
 pub close-requires-clause-whole : goal.close-requires-clause-whole
 close-requires-clause-whole g c =
     seat_whole c.args.script.now.code.nodes c.args.words c.args.queues.items c.args.gathered c.requires.gathered
-    (subst NoneIsLost c.deref.ensures.value c.in_ok-test_for_lost.ensures.whole) c.requires.ascending
+    (subst NoneIsLost c.deref.ensures.value c.in_ok-ledger.ensures.whole) c.requires.ascending
 
 pub close_queues-requires-clause-whole : goal.close_queues-requires-clause-whole
 close_queues-requires-clause-whole g c =
     passes_whole c.args.script.now.code.nodes c.args.words c.args.queues.items c.args.gathered c.requires.gathered
-    (subst NoneIsLost c.deref.ensures.value c.in_ok-test_for_lost.ensures.whole) c.requires.ascending
+    (subst NoneIsLost c.deref.ensures.value c.in_ok-ledger.ensures.whole) c.requires.ascending
 
-pub report-requires-clause-code : goal.report-requires-clause-code
-report-requires-clause-code g c = ran_so c.args.script.now.code.nodes c.args.words c.args.queues.items c.args.gathered c.requires.gathered
+pub report_by-requires-clause-code : goal.report_by-requires-clause-code
+report_by-requires-clause-code g c = ran_so c.args.script.now.code.nodes c.args.words c.args.queues.items c.args.gathered c.requires.gathered
 
-pub report-requires-clause-below : goal.report-requires-clause-below
-report-requires-clause-below g c =
+pub report_by-requires-clause-below : goal.report_by-requires-clause-below
+report_by-requires-clause-below g c =
     let n = total (script_of (meaning c.args.script.now)) in
     all_below c.args.script.now.code.nodes c.args.words c.args.queues.items c.args.gathered c.requires.gathered n c.requires.fibers
 
@@ -65,7 +75,7 @@ returns-clause-halted g c may allowed =
     let s = script_of (meaning c.args.script.now) in
     let nodes = c.args.script.now.code.nodes in
     let code = c.main_begin-numbers.ensures.code in
-    let lost = subst NoneIsLost c.deref.ensures.value c.in_ok-test_for_lost.ensures.whole in
+    let lost = subst NoneIsLost c.deref.ensures.value c.in_ok-ledger.ensures.whole in
     halts_lawfully nodes c.args.words c.args.queues.items c.args.gathered c.requires.gathered lost c.requires.ascending s refl c.requires.fibers
     c.requires.capacities may allowed c.close.ensures.settled c.args.late _ (returns-clause-report g c) (code_is_scoped (λ f. true) nodes code)
     c.in_ok-blocked.blocked.items (c.in_ok-blocked.ensures.waits ∙ ap all_waits c.deref-2.ensures.value) (code_is_core nodes code)
@@ -81,19 +91,19 @@ returns-clause-named g c le =
     let m = meaning c.args.script.now in
     let nodes = c.args.script.now.code.nodes in
     let code = c.main_begin-numbers.ensures.code in
-    let lost = subst NoneIsLost c.deref.ensures.value c.in_ok-test_for_lost.ensures.whole in
+    let lost = subst NoneIsLost c.deref.ensures.value c.in_ok-ledger.ensures.whole in
     subst (λ (n : ℕ). All (IsBlockedAtQueueBelow n) c.in_ok-blocked.blocked.items) (sym (length-map m.queues (λ (q : List ℕ × ℕ). q.0)))
     (blocked_below nodes c.args.words c.args.queues.items c.args.gathered c.requires.gathered lost c.requires.ascending (script_of m) refl c.requires.fibers
     c.requires.capacities (λ f. true) (λ f marked. refl) c.close.ensures.settled c.args.late _ (returns-clause-report g c)
     (code_is_scoped (λ f. true) nodes code) c.in_ok-blocked.blocked.items (c.in_ok-blocked.ensures.waits ∙ ap all_waits c.deref-2.ensures.value)
     (length m.queues) (names_declared c.args.script.now code le))
 
-pub returns-in_err-test_for_lost-clause-fault : goal.returns-in_err-test_for_lost-clause-fault
-returns-in_err-test_for_lost-clause-fault g c =
+pub returns-in_err-ledger-clause-fault : goal.returns-in_err-ledger-clause-fault
+returns-in_err-ledger-clause-fault g c =
     let s = script_of (meaning c.args.script.now) in
-    let told = lost_so s c.args.gathered c.args.late c.deref.result.now c.deref.ensures.value c.in_err-test_for_lost.field-0.0
-    c.in_err-test_for_lost.ensures.fault in
-    let same : c.from_residual.result ≡ Err c.in_err-test_for_lost.field-0.0 = search rules in
+    let told = lost_so s c.args.gathered c.args.late c.deref.result.now c.deref.ensures.value c.in_err-ledger.field-0.0
+    c.in_err-ledger.ensures.fault in
+    let same : c.from_residual.result ≡ Err c.in_err-ledger.field-0.0 = search rules in
     rw same told
 
 pub returns-in_err-report-clause-fault : goal.returns-in_err-report-clause-fault

@@ -1,15 +1,16 @@
-use Rattle.std.proofs.Common.{rules, ◌≡◌, ◌∙◌, sym, map}
+use Rattle.std.proofs.Common.{rules, ◌≡◌, ◌∙◌, refl, sym, map}
 use Rattle.std.proofs.lemmas.Simd.{map-map}
 use Rattle.fx_term.specs.Element.{elements_of}
+use Rattle.fx_term.specs.Script.{total}
 use Rattle.fx_text.specs.View.{meaning}
 use Rattle.fx_report.specs.Script.{script_of}
 use Rattle.fx_run.proofs.Unsettled.{declared_capacities, unsettled_answer, reported_answer}
-use Rattle.fx_run.proofs.whole_report.report.Goals as goal
+use Rattle.fx_run.proofs.whole_report.report_by.Goals as goal
 
 pub returns-in-Some-clause-fault : goal.returns-in-Some-clause-fault
 returns-in-Some-clause-fault c =
     unsettled_answer (script_of (meaning c.args.script.now)) c.args.bares.items (map (λ items. items.items) c.args.left.items) c.args.outside.items
-    c.args.late c.total.result c.total.ensures.is c.requires.ascending c.requires.below
+    c.args.late (total (script_of (meaning c.args.script.now))) refl c.requires.ascending c.requires.below
     (record {
       caps = c.in_ok-caps.caps;
       rests = c.in_ok-rests.rests;
@@ -24,7 +25,7 @@ returns-in-Some-clause-fault c =
 pub returns-clause-report : goal.returns-clause-report
 returns-clause-report c =
     reported_answer (script_of (meaning c.args.script.now)) c.args.bares.items (map (λ items. items.items) c.args.left.items) c.args.outside.items
-    c.args.late c.total.result c.total.ensures.is c.requires.ascending c.requires.below
+    c.args.late (total (script_of (meaning c.args.script.now))) refl c.requires.ascending c.requires.below
     (record {
       caps = c.in_ok-caps.caps;
       rests = c.in_ok-rests.rests;
