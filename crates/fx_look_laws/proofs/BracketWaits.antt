@@ -36,7 +36,7 @@ use Rattle.fx_laws.proofs.SilentRows.{LeadsSilently, pure_leads, raise_leads, le
 use Rattle.fx_laws.proofs.SilentRows.{masked_leads, opened_leads, oncancel_leads, leads_placed, silent_step}
 use Rattle.fx_laws.proofs.StaysShut.{left_shut, right_shut, left_sealed, right_sealed}
 use Rattle.fx_script_laws.proofs.AtClosedPlaces.{can_go}
-use Rattle.fx_script_laws.proofs.MaskedWaits.{IsBlockedAt, IsNeverBlocked, forced_never, unwinds_never, enters}
+use Rattle.fx_look_laws.proofs.MaskedWaits.{IsBlockedAt, IsNeverBlocked, forced_never, unwinds_never, enters}
 use Rattle.fx_script_laws.proofs.RegionLaws.{poll_leads}
 use Rattle.fx_look_laws.proofs.OpenWaits.{result_never, unwinding_waits, open_waits, alike_open_waits}
 use Rattle.fx_look_laws.proofs.WaitsLike.{CanStop, WaitsLike, never_waits, left_first, right_first, step_like, alike_waits}

@@ -12,8 +12,8 @@ use Rattle.fx_model.proofs.EventLabels.{run_is_proper}
 use Rattle.fx_model.proofs.OutcomeLaws.{run_outcome}
 use Rattle.fx_laws.specs.Others.{OthersCanSee, LooksLikeAllOf, IsCanceledAlone, LookTheSameUnlessCanceledAlone}
 use Rattle.fx_script_laws.specs.Interchange.{StopsThere}
-use Rattle.fx_script_laws.specs.LookAlike.{visible_events}
-use Rattle.fx_script_laws.proofs.VisibleEvents.{same_outcome, visible_shown}
+use Rattle.fx_look_laws.specs.LookAlike.{visible_events}
+use Rattle.fx_look_laws.proofs.VisibleEvents.{same_outcome, visible_shown}
 use Rattle.fx_look_laws.specs.FibersLookAlike.{CanEndSo, EndsLikeAllOf, of_ended, of_ended_but_alone, is_canceled_alone}
 
 outcome_there : (p : Progress) → has_ended p ≡ true → (o : Outcome) × (outcome_at p ≡ Some o)

@@ -1,5 +1,5 @@
 -- The laws of what others see, with numbers for the names of their terms.
-use Rattle.std.proofs.Common.{◌≡◌, ◌≢◌, ℕ, ◌==◌, Bool, true, false, Option, Some, None, List, refl, sym, ◌∙◌, ap, arith}
+use Rattle.std.proofs.Common.{◌≡◌, ◌≢◌, ℕ, ◌==◌, Bool, true, false, Option, Some, None, List, sym, ◌∙◌, ap, arith}
 use Rattle.std.specs.Prelude.{is_none}
 use Rattle.std.proofs.lemmas.Bool.{ne_eqb}
 use Rattle.fx_term.specs.declared.event.Event.{Event}
@@ -10,26 +10,14 @@ use Rattle.fx_term.specs.Need.{need}
 use Rattle.fx_term.specs.Scope.{with_name, with_named, elsewhere, IsNew, IsScoped}
 use Rattle.fx_term.specs.Term.{Term, Pure, Raise, Canceled, Let, Handle, Mask, Poll, OnCancel, Bracket, put}
 use Rattle.fx_model.specs.MaskLaws.{IsPlain, forced_after}
-use Rattle.fx_model.specs.Row.{Counts, Label}
-use Rattle.fx_model.specs.Run.{first_counts}
-use Rattle.fx_model.specs.Step.{Progress, Runs}
-use Rattle.fx_model.specs.Outside.{Outside, can_step}
 use Rattle.fx_laws.specs.Names.{without_names}
-use Rattle.fx_laws.proofs.BracketLaws.{bracket_looks_like_all, bracket_looks_the_same}
-use Rattle.fx_laws.proofs.CanceledInMask.{canceled_in_mask}
-use Rattle.fx_laws.proofs.CanceledInOrder.{in_order_looks_like_all, in_order_looks_the_same}
-use Rattle.fx_script_laws.specs.Interchange.{StopsThere, put_each}
+use Rattle.fx_script_laws.specs.Interchange.{put_each}
 use Rattle.fx_script_laws.proofs.EachFollows.{numbered}
 use Rattle.fx_script_laws.proofs.PutNeeds.{put_need}
-use Rattle.fx_script_laws.proofs.MaskedWaits.{IsBlockedAt, waits_first, waits_second, CanWait}
-use Rattle.fx_look_laws.specs.FibersLookAlike.{CanEndSo, EndsLikeAllOf, LooksLikeAllWithNumbers, of_any, of_ended, of_ended_but_alone, of_any_but_alone}
+use Rattle.fx_look_laws.specs.FibersLookAlike.{EndsLikeAllOf, LooksLikeAllWithNumbers, of_any, of_any_but_alone}
 use Rattle.fx_look_laws.specs.OtherFibers.{not_in}
-use Rattle.fx_look_laws.proofs.EndedLooks.{ended_like_all, ended_unless_back}
 use Rattle.fx_look_laws.proofs.PlainPuts.{IsThere, there_under, there_first, put_stays_scoped, put_stays_plain}
-use Rattle.fx_look_laws.proofs.BracketWaits.{bracket_masked_waits, mask_bracketed_waits}
-use Rattle.fx_look_laws.proofs.OrderWaits.{order_masked_waits, order_finalized_waits}
-use Rattle.fx_look_laws.proofs.Requests.{can_same}
-use Rattle.fx_look_laws.proofs.WaitsLike.{CanStop, WaitsLike}
+use Rattle.fx_look_laws.proofs.LookLaws.{mask_after, mask_before, order_masked, order_finalized, bracket_as_mask, mask_as_bracket}
 
 -- what holds of each pair of a kind that numbers for names stay in
 module _ (is_so : Bool → List Event → Bool) (own : ℕ → Bool) (Pair : Term → Term → Type 0)
@@ -41,52 +29,6 @@ module _ (is_so : Bool → List Event → Bool) (own : ℕ → Bool) (Pair : Ter
         needs = λ numbers h. needs (put_each numbers t) (put_each numbers u) (numbered own Pair puts numbers h t u p);
         looks = λ numbers h. ends (put_each numbers t) (put_each numbers u) (numbered own Pair puts numbers h t u p);
       }
-
--- a fiber of any number waits as one of number 0 does that is requested where it is
-module _ (o : Outside) (f : ℕ) where
-  abbrev as_main : Outside
-  as_main = record o { is_requested = λ g. o.is_requested f }
-
-  waits_as_main : (c : Counts) (p : Progress) → can_step as_main 0 c p ≡ can_step o f c p
-  waits_as_main c p = can_same o (λ g. o.is_requested f) f 0 refl c p
-
-  blocked_as_main : (c : Counts) (p : Progress) → StopsThere o f false c p → IsBlockedAt as_main c p
-  blocked_as_main c p h = record { goes_on = h.1; unable = waits_as_main c p ∙ h.0 }
-
-  stops_as : (c : Counts) (p : Progress) → IsBlockedAt as_main c p → StopsThere o f false c p
-  stops_as c p b = (sym (waits_as_main c p) ∙ b.unable, b.goes_on)
-
--- where one with the first term waits, one with the second does, too
-abbrev WaitsToo : Term → Term → Type 0
-WaitsToo t u =
-    (o : Outside) (next end : ℕ)
-    → WaitsLike o (first_counts (record { term = t; next = next; end = end })) (Runs t) (first_counts (record { term = u; next = next; end = end })) (Runs u)
-
-waits_so : (t u : Term) → WaitsToo t u → (o : Outside) (f next end : ℕ) (ls : List Label)
-    → CanEndSo (StopsThere o f false) (record { term = t; next = next; end = end }) ls
-    → CanEndSo (StopsThere o f false) (record { term = u; next = next; end = end }) ls
-waits_so t u waits o f next end ls h =
-    let w = waits (as_main o f) next end h.labels h.counts h.progress h.run (blocked_as_main o f h.counts h.progress h.ends) in
-    record {
-      labels = w.labels;
-      counts = w.counts;
-      progress = w.progress;
-      run = w.run;
-      visible_is = w.visible_is ∙ h.visible_is;
-      ends = stops_as o f w.counts w.progress w.blocked;
-    }
-
-ends_or_waits : (t u : Term) → EndsLikeAllOf of_ended u t → WaitsToo t u → EndsLikeAllOf of_any u t
-ends_or_waits t u ended waits o f next end true ls so h = ended o f next end true ls refl h
-ends_or_waits t u ended waits o f next end false ls so h = waits_so t u waits o f next end ls h
-
-ends_or_waits_but_alone : (t u : Term) → EndsLikeAllOf of_ended_but_alone u t → WaitsToo t u → EndsLikeAllOf of_any_but_alone u t
-ends_or_waits_but_alone t u ended waits o f next end true ls so h = ended o f next end true ls so h
-ends_or_waits_but_alone t u ended waits o f next end false ls so h = waits_so t u waits o f next end ls h
-
-forget_unseen : (o : Outside) {c : Counts} {p : Progress} {ls : List Label} → CanWait o c p ls → CanStop o c p ls
-forget_unseen o w =
-    record { labels = w.labels; counts = w.counts; progress = w.progress; run = w.run; visible_is = w.visible_is; blocked = w.blocked }
 
 module _ (scope : ℕ → Option NameKind) where
   -- as where a fiber begins, with one name that is not used
@@ -112,11 +54,7 @@ module _ (scope : ℕ → Option NameKind) where
   mask_needs t u (of_mask p a plain scoped) = omega arith
 
   mask_ends : (t u : Term) → IsOfMask t u → EndsLikeAllOf of_any u t
-  mask_ends t u (of_mask p a plain scoped) =
-      ends_or_waits t u
-      (ended_like_all u t (λ next end ls h. (canceled_in_mask (elsewhere scope) p a plain scoped next end ls).0 h))
-      (λ o next end ls d q h b. forget_unseen o
-      (waits_second o (elsewhere scope) p a plain scoped (first_counts (record { term = t; next = next; end = end })) refl ls d q h b))
+  mask_ends t u (of_mask p a plain scoped) = mask_after (elsewhere scope) p a plain scoped
 
   turned_puts : (x n : ℕ) (t u : Term) → not_in scope x ≡ false → IsOfMaskTurned t u → IsOfMaskTurned (put x n t) (put x n u)
   turned_puts x n t u free (turned h) = turned (mask_puts x n u t free h)
@@ -125,11 +63,7 @@ module _ (scope : ℕ → Option NameKind) where
   turned_needs t u (turned h) = sym (mask_needs u t h)
 
   turned_ends : (t u : Term) → IsOfMaskTurned t u → EndsLikeAllOf of_any u t
-  turned_ends t u (turned (of_mask p a plain scoped)) =
-      ends_or_waits t u
-      (ended_like_all u t (λ next end ls h. (canceled_in_mask (elsewhere scope) p a plain scoped next end ls).1 h))
-      (λ o next end ls d q h b. forget_unseen o
-      (waits_first o (elsewhere scope) p a plain scoped (first_counts (record { term = t; next = next; end = end })) refl ls d q h b))
+  turned_ends t u (turned (of_mask p a plain scoped)) = mask_before (elsewhere scope) p a plain scoped
 
   module _ (p : ℕ) (a : Term) (plain : IsPlain a) (scoped : IsScoped (with_name p kind.OtherPoll (elsewhere scope)) a) where
     pub cancels_after : LooksLikeAllWithNumbers of_any (not_in scope) (Mask p (Let None Canceled a)) (forced_after (Mask p a) Canceled)
@@ -157,9 +91,7 @@ module _ (scope : ℕ → Option NameKind) where
   order_needs t u (of_order p f g plain plain' scoped scoped') = omega arith
 
   order_ends : (t u : Term) → IsOfOrder t u → EndsLikeAllOf of_any u t
-  order_ends t u (of_order p f g plain plain' scoped scoped') =
-      ends_or_waits t u (ended_like_all u t (in_order_looks_like_all (elsewhere scope) p f g plain plain' scoped scoped'))
-      (λ o next end. order_masked_waits o (elsewhere scope) p f g plain plain' scoped scoped' next end)
+  order_ends t u (of_order p f g plain plain' scoped scoped') = order_masked (elsewhere scope) p f g plain plain' scoped scoped'
 
   order_turned_puts : (x n : ℕ) (t u : Term) → not_in scope x ≡ false → IsOfOrderTurned t u → IsOfOrderTurned (put x n t) (put x n u)
   order_turned_puts x n t u free (order_turned h) = order_turned (order_puts x n u t free h)
@@ -168,9 +100,7 @@ module _ (scope : ℕ → Option NameKind) where
   order_turned_needs t u (order_turned h) = sym (order_needs u t h)
 
   order_turned_ends : (t u : Term) → IsOfOrderTurned t u → EndsLikeAllOf of_any_but_alone u t
-  order_turned_ends t u (order_turned (of_order p f g plain plain' scoped scoped')) =
-      ends_or_waits_but_alone t u (ended_unless_back u t (in_order_looks_the_same (elsewhere scope) p f g plain plain' scoped scoped'))
-      (λ o next end. order_finalized_waits o (elsewhere scope) p f g plain plain' scoped scoped' next end)
+  order_turned_ends t u (order_turned (of_order p f g plain plain' scoped scoped')) = order_finalized (elsewhere scope) p f g plain plain' scoped scoped'
 
   module _ (p : ℕ) (f g : Term) (plain : IsPlain f) (plain' : IsPlain g) (scoped : IsScoped (with_name p kind.OtherPoll (elsewhere scope)) f)
       (scoped' : IsScoped (with_name p kind.OtherPoll (elsewhere scope)) g) where
@@ -264,11 +194,7 @@ module _ (scope : ℕ → Option NameKind) where
 
   bracket_ends : (t u : Term) → IsOfBracket t u → EndsLikeAllOf of_any u t
   bracket_ends t u (of_bracket p y e x a v d h) =
-      ends_or_waits t u
-      (ended_like_all u t
-      (bracket_looks_like_all (elsewhere scope) p y e x a v d h.p_y h.p_e h.new_x h.plain_a h.plain_u h.plain_d h.scoped_a h.scoped_u h.scoped_d))
-      (λ o next end. bracket_masked_waits o (elsewhere scope) p y e x a v d h.p_y h.p_e h.new_x h.plain_a h.plain_u h.plain_d h.scoped_a h.scoped_u h.scoped_d
-      next end)
+      bracket_as_mask (elsewhere scope) p y e x a v d h.p_y h.p_e h.new_x h.plain_a h.plain_u h.plain_d h.scoped_a h.scoped_u h.scoped_d
 
   bracket_turned_puts : (x n : ℕ) (t u : Term) → not_in scope x ≡ false → IsOfBracketTurned t u → IsOfBracketTurned (put x n t) (put x n u)
   bracket_turned_puts x n t u free (bracket_turned h) = bracket_turned (bracket_puts x n u t free h)
@@ -278,11 +204,7 @@ module _ (scope : ℕ → Option NameKind) where
 
   bracket_turned_ends : (t u : Term) → IsOfBracketTurned t u → EndsLikeAllOf of_any_but_alone u t
   bracket_turned_ends t u (bracket_turned (of_bracket p y e x a v d h)) =
-      ends_or_waits_but_alone t u
-      (ended_unless_back u t
-      (bracket_looks_the_same (elsewhere scope) p y e x a v d h.p_y h.p_e h.new_x h.plain_a h.plain_u h.plain_d h.scoped_a h.scoped_u h.scoped_d))
-      (λ o next end. mask_bracketed_waits o (elsewhere scope) p y e x a v d h.p_y h.p_e h.new_x h.plain_a h.plain_u h.plain_d h.scoped_a h.scoped_u h.scoped_d
-      next end)
+      mask_as_bracket (elsewhere scope) p y e x a v d h.p_y h.p_e h.new_x h.plain_a h.plain_u h.plain_d h.scoped_a h.scoped_u h.scoped_d
 
   module _ (p y e : ℕ) (x : Option ℕ) (a u d : Term) (new_p : scope p ≡ None) (new_y : scope y ≡ None) (new_e : scope e ≡ None) (py : p ≢ y) (pe : p ≢ e)
       (new : IsNew (without_names (elsewhere scope) p y e) x) (pa : IsPlain a) (pu : IsPlain u) (pd : IsPlain d)

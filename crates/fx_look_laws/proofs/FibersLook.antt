@@ -1,5 +1,5 @@
 -- Scripts of which the one has the second term for the first as the whole term of fibers.
-use Rattle.std.proofs.Common.{◌≡◌, ℕ, Bool, true, Some, List, refl, sym, ◌∙◌, ap, subst}
+use Rattle.std.proofs.Common.{inr, ◌≡◌, ℕ, Bool, true, Some, List, refl, sym, ◌∙◌, ap, subst}
 use Rattle.fx_term.specs.Need.{need}
 use Rattle.fx_term.specs.Term.{Term}
 use Rattle.fx_term.specs.Script.{ScriptView}
@@ -13,8 +13,8 @@ use Rattle.fx_laws.specs.Others.{visible}
 use Rattle.fx_script_laws.specs.Cover.{uncovered}
 use Rattle.fx_script_laws.specs.Filled.{none_bound}
 use Rattle.fx_script_laws.specs.Interchange.{with_numbers}
-use Rattle.fx_script_laws.specs.LookAlike.{visible_events}
-use Rattle.fx_script_laws.proofs.VisibleEvents.{visible_shown}
+use Rattle.fx_look_laws.specs.LookAlike.{visible_events}
+use Rattle.fx_look_laws.proofs.VisibleEvents.{visible_shown}
 use Rattle.fx_script_laws.proofs.WholeTerms.{two_put, two_need}
 use Rattle.fx_look_laws.specs.OtherFibers.{TheTwo, IsWithOtherFibers, BeginsOtherwise, other, within, IsOfTerm}
 use Rattle.fx_look_laws.specs.OtherFibers as others
@@ -44,7 +44,11 @@ module _ (is_so : Bool → List Event → Bool) (own : ℕ → Bool) (t u : Term
       (lawful : IsLawfulReport s may r)
       (each : (f : ℕ) (x : FiberReportView) → fiber_in r f ≡ Some x → BeginsWith own t s may r lawful f
       → (is_so x.has_ended (visible_events x.trace) ≡ true) × (may f ≡ true)) where
-    each_looks : EachLooks (TheTwo own t u) two_puts two_needs s term' may r lawful terms
+    -- a fiber that begins with the first term begins with the second there
+    abbrev IsLooked : ℕ → Term → Type 0
+    IsLooked f a = TheTwo own t u none_bound (lawful.runs.origin f).term a
+
+    each_looks : EachLooks (TheTwo own t u) two_puts two_needs s term' may r lawful IsLooked (λ f x at a p. p) (inr terms) (whole_need terms)
     each_looks f x at b p =
         let h = lawful.runs.run f x at in
         let e = each f x at (first_is p) in
@@ -66,8 +70,8 @@ module _ (is_so : Bool → List Event → Bool) (own : ℕ → Bool) (t u : Term
 
     pub fibers_look : HasReportWithFibersLike (record { term = term'; capacities = s.capacities }) may (BeginsWith own t s may r lawful) r
     fibers_look =
-        report_like (TheTwo own t u) two_puts two_needs s term' may r lawful terms (whole_need terms)
-        (other_runs (TheTwo own t u) two_puts two_needs s term' may r lawful terms each_looks)
+        report_like (TheTwo own t u) two_puts two_needs s term' may r lawful IsLooked (λ f x at a p. p) (inr terms) (whole_need terms)
+        (other_runs (TheTwo own t u) two_puts two_needs s term' may r lawful IsLooked (λ f x at a p. p) (inr terms) (whole_need terms) each_looks)
         (λ f x at b p. (each f x at (first_is p)).1) (BeginsWith own t s may r lawful) (λ f x at b p. first_is p)
 
     pub fibers_look_in : (capacities : List ℕ) → s.capacities ≡ capacities

@@ -1,5 +1,5 @@
 -- For each fiber of a lawful report a run of the fiber of that number in the other script, in the order of numbers.
-use Rattle.std.proofs.Common.{◌≡◌, ◌≢◌, ℕ, zero, suc, ◌<◌, Bool, false, Option, Some, None, List, []}
+use Rattle.std.proofs.Common.{◌≡◌, ◌≢◌, ◌⊎◌, ℕ, zero, suc, ◌+◌, ◌<◌, Bool, false, Option, Some, None, List, []}
 use Rattle.std.proofs.Common.{refl, sym, ◌∙◌, ap, subst, arith, inl, inr}
 use Rattle.std.proofs.lemmas.Bool.{cases_eq}
 use Rattle.std.proofs.lemmas.Option.{none-some, same_Some}
@@ -19,32 +19,33 @@ use Rattle.fx_laws.specs.Others.{visible}
 use Rattle.fx_script_laws.specs.Filled.{none_bound}
 use Rattle.fx_script_laws.specs.Interchange.{StopsThere}
 use Rattle.fx_script_laws.proofs.StartsFound.{find_start, found_by_trace, begins_found}
-use Rattle.fx_script_laws.proofs.VisibleEvents.{sees_request}
-use Rattle.fx_look_laws.specs.OtherFibers.{BeginsOtherwise, other, within, AreLikeOrigins}
+use Rattle.fx_look_laws.proofs.VisibleEvents.{sees_request}
+use Rattle.fx_look_laws.specs.OtherFibers.{StartsOthers, BeginsOtherwise, other, within, AreLikeOrigins}
 use Rattle.fx_look_laws.specs.FibersLookAlike.{CanEndSo}
-use Rattle.fx_look_laws.proofs.OtherTerms.{ArePutToo, others_need}
+use Rattle.fx_look_laws.proofs.OtherTerms.{ArePutToo}
 use Rattle.fx_look_laws.proofs.OtherSteps.{AllLike, runs, can_too, ended_too, run_too}
 use Rattle.fx_look_laws.proofs.LikeLabels.{IsFoundLike, found_too, visible_like, each_itself}
 
 module _ (Pair : (ℕ → Bool) → Term → Term → Type 0) (puts : ArePutToo Pair) (needs : (v : ℕ → Bool) (t u : Term) → Pair v t u → need t ≡ need u)
-    (s : ScriptView) (term' : Term) (may : ℕ → Bool) (r : ReportView) (lawful : IsLawfulReport s may r) (terms : BeginsOtherwise Pair s.term term') where
+    (s : ScriptView) (term' : Term) (may : ℕ → Bool) (r : ReportView) (lawful : IsLawfulReport s may r) (IsLooked : ℕ → Term → Type 0)
+    (looked : (f : ℕ) (x : FiberReportView) → fiber_in r f ≡ Some x → (u : Term) → Pair none_bound (lawful.runs.origin f).term u → IsLooked f u)
+    (begins_main : IsLooked 0 term' ⊎ BeginsOtherwise Pair s.term term') (same_need : need s.term ≡ need term') where
   abbrev outside : Outside
   outside = final_outside s r
 
-  -- where a fiber of the report begins with the first of a pair, one with the second can look so, and end so
+  -- where a fiber begins with another term there, one with that can look so, and end so
   abbrev pub EachLooks : Type 0
   EachLooks =
-      (f : ℕ) (x : FiberReportView) → fiber_in r f ≡ Some x → (u : Term) → Pair none_bound (lawful.runs.origin f).term u
+      (f : ℕ) (x : FiberReportView) → fiber_in r f ≡ Some x → (u : Term) → IsLooked f u
       → CanEndSo (StopsThere (final_outside s r) f (has_ended (lawful.runs.progress f)))
       (record { term = u; next = (lawful.runs.origin f).next; end = (lawful.runs.origin f).end }) (visible (lawful.runs.labels f))
 
   -- what fiber f does there: the same as here, or what looks the same; where that sees a request, the fiber is requested from outside
   pub data IsDoneSo (f : ℕ) (b : Origin) (labels : List Label) (asks : Bool) : Type 0 where
     kept : AllLike Pair (lawful.runs.labels f) labels → asks ≡ false → IsDoneSo f b labels asks
-    looks_so : Pair none_bound (lawful.runs.origin f).term b.term → asks ≡ sees_request labels → IsDoneSo f b labels asks
+    looks_so : IsLooked f b.term → asks ≡ sees_request labels → IsDoneSo f b labels asks
 
   pub record IsToldSo (f : ℕ) (origin : Origin) (labels : List Label) (counts : Counts) (progress : Progress) (asks : Bool) : Type 0 where
-    pub begins : AreLikeOrigins Pair (lawful.runs.origin f) origin
     pub run : IsRun origin labels counts progress
     pub like : AllLike Pair (visible (lawful.runs.labels f)) (visible labels)
     pub done : IsDoneSo f origin labels asks
@@ -67,22 +68,40 @@ module _ (Pair : (ℕ → Bool) → Term → Term → Type 0) (puts : ArePutToo 
     pub begins : (f p : ℕ) (b : Origin) → parent_in r f ≡ Some p → find_start f (run_of p).labels ≡ Some b → (run_of f).origin ≡ b
 
   module _ (looks : EachLooks) where
-    same_first : (b b' : Origin) → AreLikeOrigins Pair b b' → first_counts b ≡ first_counts b'
-    same_first b b' h = let p = h.next_is in let q = h.end_is in cc
+    -- what fiber f begins with there: another term, or one in which other fibers are started
+    data IsBegun (f : ℕ) (u : Term) : Type 0 where
+      looks_there : IsLooked f u → IsBegun f u
+      runs_there : StartsOthers Pair none_bound (lawful.runs.origin f).term u → IsBegun f u
 
-    with_range : (b b' : Origin) → AreLikeOrigins Pair b b' → record { term = b'.term; next = b.next; end = b.end } ≡ b'
-    with_range b b' h = let p = h.next_is in let q = h.end_is in rw (p, q) refl
+    record BeginsSo (f : ℕ) (b : Origin) : Type 0 where
+      pub term : IsBegun f b.term
+      pub next_is : (lawful.runs.origin f).next ≡ b.next
+      pub end_is : (lawful.runs.origin f).end ≡ b.end
+
+    begins_like : (f : ℕ) (x : FiberReportView) → fiber_in r f ≡ Some x → (b : Origin) → AreLikeOrigins Pair (lawful.runs.origin f) b → BeginsSo f b
+    begins_like f x at b h = record { term = by_term h.term; next_is = h.next_is; end_is = h.end_is }
+      where
+        by_term : BeginsOtherwise Pair (lawful.runs.origin f).term b.term → IsBegun f b.term
+        by_term (other p) = looks_there (looked f x at b.term p)
+        by_term (within q) = runs_there q
+
+    same_first : (f : ℕ) (b' : Origin) → BeginsSo f b' → first_counts (lawful.runs.origin f) ≡ first_counts b'
+    same_first f b' h = let p = h.next_is in let q = h.end_is in cc
+
+    with_range : (f : ℕ) (b' : Origin) → BeginsSo f b'
+        → record { term = b'.term; next = (lawful.runs.origin f).next; end = (lawful.runs.origin f).end } ≡ b'
+    with_range f b' h = let p = h.next_is in let q = h.end_is in rw (p, q) refl
 
     -- what begins so
-    module _ (f : ℕ) (b : Origin) (begins : (x : FiberReportView) → fiber_in r f ≡ Some x → AreLikeOrigins Pair (lawful.runs.origin f) b) where
+    module _ (f : ℕ) (b : Origin) (begins : (x : FiberReportView) → fiber_in r f ≡ Some x → BeginsSo f b) where
       abbrev was : Origin
       was = lawful.runs.origin f
 
-      abbrev by_begin : (x : FiberReportView) → fiber_in r f ≡ Some x → BeginsOtherwise Pair was.term b.term → OtherRun f
-      by_begin x e (other p) =
+      abbrev by_begin : (x : FiberReportView) → fiber_in r f ≡ Some x → IsBegun f b.term → OtherRun f
+      by_begin x e (looks_there p) =
           let k : CanEndSo (StopsThere outside f (has_ended (lawful.runs.progress f))) b (visible (lawful.runs.labels f)) =
           subst (λ (a : Origin). CanEndSo (StopsThere outside f (has_ended (lawful.runs.progress f))) a (visible (lawful.runs.labels f)))
-          (with_range was b (begins x e)) (looks f x e b.term p) in
+          (with_range f b (begins x e)) (looks f x e b.term p) in
           record {
             origin = b;
             labels = k.labels;
@@ -91,7 +110,6 @@ module _ (Pair : (ℕ → Bool) → Term → Term → Type 0) (puts : ArePutToo 
             asks = sees_request k.labels;
             told = λ y at.
                 record {
-                  begins = begins x e;
                   run = k.run;
                   like = subst (λ (ls : List Label). AllLike Pair (visible (lawful.runs.labels f)) ls) (sym k.visible_is)
                       (each_itself (visible (lawful.runs.labels f)));
@@ -101,7 +119,7 @@ module _ (Pair : (ℕ → Bool) → Term → Term → Type 0) (puts : ArePutToo 
                 };
             absent = λ none. absurd (none-some x (sym none ∙ e));
           }
-      by_begin x e (within q) =
+      by_begin x e (runs_there q) =
           let h = lawful.runs.run f x e in
           let k = run_too puts needs (lawful.runs.labels f) (first_counts was) (lawful.runs.counts f) (Runs was.term) (Runs b.term) (lawful.runs.progress f)
           (runs q) h.run in
@@ -113,8 +131,7 @@ module _ (Pair : (ℕ → Bool) → Term → Term → Type 0) (puts : ArePutToo 
             asks = false;
             told = λ y at.
                 record {
-                  begins = begins x e;
-                  run = subst (λ (c : Counts). Leads c (Runs b.term) k.labels (lawful.runs.counts f) k.progress) (same_first was b (begins x e)) k.run;
+                  run = subst (λ (c : Counts). Leads c (Runs b.term) k.labels (lawful.runs.counts f) k.progress) (same_first f b (begins x e)) k.run;
                   like = visible_like k.like;
                   done = kept k.like refl;
                   unable = sym (can_too outside f (lawful.runs.counts f) k.is_like) ∙ h.unable;
@@ -123,9 +140,9 @@ module _ (Pair : (ℕ → Bool) → Term → Term → Type 0) (puts : ArePutToo 
             absent = λ none. absurd (none-some x (sym none ∙ e));
           }
 
-      by_begin_origin : (x : FiberReportView) (e : fiber_in r f ≡ Some x) (p : BeginsOtherwise Pair was.term b.term) → (by_begin x e p).origin ≡ b
-      by_begin_origin x e (other p) = refl
-      by_begin_origin x e (within q) = refl
+      by_begin_origin : (x : FiberReportView) (e : fiber_in r f ≡ Some x) (p : IsBegun f b.term) → (by_begin x e p).origin ≡ b
+      by_begin_origin x e (looks_there p) = refl
+      by_begin_origin x e (runs_there q) = refl
 
       abbrev by_fiber : (o : Option FiberReportView) → fiber_in r f ≡ o → OtherRun f
       by_fiber None e =
@@ -150,18 +167,24 @@ module _ (Pair : (ℕ → Bool) → Term → Term → Type 0) (puts : ArePutToo 
       from_here_origin : from_here.origin ≡ b
       from_here_origin = by_fiber_origin (fiber_in r f) refl
 
-    whole_need : {t u : Term} → BeginsOtherwise Pair t u → need t ≡ need u
-    whole_need (other {t = t} {u = u} p) = needs none_bound t u p
-    whole_need (within q) = others_need needs q
+    main_begins : (x : FiberReportView) → fiber_in r 0 ≡ Some x → BeginsSo 0 (main_origin term')
+    main_begins x at =
+        record {
+          term = by_main begins_main;
+          next_is = ap (λ (b : Origin). b.next) lawful.origins.main;
+          end_is = ap (λ (b : Origin). b.end) lawful.origins.main ∙ ap (λ (n : ℕ). 1 + n) same_need;
+        }
+      where
+        by_term : BeginsOtherwise Pair (lawful.runs.origin 0).term term' → IsBegun 0 term'
+        by_term (other p) = looks_there (looked 0 x at term' p)
+        by_term (within q) = runs_there q
 
-    main_begins : AreLikeOrigins Pair (lawful.runs.origin 0) (main_origin term')
-    main_begins =
-        let same : need s.term ≡ need term' = whole_need terms in
-        let at : AreLikeOrigins Pair (main_origin s.term) (main_origin term') = record { term = terms; next_is = refl; end_is = rw same refl } in
-        subst (λ (b : Origin). AreLikeOrigins Pair b (main_origin term')) (sym lawful.origins.main) at
+        by_main : IsLooked 0 term' ⊎ BeginsOtherwise Pair s.term term' → IsBegun 0 term'
+        by_main (inl l) = looks_there l
+        by_main (inr h) = by_term (subst (λ (b : Origin). BeginsOtherwise Pair b.term term') (sym lawful.origins.main) h)
 
     abbrev main_run : OtherRun 0
-    main_run = from_here 0 (main_origin term') (λ x at. main_begins)
+    main_run = from_here 0 (main_origin term') main_begins
 
     -- what a child begins with, by the labels of its parent
     abbrev or_else : Origin → Option Origin → Origin
@@ -204,10 +227,10 @@ module _ (Pair : (ℕ → Bool) → Term → Term → Type 0) (puts : ArePutToo 
     found_is f p n b e = ap (or_else (lawful.runs.origin f)) e
 
     child_begins_so : (f p : ℕ) → parent_in r f ≡ Some p → (n : OtherRun p) (x : FiberReportView) → fiber_in r f ≡ Some x
-        → AreLikeOrigins Pair (lawful.runs.origin f) (child_origin_of f p n)
+        → BeginsSo f (child_origin_of f p n)
     child_begins_so f p is n x at =
         let k = child_like f p n x at is in
-        subst (λ (b : Origin). AreLikeOrigins Pair (lawful.runs.origin f) b) (sym (found_is f p n k.origin k.found)) k.like
+        subst (λ (b : Origin). BeginsSo f b) (sym (found_is f p n k.origin k.found)) (begins_like f x at k.origin k.like)
 
     abbrev child_run : (f p : ℕ) → parent_in r f ≡ Some p → OtherRun p → OtherRun f
     child_run f p is n = from_here f (child_origin_of f p n) (child_begins_so f p is n)
@@ -299,6 +322,6 @@ module _ (Pair : (ℕ → Bool) → Term → Term → Type 0) (puts : ArePutToo 
     other_runs =
         record {
           run_of = run_of;
-          main_is = from_here_origin 0 (main_origin term') (λ x at. main_begins);
+          main_is = from_here_origin 0 (main_origin term') main_begins;
           begins = λ f p b is e. child_origin_is f p is ∙ found_is f p (run_of p) b e;
         }

@@ -1,3 +1,4 @@
+pub mod VisibleEvents
 pub mod OtherTerms
 pub mod OtherRows
 pub mod OtherSteps
@@ -10,9 +11,12 @@ pub mod ReportsLike
 pub mod FibersLook
 pub mod PlainPuts
 pub mod EndedLooks
+pub mod MaskedWaits
 pub mod WaitsLike
 pub mod OpenWaits
 pub mod OrderWaits
 pub mod BracketWaits
+pub mod LookLaws
 pub mod FiberLaws
 pub mod ExampleFibers
+pub mod MainLooks

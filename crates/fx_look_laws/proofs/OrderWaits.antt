@@ -28,7 +28,7 @@ use Rattle.fx_laws.proofs.Placed.{row_placed}
 use Rattle.fx_laws.proofs.SilentRows.{pure_leads, let_value_leads, handle_value_leads, handle_error_leads}
 use Rattle.fx_laws.proofs.StaysShut.{left_shut, right_shut}
 use Rattle.fx_script_laws.proofs.AtClosedPlaces.{can_go}
-use Rattle.fx_script_laws.proofs.MaskedWaits.{forced_never, unwinds_never, both_never, enters}
+use Rattle.fx_look_laws.proofs.MaskedWaits.{forced_never, unwinds_never, both_never, enters}
 use Rattle.fx_look_laws.proofs.WaitsLike.{CanStop, WaitsLike, never_waits, left_first, right_first, alike_waits}
 
 abbrev nothing : Term

@@ -1,5 +1,5 @@
 -- To a lawful report of the one script there is one of the other that looks the same.
-use Rattle.std.proofs.Common.{◌≡◌, ◌≢◌, ℕ, ◌+◌, ◌==◌, ◌<◌, ◌≤◌, Bool, true, false, if◌then◌else◌, ◌||◌, Option, Some, None, List, [], ◌∷◌}
+use Rattle.std.proofs.Common.{◌≡◌, ◌≢◌, ◌⊎◌, ℕ, ◌+◌, ◌==◌, ◌<◌, ◌≤◌, Bool, true, false, if◌then◌else◌, ◌||◌, Option, Some, None, List, [], ◌∷◌}
 use Rattle.std.proofs.Common.{◌++◌, All, Contains, refl, sym, ◌∙◌, ap, subst, arith}
 use Rattle.std.specs.List.{list_any}
 use Rattle.std.proofs.lemmas.Bool.{eqb-true}
@@ -24,9 +24,9 @@ use Rattle.fx_model.specs.LawfulReport.{starts_of, is_parent}
 use Rattle.fx_model.proofs.EventLabels.{run_is_proper}
 use Rattle.fx_model.proofs.OutcomeLaws.{run_outcome, run_stops}
 use Rattle.fx_script_laws.specs.Filled.{none_bound}
-use Rattle.fx_script_laws.specs.LookAlike.{visible_events}
+use Rattle.fx_look_laws.specs.LookAlike.{visible_events}
 use Rattle.fx_script_laws.proofs.StartsFound.{traced, all_begin}
-use Rattle.fx_script_laws.proofs.VisibleEvents.{same_starts, same_queues, same_outcome, visible_shown, all_seen, all_unseen, sees_request}
+use Rattle.fx_look_laws.proofs.VisibleEvents.{same_starts, same_queues, same_outcome, visible_shown, all_seen, all_unseen, sees_request}
 use Rattle.fx_look_laws.specs.OtherFibers.{BeginsOtherwise}
 use Rattle.fx_look_laws.specs.FibersLookAlike.{HasReportWithFibersLike}
 use Rattle.fx_look_laws.proofs.OtherTerms.{ArePutToo}
@@ -80,14 +80,16 @@ or_second true b e = refl
 or_second false b e = e
 
 module _ (Pair : (ℕ → Bool) → Term → Term → Type 0) (puts : ArePutToo Pair) (needs : (v : ℕ → Bool) (t u : Term) → Pair v t u → need t ≡ need u)
-    (s : ScriptView) (term' : Term) (may : ℕ → Bool) (r : ReportView) (lawful : IsLawfulReport s may r) (terms : BeginsOtherwise Pair s.term term')
-    (same_need : need s.term ≡ need term') (runs' : OtherRuns Pair puts needs s term' may r lawful terms)
-    (mays : (f : ℕ) (x : FiberReportView) → fiber_in r f ≡ Some x → (u : Term) → Pair none_bound (lawful.runs.origin f).term u → may f ≡ true) where
+    (s : ScriptView) (term' : Term) (may : ℕ → Bool) (r : ReportView) (lawful : IsLawfulReport s may r) (IsLooked : ℕ → Term → Type 0)
+    (looked : (f : ℕ) (x : FiberReportView) → fiber_in r f ≡ Some x → (u : Term) → Pair none_bound (lawful.runs.origin f).term u → IsLooked f u)
+    (begins_main : IsLooked 0 term' ⊎ BeginsOtherwise Pair s.term term') (same_need : need s.term ≡ need term')
+    (runs' : OtherRuns Pair puts needs s term' may r lawful IsLooked looked begins_main same_need)
+    (mays : (f : ℕ) (x : FiberReportView) → fiber_in r f ≡ Some x → (u : Term) → IsLooked f u → may f ≡ true) where
   abbrev s' : ScriptView
   s' = record { term = term'; capacities = s.capacities }
 
   abbrev Told : ℕ → Type 0
-  Told f = let n = runs'.run_of f in IsToldSo Pair puts needs s term' may r lawful terms f n.origin n.labels n.counts n.progress n.asks
+  Told f = let n = runs'.run_of f in IsToldSo Pair puts needs s term' may r lawful IsLooked looked begins_main same_need f n.origin n.labels n.counts n.progress n.asks
 
   told : (f : ℕ) (x : FiberReportView) → fiber_in r f ≡ Some x → Told f
   told f x at = (runs'.run_of f).told x at
@@ -116,7 +118,7 @@ module _ (Pair : (ℕ → Bool) → Term → Term → Type 0) (puts : ArePutToo 
   asks_may f asks = let x = asks_told f asks in by_done x.0 x.1 (told f x.0 x.1).done
     where
       by_done : (x : FiberReportView) → fiber_in r f ≡ Some x
-          → IsDoneSo Pair puts needs s term' may r lawful terms f (runs'.run_of f).origin (runs'.run_of f).labels (runs'.run_of f).asks → may f ≡ true
+          → IsDoneSo Pair puts needs s term' may r lawful IsLooked looked begins_main same_need f (runs'.run_of f).origin (runs'.run_of f).labels (runs'.run_of f).asks → may f ≡ true
       by_done x at (kept q none) = absurd cc
       by_done x at (looks_so p is) = mays f x at (runs'.run_of f).origin.term p
 
@@ -261,7 +263,7 @@ module _ (Pair : (ℕ → Bool) → Term → Term → Type 0) (puts : ArePutToo 
       (runs'.run_of f).counts (runs'.run_of f).progress ≡ false)
       (sym outcomes_same) (by_asks (runs'.run_of f).asks refl)
     where
-      by_done : IsDoneSo Pair puts needs s term' may r lawful terms f (runs'.run_of f).origin (runs'.run_of f).labels (runs'.run_of f).asks
+      by_done : IsDoneSo Pair puts needs s term' may r lawful IsLooked looked begins_main same_need f (runs'.run_of f).origin (runs'.run_of f).labels (runs'.run_of f).asks
           → (runs'.run_of f).asks ≡ true → can_step here f (runs'.run_of f).counts (runs'.run_of f).progress ≡ false
       by_done (kept q none) is = absurd cc
       by_done (looks_so p sees) is =
@@ -398,7 +400,7 @@ module _ (Pair : (ℕ → Bool) → Term → Term → Type 0) (puts : ArePutToo 
           asked_rightly r' f (requested_too f ∙ or_second (is_requested_in r f) (runs'.run_of f).asks asks) (runs'.run_of f).labels
       by_sees false sees asks = unseen_rightly r' f (runs'.run_of f).labels sees
 
-      by_done : IsDoneSo Pair puts needs s term' may r lawful terms f (runs'.run_of f).origin (runs'.run_of f).labels (runs'.run_of f).asks
+      by_done : IsDoneSo Pair puts needs s term' may r lawful IsLooked looked begins_main same_need f (runs'.run_of f).origin (runs'.run_of f).labels (runs'.run_of f).asks
           → All (IsSeenRightly r' f) (runs'.run_of f).labels
       by_done (kept q none) =
           all_by (IsSeenRightly r f) (IsSeenRightly r' f) (one (requested_same f none)) (runs'.run_of f).labels
@@ -421,12 +423,12 @@ module _ (Pair : (ℕ → Bool) → Term → Term → Type 0) (puts : ArePutToo 
 
   -- but for those of a pair, the fibers did the same
   module _ (IsOneOfSome : ℕ → Type 0)
-      (one_of_some : (f : ℕ) (x : FiberReportView) → fiber_in r f ≡ Some x → (u : Term) → Pair none_bound (lawful.runs.origin f).term u → IsOneOfSome f) where
+      (one_of_some : (f : ℕ) (x : FiberReportView) → fiber_in r f ≡ Some x → (u : Term) → IsLooked f u → IsOneOfSome f) where
     others_same : (f : ℕ) → (IsOneOfSome f → ⊥) → fiber_in r' f ≡ fiber_in r f
     others_same f not_one = by_report (fiber_in r f) refl
       where
         by_done : (x : FiberReportView) → fiber_in r f ≡ Some x
-            → IsDoneSo Pair puts needs s term' may r lawful terms f (runs'.run_of f).origin (runs'.run_of f).labels (runs'.run_of f).asks
+            → IsDoneSo Pair puts needs s term' may r lawful IsLooked looked begins_main same_need f (runs'.run_of f).origin (runs'.run_of f).labels (runs'.run_of f).asks
             → fiber_in r' f ≡ fiber_in r f
         by_done x at (kept q none) =
             let h = lawful.runs.run f x at in
@@ -442,7 +444,7 @@ module _ (Pair : (ℕ → Bool) → Term → Term → Type 0) (puts : ArePutToo 
     asked_same f not_one = outs_any f ∙ or_none (list_any (λ g. g == f) r.outside) (runs'.run_of f).asks (by_report (fiber_in r f) refl)
       where
         by_done : (x : FiberReportView) → fiber_in r f ≡ Some x
-            → IsDoneSo Pair puts needs s term' may r lawful terms f (runs'.run_of f).origin (runs'.run_of f).labels (runs'.run_of f).asks
+            → IsDoneSo Pair puts needs s term' may r lawful IsLooked looked begins_main same_need f (runs'.run_of f).origin (runs'.run_of f).labels (runs'.run_of f).asks
             → (runs'.run_of f).asks ≡ false
         by_done x at (kept q none) = none
         by_done x at (looks_so p is) = absurd (not_one (one_of_some f x at (runs'.run_of f).origin.term p))

@@ -13,7 +13,7 @@ use Rattle.fx_model.specs.Report.{ReportView, is_requested_in}
 use Rattle.fx_model.specs.LawfulReport.{IsSeenRightly}
 use Rattle.fx_model.proofs.RowLabels.{row_unseen}
 use Rattle.fx_model.proofs.StepLabels.{step_tells}
-use Rattle.fx_script_laws.proofs.VisibleEvents.{sees_request}
+use Rattle.fx_look_laws.proofs.VisibleEvents.{sees_request}
 
 -- whether a fiber can step is told by its own request, and not by those of others
 module _ (o : Outside) (asked : ℕ → Bool) where

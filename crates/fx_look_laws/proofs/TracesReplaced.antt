@@ -12,8 +12,8 @@ use Rattle.std.proofs.lemmas.List.Kept.{AllPairs-from_increasing, IsStrictlyIncr
 use Rattle.std.proofs.lemmas.Map.Views.{any-filter_same}
 use Rattle.fx_term.specs.declared.event.Event.{Event}
 use Rattle.fx_model.specs.Report.{FiberReportView, is_request_for}
-use Rattle.fx_script_laws.specs.LookAlike.{visible_events}
-use Rattle.fx_script_laws.proofs.VisibleEvents.{same_requests}
+use Rattle.fx_look_laws.specs.LookAlike.{visible_events}
+use Rattle.fx_look_laws.proofs.VisibleEvents.{same_requests}
 
 abbrev pub found : ℕ → List FiberReportView → Option FiberReportView
 found f xs = find (λ (x : FiberReportView). x.id == f) xs

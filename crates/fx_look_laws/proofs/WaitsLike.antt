@@ -16,7 +16,7 @@ use Rattle.fx_laws.proofs.Inside.{RowsAreFollowed, ResultsAreResults}
 use Rattle.fx_laws.proofs.Looking.{looking, visible_more}
 use Rattle.fx_laws.proofs.Shut.{ShutStep, moves_at, result_at}
 use Rattle.fx_script_laws.proofs.BesideEnds.{waits_alike}
-use Rattle.fx_script_laws.proofs.MaskedWaits.{IsBlockedAt, IsNeverBlocked, peel}
+use Rattle.fx_look_laws.proofs.MaskedWaits.{IsBlockedAt, IsNeverBlocked, peel}
 use Rattle.fx_script_laws.proofs.ShutInside.{IsShutWith, shut_can, shut_only, shut_does, goes_on}
 
 module _ (o : Outside) where

@@ -16,7 +16,7 @@ use Rattle.fx_model.specs.Report.{FiberReportView, ReportView, fiber_in}
 use Rattle.fx_model.specs.LawfulReport.{IsLawfulReport}
 use Rattle.fx_laws.specs.Others.{visible}
 use Rattle.fx_script_laws.specs.Interchange.{StopsThere, AreOthers, put_each}
-use Rattle.fx_script_laws.specs.LookAlike.{visible_events}
+use Rattle.fx_look_laws.specs.LookAlike.{visible_events}
 use Rattle.fx_look_laws.specs.OtherFibers.{IsOfTerm}
 
 -- fiber f of the second report has the parent of that of the first one, ended or not as that, and others see the same of it

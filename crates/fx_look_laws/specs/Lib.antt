@@ -1,2 +1,3 @@
+pub mod LookAlike
 pub mod OtherFibers
 pub mod FibersLookAlike

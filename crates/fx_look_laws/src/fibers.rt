@@ -5,7 +5,7 @@ ghost use Rattle.fx_term.specs.Script.{ScriptView};
 ghost use Rattle.fx_term.specs.Term.{Term};
 ghost use Rattle.fx_model.specs.LawfulReport.{IsLawfulReport};
 ghost use Rattle.fx_model.specs.Report.{FiberReportView, ReportView, fiber_in};
-ghost use Rattle.fx_script_laws.specs.LookAlike.{visible_events};
+ghost use Rattle.fx_look_laws.specs.LookAlike.{visible_events};
 ghost use Rattle.fx_look_laws.specs.FibersLookAlike.{LooksLikeAllWithNumbers, BeginsWith, HasReportWithFibersLike};
 ghost use Rattle.fx_look_laws.specs.OtherFibers.{IsWithOtherFibers};
 

@@ -43,7 +43,3 @@ pub mod MaskedFinalizers
 pub mod PolledAtOnce
 pub mod BareLaws
 pub mod InverseMasks
-pub mod VisibleEvents
-pub mod MainLooks
-pub mod LooksInScripts
-pub mod MaskedWaits

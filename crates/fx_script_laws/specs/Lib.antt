@@ -4,4 +4,3 @@ pub mod Interchange
 pub mod BeginsOpenly
 pub mod InScripts
 pub mod BlockedAlone
-pub mod LookAlike

@@ -20,7 +20,7 @@
 //! | [`laws`] | which terms can be put for one another |
 //! | [`closed`], [`bare`] | which can where they stand at closed places, or where nothing closes their place |
 //! | [`regions`] | which of them, where the one enters a mask more |
-//! | [`masks`], [`looks`] | which masks, as a whole script, have the same reports, and which scripts have reports that look the same |
+//! | [`masks`] | which masks, as a whole script, have the same reports |
 //! | [`refused`] | which cannot |
 #![tactic(auto)]
 
@@ -28,7 +28,6 @@ pub mod bare;
 pub mod closed;
 pub mod contexts;
 pub mod laws;
-pub mod looks;
 pub mod masks;
 pub mod refused;
 pub mod regions;

@@ -31,7 +31,7 @@ use Rattle.fx_laws.proofs.Placed.{result_placed, row_placed}
 use Rattle.fx_laws.proofs.Shut.{ShutStep, moves_at, result_at, running, IsClosedThere, run_is_shut}
 use Rattle.fx_laws.proofs.SilentRows.{LeadsSilently, let_value_leads, handle_value_leads, handle_error_leads, masked_leads, pure_leads, leads_placed}
 use Rattle.fx_script_laws.proofs.AtClosedPlaces.{can_go}
-use Rattle.fx_script_laws.proofs.VisibleEvents.{sees_request}
+use Rattle.fx_look_laws.proofs.VisibleEvents.{sees_request}
 use Rattle.fx_script_laws.proofs.ShutInside.{shut_can}
 
 module _ (o : Outside) where

@@ -13,7 +13,7 @@ use Rattle.fx_model.specs.Report.{outcome_shown, is_request_for}
 use Rattle.fx_model.specs.LawfulReport.{starts_of, is_start_of}
 use Rattle.fx_model.proofs.StepLabels.{IsProper}
 use Rattle.fx_laws.specs.Others.{visible}
-use Rattle.fx_script_laws.specs.LookAlike.{is_private, visible_events}
+use Rattle.fx_look_laws.specs.LookAlike.{is_private, visible_events}
 
 -- the events of visible labels, where what is learnt is no private event
 seen_public : (e : Event) (es : List Event) → is_private e ≡ false → visible_events (e ∷ es) ≡ e ∷ visible_events es

@@ -1,8 +1,8 @@
-//! Laws of what others see, for whole scripts: each lawful report of the one script has one of the other that looks the
-//! same (`LookAlike`). The other fibers, their traces and what is left in the queues
-//! are the same in both, and main came to the same outcome and showed the same, but for what it noted of its own
-//! cancellation and of its own resources. Where it notes that it saw a request, in the one report and not in the
-//! other, it was requested from outside. Of a main that is blocked the first law alone speaks.
+//! Laws of what others see, for a main fiber: each lawful report of the one script has one of the other that looks the
+//! same (`LookAlike`). The other fibers, their traces and what is left in the queues are the same in both, and main
+//! came to the same outcome, or is blocked in both, and showed the same, but for what it noted of its own cancellation
+//! and of its own resources. Where it notes that it saw a request, in the one report and not in the other, it was
+//! requested from outside.
 ghost use Rattle.std.specs.Prelude.{◌≡◌, ◌≢◌, ℕ, Bool, true, List, Option, Some, None};
 ghost use Rattle.fx_term.specs.declared.node.Arg.TheVariants.{Number, Slot};
 ghost use Rattle.fx_term.specs.declared.name_kind.NameKind.{NameKind};
@@ -15,7 +15,7 @@ ghost use Rattle.fx_model.specs.MaskLaws.{IsPlain, forced_after};
 ghost use Rattle.fx_model.specs.Report.{ReportView};
 ghost use Rattle.fx_laws.specs.Names.{without_names};
 ghost use Rattle.fx_laws.specs.Others.{LookTheSame, LooksLikeAllOf, LookTheSameUnlessCanceledAlone};
-ghost use Rattle.fx_script_laws.specs.LookAlike.{HasMainEnded, HasReportLike, IsMainCanceledAlone};
+ghost use Rattle.fx_look_laws.specs.LookAlike.{HasMainEnded, HasReportLike, IsMainCanceledAlone};
 
 /// Where two main fibers look the same, and use as many fiber numbers, each lawful report of the one script in which
 /// main has ended has one of the other that looks the same, where main may be requested from outside. It is enough
@@ -47,24 +47,24 @@ pub fn scripts_may_cancel_after_a_mask()
 {}
 
 /// `canceledSequencesOnCancelInOrder`: `(main (oncancel (oncancel (canceled) F) G))` and
-/// `(main (forcer (mask p (forcer F G)) (canceled)))`, where neither uses the poll. The latter can be canceled before
-/// its mask, which looks as if it was canceled alone.
+/// `(main (forcer (mask p (forcer F G)) (canceled)))`, where neither uses the poll, whether main has ended or is
+/// blocked. The latter can be canceled before its mask, which looks as if it was canceled alone.
 pub fn scripts_may_finalize_in_order()
     ensures masked { (scope : ℕ → Option NameKind) (p : ℕ) (f g : Term) (capacities : List ℕ) (may : ℕ → Bool) (r : ReportView)
         → IsPlain f → IsPlain g → IsScoped (with_name p kind.OtherPoll scope) f → IsScoped (with_name p kind.OtherPoll scope) g
-        → may 0 ≡ true → HasMainEnded r
+        → may 0 ≡ true
         → IsLawfulReport (record { term = OnCancel (OnCancel Canceled f) g; capacities = capacities }) may r
         → HasReportLike (record { term = forced_after (Mask p (forced_after f g)) Canceled; capacities = capacities }) may r }
     ensures finalized { (scope : ℕ → Option NameKind) (p : ℕ) (f g : Term) (capacities : List ℕ) (may : ℕ → Bool) (r : ReportView)
         → IsPlain f → IsPlain g → IsScoped (with_name p kind.OtherPoll scope) f → IsScoped (with_name p kind.OtherPoll scope) g
-        → may 0 ≡ true → HasMainEnded r → (IsMainCanceledAlone r → ⊥)
+        → may 0 ≡ true → (IsMainCanceledAlone r → ⊥)
         → IsLawfulReport (record { term = forced_after (Mask p (forced_after f g)) Canceled; capacities = capacities }) may r
         → HasReportLike (record { term = OnCancel (OnCancel Canceled f) g; capacities = capacities }) may r }
 {}
 
 /// What a bracket is: `(main (bracket x A U R))` and the mask that acquires, polls the use and releases after it
-/// (`fx_laws`, `bracket_is_a_mask_with_a_polled_use`), where `R` starts no fiber, since it stands thrice there. The
-/// mask can be canceled before it is entered.
+/// (`fx_laws`, `bracket_is_a_mask_with_a_polled_use`), where `R` starts no fiber, since it stands thrice there,
+/// whether main has ended or is blocked. The mask can be canceled before it is entered.
 pub fn scripts_may_bracket_by_a_mask()
     ensures masked { (scope : ℕ → Option NameKind) (p y e : ℕ) (x : Option ℕ) (a u d : Term) (capacities : List ℕ) (may : ℕ → Bool)
         (r : ReportView)
@@ -73,7 +73,7 @@ pub fn scripts_may_bracket_by_a_mask()
         → IsScoped (without_names scope p y e) a
         → IsScoped (with_named x kind.Value (without_names scope p y e)) u
         → IsScoped (with_named x kind.Value (without_names scope p y e)) d
-        → need d ≡ 0 → may 0 ≡ true → HasMainEnded r
+        → need d ≡ 0 → may 0 ≡ true
         → IsLawfulReport (record { term = Bracket x a u d; capacities = capacities }) may r
         → HasReportLike (record {
           term = Mask p (Let x a
@@ -89,7 +89,7 @@ pub fn scripts_may_bracket_by_a_mask()
         → IsScoped (without_names scope p y e) a
         → IsScoped (with_named x kind.Value (without_names scope p y e)) u
         → IsScoped (with_named x kind.Value (without_names scope p y e)) d
-        → need d ≡ 0 → may 0 ≡ true → HasMainEnded r → (IsMainCanceledAlone r → ⊥)
+        → need d ≡ 0 → may 0 ≡ true → (IsMainCanceledAlone r → ⊥)
         → IsLawfulReport (record {
           term = Mask p (Let x a
               (Let (Some y)
