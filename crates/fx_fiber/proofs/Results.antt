@@ -4,6 +4,7 @@ use Rattle.std.specs.Prelude.{◌&&◌, ◌||◌, Result, Ok, Err, OnErr}
 use Rattle.fx_term.specs.declared.node.NodeId.{NodeId}
 use Rattle.fx_term.specs.declared.node.Node.{Node}
 use Rattle.fx_term.specs.declared.done.Done.{Done}
+use Rattle.fx_term.specs.declared.outcome.Outcome.{Outcome}
 use Rattle.fx_term.specs.Term.{Term, Finished, put_named}
 use Rattle.fx_term.specs.Registers.{with_number}
 use Rattle.fx_term.specs.Scope.{bound_under}
@@ -11,10 +12,10 @@ use Rattle.fx_mask.specs.Closing.{Closing, is_none_closed}
 use Rattle.fx_frames.specs.declared.frame.Frame.{Frame}
 use Rattle.fx_model.specs.Row.{Counts, Label, Silent, Row}
 use Rattle.fx_model.specs.Step.{Progress, leaf_at, Step}
-use Rattle.fx_fiber.specs.declared.machine.focus.Focus.TheVariants.{Eval}
+use Rattle.fx_fiber.specs.declared.machine.focus.Focus.TheVariants.{Eval, Ended}
 use Rattle.fx_fiber.specs.declared.machine.Machine.{Machine}
 use Rattle.fx_fiber.specs.Machine.{filled, waiting, outside_frame, in_frame, within, running, progress_of, counts_of}
-use Rattle.fx_fiber.specs.Sound.{closed_outside, left_of, taken_off, AreClosedBy, AreFramesIn, IsFrameIn, IsBound, IsClosedBy, IsSound}
+use Rattle.fx_fiber.specs.Sound.{closed_outside, left_of, taken_off, AreClosedBy, AreFramesIn, IsFrameIn, IsBound, IsClosedBy, IsSound, IsSoundMachine}
 use Rattle.fx_model.specs.Path.{must_cancel}
 use Rattle.fx_fiber.specs.Places.{ReturnsInto, IsReturning}
 use Rattle.fx_fiber.specs.MakesStep.{is_yielding}
@@ -102,6 +103,20 @@ pub result_is_free : (nodes : List Node) (s : Machine) (v : Done) → IsReturnin
 result_is_free nodes s v given no_frame runs =
     let shut : s.masks.regions ≡ [] = rw (no_frame, runs) at given.sound.closed in
     rw (shut, given.focus) at given.free
+
+-- a fiber that has ended needs no numbers of names, and has no context
+pub ended_sound : (nodes : List Node) (s : Machine) → IsSoundMachine nodes s → s.frames ≡ [] → s.cleanups ≡ None
+    → (numbers : List ℕ) (frames : List Frame) (o : Outcome) → frames ≡ [] → IsSound nodes numbers frames s.masks s.cleanups (Ended o)
+ended_sound nodes s sound no_frame runs numbers frames o none = record {
+  tree = sound.tree;
+  bound = 0;
+  fits = omega arith;
+  focus_in = tt;
+  frames_in = rw (none, runs) tt;
+  closed = rw none (rw no_frame at sound.closed);
+  room = rw none (omega arith);
+  between = tt;
+}
 
 -- what holds anyway holds on an error
 pub on_any_error : {T E P : Type 0} (r : Result T E) → P → OnErr r P

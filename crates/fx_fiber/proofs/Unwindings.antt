@@ -54,11 +54,11 @@ module _ (nodes : List Node) (ns : List ℕ) (fs : List Frame) (m : MasksView) (
   pub release_sound : (k : ℕ) (r : NodeId) → c.left ≡ cleanup.Release k r ∷ next.left → IsSound nodes ns fs m (Some next) (Eval r)
   release_sound k r is = next_sound (cleanup.Release k r) is r (cleanups_are_in (cleanup.Release k r) is).2
 
-  pub unwound_sound : (o : Outcome) → next.left ≡ [] → IsSound nodes ns fs m (Some next) (Ended o)
-  unwound_sound o none = record {
+  pub unwound_sound : (numbers : List ℕ) (o : Outcome) → next.left ≡ [] → IsSound nodes numbers fs m (Some next) (Ended o)
+  unwound_sound numbers o none = record {
     tree = sound.tree;
-    bound = sound.bound;
-    fits = sound.fits;
+    bound = 0;
+    fits = omega arith;
     focus_in = tt;
     frames_in = of_none fs sound.between;
     closed = sound.closed;
@@ -66,7 +66,7 @@ module _ (nodes : List Node) (ns : List ℕ) (fs : List Frame) (m : MasksView) (
     between = tt;
   }
     where
-      of_none : (no_frame : List Frame) → no_frame ≡ [] → AreFramesIn nodes sound.bound no_frame next.left
+      of_none : (no_frame : List Frame) → no_frame ≡ [] → AreFramesIn nodes 0 no_frame next.left
       of_none no_frame e = rw (e, none) tt
 
   pub finalizer_begins : (d : Counts) (f : NodeId) → c.left ≡ cleanup.Finalizer f ∷ next.left → next.resource ≡ None

@@ -1,4 +1,5 @@
-//! Cancellation, a request that is seen, and the rules of clean-ups and ends.
+//! Cancellation, a request that is seen, and the rules of clean-ups and ends. A fiber that ends gives back the
+//! memory of its contexts and of the numbers of its names: the next one to start may have it.
 ghost use Rattle.std.specs.Prelude.{◌≡◌, Some, None, ◌∷◌};
 ghost use Rattle.fx_fiber.specs.declared.machine.unwound.Unwound.{Unwound};
 ghost use Rattle.fx_fiber.specs.Sound.{IsSoundMachine};
@@ -12,7 +13,7 @@ use crate::machine::interruption::Interruption;
 use crate::machine::made::Made;
 use crate::machine::unwound::Unwound;
 use fx_frames::{Cleanup, Frames};
-use fx_term::{Done, Event, Memory, Outcome};
+use fx_term::{Done, Event, Memory, Outcome, Registers};
 use std::mem;
 
 impl Machine {
@@ -68,6 +69,7 @@ impl Machine {
                 Made::Shows(Event::Begin(number))
             }
             None => {
+                self.registers = Registers::new(self.alloc);
                 self.focus = Focus::Ended(Outcome::Canceled);
                 Made::Shows(Event::Ended(Outcome::Canceled))
             }
@@ -103,6 +105,8 @@ impl Machine {
         requires runs { self.old.cleanups ≡ None }
         ensures { MakesRule nodes self.old result self.new }
     {
+        self.frames = Frames::new(self.alloc);
+        self.registers = Registers::new(self.alloc);
         self.focus = Focus::Ended(Outcome::Succeeded(n));
         Made::Shows(Event::Ended(Outcome::Succeeded(n)))
     }
@@ -114,6 +118,8 @@ impl Machine {
         requires runs { self.old.cleanups ≡ None }
         ensures { MakesRule nodes self.old result self.new }
     {
+        self.frames = Frames::new(self.alloc);
+        self.registers = Registers::new(self.alloc);
         self.focus = Focus::Ended(Outcome::Errored(e));
         Made::Shows(Event::Ended(Outcome::Errored(e)))
     }

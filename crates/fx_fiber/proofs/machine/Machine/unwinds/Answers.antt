@@ -9,7 +9,7 @@ returns-in-None g c =
     let s = c.args.self.now in
     let sound = rw (c.requires.1, c.in-Some.is) at c.requires.0 in
     record {
-      sound = unwound_sound g.nodes s.registers s.frames s.masks c.in-Some.unwound c.next.new.self sound _ c.in-None.ensures.1;
+      sound = unwound_sound g.nodes s.registers s.frames s.masks c.in-Some.unwound c.next.new.self sound _ _ c.in-None.ensures.1;
       rule = rw (c.requires.1, c.in-Some.is, c.in-None.ensures.0) unwound;
       is_local = tt;
     }
