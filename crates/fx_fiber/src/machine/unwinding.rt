@@ -50,6 +50,8 @@ impl Machine {
 
     /// Begins the next clean-up (the rules `finalizer` and `release`), or ends the fiber after the
     /// last one (the rule `unwound`).
+    // (laid into each step, as the end of a result is)
+    #[inline(always)]
     pub fn unwinds(&mut self) -> Made
         ghost nodes: { List Node }
         requires sound { IsSoundMachine nodes self.old }
@@ -99,6 +101,8 @@ impl Machine {
     }
 
     /// A value in no context ends the fiber.
+    // (as `unwinds` is)
+    #[inline(always)]
     pub fn succeeds(&mut self, n: u64) -> Made
         ghost nodes: { List Node }
         requires given { ReturnsOut nodes self.old (Done.Val n) }
