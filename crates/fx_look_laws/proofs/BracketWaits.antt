@@ -36,10 +36,10 @@ use Rattle.fx_laws.proofs.SilentRows.{LeadsSilently, pure_leads, raise_leads, le
 use Rattle.fx_laws.proofs.SilentRows.{masked_leads, opened_leads, oncancel_leads, leads_placed, silent_step}
 use Rattle.fx_laws.proofs.StaysShut.{left_shut, right_shut, left_sealed, right_sealed}
 use Rattle.fx_script_laws.proofs.AtClosedPlaces.{can_go}
-use Rattle.fx_look_laws.proofs.MaskedWaits.{IsBlockedAt, IsNeverBlocked, forced_never, unwinds_never, enters}
+use Rattle.fx_look_laws.proofs.Blocked.{IsBlockedAt, IsNeverBlocked, forced_never, unwinds_never}
 use Rattle.fx_script_laws.proofs.RegionLaws.{poll_leads}
 use Rattle.fx_look_laws.proofs.OpenWaits.{result_never, unwinding_waits, open_waits, alike_open_waits}
-use Rattle.fx_look_laws.proofs.WaitsLike.{CanStop, WaitsLike, never_waits, left_first, right_first, step_like, alike_waits}
+use Rattle.fx_look_laws.proofs.WaitsLike.{CanStop, WaitsLike, never_waits, left_first, right_first, step_like, alike_waits, enters_first}
 
 abbrev nothing : Term
 nothing = Pure (Number 0)
@@ -375,7 +375,8 @@ module _ (o : Outside) (scope : ℕ → Option NameKind) (p y ex : ℕ) (x : Opt
 
   unused_y : (k n : ℕ) → put y n (put_named x k r) ≡ put_named x k r
   unused_y =
-      unused_after x y (without_names scope p y ex) r (y_there scope p y ex x a u r p_y p_ex new plain_a plain_u plain_r scoped_a scoped_u scoped_r) new scoped_r
+      unused_after x y (without_names scope p y ex) r (y_there scope p y ex x a u r p_y p_ex new plain_a plain_u plain_r scoped_a scoped_u scoped_r) new
+      scoped_r
 
   unused_ex : (k n : ℕ) → put ex n (put_named x k r) ≡ put_named x k r
   unused_ex =
@@ -405,11 +406,8 @@ module _ (o : Outside) (scope : ℕ → Option NameKind) (p y ex : ℕ) (x : Opt
       (Let (Some y) (Handle (OnCancel (Poll (Slot p) u) r) (Some ex) (Let None (Handle r None (Pure (Number 0))) (Raise (Slot ex))))
       (Let None r (Pure (Slot y)))))))
       (counts_at 0 next end) (Runs (Bracket x a u r))
-  mask_bracketed_waits ls d q h b =
-      let i = enters o [] p body refl refl refl c refl ls d q h b in
-      let run : Leads entered (Runs (Masked 0 (Let x a (rest y ex u r)))) i.rest d q =
-      subst (λ (t : Term). Leads entered (Runs (Masked 0 t)) i.rest d q)
-      (body_entered scope p y ex x a u r p_y p_ex new plain_a plain_u plain_r scoped_a scoped_u scoped_r) i.run in
-      let w = beside_from o x y ex a u r alike_a (alike_after u plain_u scoped_u) (alike_after r plain_r scoped_r) unused_y unused_ex rest_put entered c
-      (shifted_back near) i.rest d q run b in
-      subst (λ (ms : List Label). CanStop o c (Runs (Bracket x a u r)) ms) (ap visible (sym i.is)) w
+  mask_bracketed_waits =
+      enters_first o [] p body refl refl refl c refl
+      (rw (body_entered scope p y ex x a u r p_y p_ex new plain_a plain_u plain_r scoped_a scoped_u scoped_r)
+      (beside_from o x y ex a u r alike_a (alike_after u plain_u scoped_u) (alike_after r plain_r scoped_r) unused_y unused_ex rest_put entered c
+      (shifted_back near)))

@@ -29,7 +29,8 @@ ended_stops o f c (Unwinds xs) v e = absurd (none-some v e)
 ended_stops o f c (CleansUp k t xs) v e = absurd (none-some v e)
 
 -- where one has ended, so has another that looks the same
-ends_so : (o : Outside) (f : ℕ) (b b' : Origin) (ls : List Label) → CanEndSo (StopsThere o f true) b ls → OthersCanSee b' ls → CanEndSo (StopsThere o f true) b' ls
+ends_so : (o : Outside) (f : ℕ) (b b' : Origin) (ls : List Label) → CanEndSo (StopsThere o f true) b ls → OthersCanSee b' ls
+    → CanEndSo (StopsThere o f true) b' ls
 ends_so o f b b' ls h k =
     record {
       labels = k.labels;

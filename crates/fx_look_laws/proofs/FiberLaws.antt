@@ -42,9 +42,6 @@ module _ (scope : ℕ → Option NameKind) where
   data IsOfMask : Term → Term → Type 0 where
     of_mask : (p : ℕ) (a : Term) → IsPlain a → IsScoped (begun p) a → IsOfMask (Mask p (Let None Canceled a)) (forced_after (Mask p a) Canceled)
 
-  data IsOfMaskTurned : Term → Term → Type 0 where
-    turned : {t u : Term} → IsOfMask t u → IsOfMaskTurned u t
-
   mask_puts : (x n : ℕ) (t u : Term) → not_in scope x ≡ false → IsOfMask t u → IsOfMask (put x n t) (put x n u)
   mask_puts x n t u free (of_mask p a plain scoped) =
       let there = begun_there p x free in
@@ -56,14 +53,8 @@ module _ (scope : ℕ → Option NameKind) where
   mask_ends : (t u : Term) → IsOfMask t u → EndsLikeAllOf of_any u t
   mask_ends t u (of_mask p a plain scoped) = mask_after (elsewhere scope) p a plain scoped
 
-  turned_puts : (x n : ℕ) (t u : Term) → not_in scope x ≡ false → IsOfMaskTurned t u → IsOfMaskTurned (put x n t) (put x n u)
-  turned_puts x n t u free (turned h) = turned (mask_puts x n u t free h)
-
-  turned_needs : (t u : Term) → IsOfMaskTurned t u → need t ≡ need u
-  turned_needs t u (turned h) = sym (mask_needs u t h)
-
-  turned_ends : (t u : Term) → IsOfMaskTurned t u → EndsLikeAllOf of_any u t
-  turned_ends t u (turned (of_mask p a plain scoped)) = mask_before (elsewhere scope) p a plain scoped
+  mask_ends_back : (t u : Term) → IsOfMask u t → EndsLikeAllOf of_any u t
+  mask_ends_back t u (of_mask p a plain scoped) = mask_before (elsewhere scope) p a plain scoped
 
   module _ (p : ℕ) (a : Term) (plain : IsPlain a) (scoped : IsScoped (with_name p kind.OtherPoll (elsewhere scope)) a) where
     pub cancels_after : LooksLikeAllWithNumbers of_any (not_in scope) (Mask p (Let None Canceled a)) (forced_after (Mask p a) Canceled)
@@ -71,15 +62,13 @@ module _ (scope : ℕ → Option NameKind) where
 
     pub cancels_before : LooksLikeAllWithNumbers of_any (not_in scope) (forced_after (Mask p a) Canceled) (Mask p (Let None Canceled a))
     cancels_before =
-        looks_with_numbers of_any (not_in scope) IsOfMaskTurned turned_puts turned_needs turned_ends _ _ (turned (of_mask p a plain scoped))
+        looks_with_numbers of_any (not_in scope) (λ t u. IsOfMask u t) (λ x n t u. mask_puts x n u t) (λ t u h. sym (mask_needs u t h)) mask_ends_back _ _
+        (of_mask p a plain scoped)
 
   -- finalizers in order, and what they are in a mask
   data IsOfOrder : Term → Term → Type 0 where
     of_order : (p : ℕ) (f g : Term) → IsPlain f → IsPlain g → IsScoped (begun p) f → IsScoped (begun p) g
         → IsOfOrder (OnCancel (OnCancel Canceled f) g) (forced_after (Mask p (forced_after f g)) Canceled)
-
-  data IsOfOrderTurned : Term → Term → Type 0 where
-    order_turned : {t u : Term} → IsOfOrder t u → IsOfOrderTurned u t
 
   order_puts : (x n : ℕ) (t u : Term) → not_in scope x ≡ false → IsOfOrder t u → IsOfOrder (put x n t) (put x n u)
   order_puts x n t u free (of_order p f g plain plain' scoped scoped') =
@@ -93,14 +82,8 @@ module _ (scope : ℕ → Option NameKind) where
   order_ends : (t u : Term) → IsOfOrder t u → EndsLikeAllOf of_any u t
   order_ends t u (of_order p f g plain plain' scoped scoped') = order_masked (elsewhere scope) p f g plain plain' scoped scoped'
 
-  order_turned_puts : (x n : ℕ) (t u : Term) → not_in scope x ≡ false → IsOfOrderTurned t u → IsOfOrderTurned (put x n t) (put x n u)
-  order_turned_puts x n t u free (order_turned h) = order_turned (order_puts x n u t free h)
-
-  order_turned_needs : (t u : Term) → IsOfOrderTurned t u → need t ≡ need u
-  order_turned_needs t u (order_turned h) = sym (order_needs u t h)
-
-  order_turned_ends : (t u : Term) → IsOfOrderTurned t u → EndsLikeAllOf of_any_but_alone u t
-  order_turned_ends t u (order_turned (of_order p f g plain plain' scoped scoped')) = order_finalized (elsewhere scope) p f g plain plain' scoped scoped'
+  order_ends_back : (t u : Term) → IsOfOrder u t → EndsLikeAllOf of_any_but_alone u t
+  order_ends_back t u (of_order p f g plain plain' scoped scoped') = order_finalized (elsewhere scope) p f g plain plain' scoped scoped'
 
   module _ (p : ℕ) (f g : Term) (plain : IsPlain f) (plain' : IsPlain g) (scoped : IsScoped (with_name p kind.OtherPoll (elsewhere scope)) f)
       (scoped' : IsScoped (with_name p kind.OtherPoll (elsewhere scope)) g) where
@@ -110,8 +93,9 @@ module _ (scope : ℕ → Option NameKind) where
     pub in_finalizers : LooksLikeAllWithNumbers of_any_but_alone (not_in scope) (forced_after (Mask p (forced_after f g)) Canceled)
         (OnCancel (OnCancel Canceled f) g)
     in_finalizers =
-        looks_with_numbers of_any_but_alone (not_in scope) IsOfOrderTurned order_turned_puts order_turned_needs order_turned_ends _ _
-        (order_turned (of_order p f g plain plain' scoped scoped'))
+        looks_with_numbers of_any_but_alone (not_in scope) (λ t u. IsOfOrder u t) (λ x n t u. order_puts x n u t) (λ t u h. sym (order_needs u t h))
+        order_ends_back _ _
+        (of_order p f g plain plain' scoped scoped')
 
   -- a bracket, and the mask that it is
   abbrev as_mask : ℕ → ℕ → ℕ → Option ℕ → Term → Term → Term → Term
@@ -141,9 +125,6 @@ module _ (scope : ℕ → Option NameKind) where
 
   data IsOfBracket : Term → Term → Type 0 where
     of_bracket : (p y e : ℕ) (x : Option ℕ) (a u d : Term) → IsBracketOf p y e x a u d → IsOfBracket (Bracket x a u d) (as_mask p y e x a u d)
-
-  data IsOfBracketTurned : Term → Term → Type 0 where
-    bracket_turned : {t u : Term} → IsOfBracket t u → IsOfBracketTurned u t
 
   there_named : (s : ℕ → Option NameKind) (z : ℕ) (x : Option ℕ) → IsThere s z → IsThere (with_named x kind.Value s) z
   there_named s z None h = h
@@ -196,14 +177,8 @@ module _ (scope : ℕ → Option NameKind) where
   bracket_ends t u (of_bracket p y e x a v d h) =
       bracket_as_mask (elsewhere scope) p y e x a v d h.p_y h.p_e h.new_x h.plain_a h.plain_u h.plain_d h.scoped_a h.scoped_u h.scoped_d
 
-  bracket_turned_puts : (x n : ℕ) (t u : Term) → not_in scope x ≡ false → IsOfBracketTurned t u → IsOfBracketTurned (put x n t) (put x n u)
-  bracket_turned_puts x n t u free (bracket_turned h) = bracket_turned (bracket_puts x n u t free h)
-
-  bracket_turned_needs : (t u : Term) → IsOfBracketTurned t u → need t ≡ need u
-  bracket_turned_needs t u (bracket_turned h) = sym (bracket_needs u t h)
-
-  bracket_turned_ends : (t u : Term) → IsOfBracketTurned t u → EndsLikeAllOf of_any_but_alone u t
-  bracket_turned_ends t u (bracket_turned (of_bracket p y e x a v d h)) =
+  bracket_ends_back : (t u : Term) → IsOfBracket u t → EndsLikeAllOf of_any_but_alone u t
+  bracket_ends_back t u (of_bracket p y e x a v d h) =
       mask_as_bracket (elsewhere scope) p y e x a v d h.p_y h.p_e h.new_x h.plain_a h.plain_u h.plain_d h.scoped_a h.scoped_u h.scoped_d
 
   module _ (p y e : ℕ) (x : Option ℕ) (a u d : Term) (new_p : scope p ≡ None) (new_y : scope y ≡ None) (new_e : scope e ≡ None) (py : p ≢ y) (pe : p ≢ e)
@@ -244,5 +219,6 @@ module _ (scope : ℕ → Option NameKind) where
         (Let None d (Pure (Slot y))))))
         (Bracket x a u d)
     mask_bracketed =
-        looks_with_numbers of_any_but_alone (not_in scope) IsOfBracketTurned bracket_turned_puts bracket_turned_needs bracket_turned_ends _ _
-        (bracket_turned (of_bracket p y e x a u d bracket_of))
+        looks_with_numbers of_any_but_alone (not_in scope) (λ t u. IsOfBracket u t) (λ x n t u. bracket_puts x n u t) (λ t u h. sym (bracket_needs u t h))
+        bracket_ends_back _ _
+        (of_bracket p y e x a u d bracket_of)

@@ -11,8 +11,9 @@ pub mod ReportsLike
 pub mod FibersLook
 pub mod PlainPuts
 pub mod EndedLooks
-pub mod MaskedWaits
+pub mod Blocked
 pub mod WaitsLike
+pub mod MaskedWaits
 pub mod OpenWaits
 pub mod OrderWaits
 pub mod BracketWaits

@@ -15,13 +15,14 @@ use Rattle.fx_laws.proofs.BracketLaws.{bracket_looks_like_all, bracket_looks_the
 use Rattle.fx_laws.proofs.CanceledInMask.{canceled_in_mask}
 use Rattle.fx_laws.proofs.CanceledInOrder.{in_order_looks_like_all, in_order_looks_the_same}
 use Rattle.fx_script_laws.specs.Interchange.{StopsThere}
-use Rattle.fx_look_laws.proofs.MaskedWaits.{IsBlockedAt, waits_first, waits_second, CanWait}
+use Rattle.fx_look_laws.proofs.Blocked.{IsBlockedAt}
+use Rattle.fx_look_laws.proofs.MaskedWaits.{waits_first, waits_second}
 use Rattle.fx_look_laws.specs.FibersLookAlike.{CanEndSo, EndsLikeAllOf, of_any, of_ended, of_ended_but_alone, of_any_but_alone}
 use Rattle.fx_look_laws.proofs.EndedLooks.{ended_like_all, ended_unless_back}
 use Rattle.fx_look_laws.proofs.BracketWaits.{bracket_masked_waits, mask_bracketed_waits}
 use Rattle.fx_look_laws.proofs.OrderWaits.{order_masked_waits, order_finalized_waits}
 use Rattle.fx_look_laws.proofs.Requests.{can_same}
-use Rattle.fx_look_laws.proofs.WaitsLike.{CanStop, WaitsLike}
+use Rattle.fx_look_laws.proofs.WaitsLike.{WaitsLike}
 
 -- a fiber of any number waits as one of number 0 does that is requested where it is
 module _ (o : Outside) (f : ℕ) where
@@ -65,24 +66,18 @@ ends_or_waits_but_alone : (t u : Term) → EndsLikeAllOf of_ended_but_alone u t 
 ends_or_waits_but_alone t u ended waits o f next end true ls so h = ended o f next end true ls so h
 ends_or_waits_but_alone t u ended waits o f next end false ls so h = waits_so t u waits o f next end ls h
 
-forget_unseen : (o : Outside) {c : Counts} {p : Progress} {ls : List Label} → CanWait o c p ls → CanStop o c p ls
-forget_unseen o w =
-    record { labels = w.labels; counts = w.counts; progress = w.progress; run = w.run; visible_is = w.visible_is; blocked = w.blocked }
-
 module _ (scope : ℕ → Option NameKind) (p : ℕ) (a : Term) (plain : IsPlain a) (scoped : IsScoped (with_name p kind.OtherPoll scope) a) where
   pub mask_after : EndsLikeAllOf of_any (forced_after (Mask p a) Canceled) (Mask p (Let None Canceled a))
   mask_after =
       ends_or_waits (Mask p (Let None Canceled a)) (forced_after (Mask p a) Canceled)
       (ended_like_all _ _ (λ next end ls h. (canceled_in_mask scope p a plain scoped next end ls).0 h))
-      (λ o next end ls d q h b. forget_unseen o
-      (waits_second o scope p a plain scoped (first_counts (record { term = Mask p (Let None Canceled a); next = next; end = end })) refl ls d q h b))
+      (λ o next end. waits_second o scope p a plain scoped (first_counts (record { term = Mask p (Let None Canceled a); next = next; end = end })) refl)
 
   pub mask_before : EndsLikeAllOf of_any (Mask p (Let None Canceled a)) (forced_after (Mask p a) Canceled)
   mask_before =
       ends_or_waits (forced_after (Mask p a) Canceled) (Mask p (Let None Canceled a))
       (ended_like_all _ _ (λ next end ls h. (canceled_in_mask scope p a plain scoped next end ls).1 h))
-      (λ o next end ls d q h b. forget_unseen o
-      (waits_first o scope p a plain scoped (first_counts (record { term = forced_after (Mask p a) Canceled; next = next; end = end })) refl ls d q h b))
+      (λ o next end. waits_first o scope p a plain scoped (first_counts (record { term = forced_after (Mask p a) Canceled; next = next; end = end })) refl)
 
 module _ (scope : ℕ → Option NameKind) (p : ℕ) (f g : Term) (plain : IsPlain f) (plain' : IsPlain g) (scoped : IsScoped (with_name p kind.OtherPoll scope) f)
     (scoped' : IsScoped (with_name p kind.OtherPoll scope) g) where

@@ -25,7 +25,7 @@ use Rattle.fx_laws.proofs.Placed.{RowOfPlaced, moves_in, result_in, row_of_place
 use Rattle.fx_laws.proofs.Unwinding.{AreSameBefore, last, finalizer, release}
 use Rattle.fx_script_laws.proofs.AtClosedPlaces.{can_go}
 use Rattle.fx_script_laws.proofs.BesideEnds.{waits_alike}
-use Rattle.fx_look_laws.proofs.MaskedWaits.{IsBlockedAt, IsNeverBlocked, ended_never, must_never}
+use Rattle.fx_look_laws.proofs.Blocked.{IsBlockedAt, IsNeverBlocked, ended_never, must_never}
 use Rattle.fx_look_laws.proofs.WaitsLike.{CanStop, WaitsLike, left_first, right_first, step_like, shut_waits}
 
 module _ (o : Outside) where

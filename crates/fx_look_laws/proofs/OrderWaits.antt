@@ -1,5 +1,5 @@
 -- Finalizers of a fiber that cancels itself wait where the same terms do in a mask before it.
-use Rattle.std.proofs.Common.{◌≡◌, ℕ, Option, None, List, [], ◌∷◌, refl, sym, ap, subst, arith}
+use Rattle.std.proofs.Common.{◌≡◌, ℕ, Option, None, List, [], ◌∷◌, refl, subst, arith}
 use Rattle.fx_term.specs.declared.node.Arg.TheVariants.{Number}
 use Rattle.fx_term.specs.declared.done.Done.{Done}
 use Rattle.fx_term.specs.declared.done.Done.TheVariants.{Val, Err}
@@ -13,13 +13,11 @@ use Rattle.fx_model.specs.Row.{Counts, Label, Silent, one_more_mask}
 use Rattle.fx_model.specs.Row as rule
 use Rattle.fx_model.specs.Step.{Progress, Runs, CleansUp}
 use Rattle.fx_model.specs.Step as step
-use Rattle.fx_model.specs.Run.{Leads}
 use Rattle.fx_model.specs.MaskLaws.{IsPlain, forced_after}
 use Rattle.fx_model.specs.Outside.{Outside}
 use Rattle.fx_model.proofs.Alike.{next_regions, Alike, plain_alike}
 use Rattle.fx_model.proofs.MaskEntering.{counts_at}
 use Rattle.fx_laws.specs.Everywhere.{placed, InTerm, InCleanup}
-use Rattle.fx_laws.specs.Others.{visible}
 use Rattle.fx_laws.proofs.AlikeFibers.{AreShifted, shifted_back}
 use Rattle.fx_laws.proofs.Doomed.{must_forced}
 use Rattle.fx_laws.proofs.Forced.{begins_finalizer, ends_finalizer, runs_only}
@@ -28,8 +26,9 @@ use Rattle.fx_laws.proofs.Placed.{row_placed}
 use Rattle.fx_laws.proofs.SilentRows.{pure_leads, let_value_leads, handle_value_leads, handle_error_leads}
 use Rattle.fx_laws.proofs.StaysShut.{left_shut, right_shut}
 use Rattle.fx_script_laws.proofs.AtClosedPlaces.{can_go}
-use Rattle.fx_look_laws.proofs.MaskedWaits.{forced_never, unwinds_never, both_never, enters}
-use Rattle.fx_look_laws.proofs.WaitsLike.{CanStop, WaitsLike, never_waits, left_first, right_first, alike_waits}
+use Rattle.fx_look_laws.proofs.Blocked.{forced_never, unwinds_never}
+use Rattle.fx_look_laws.proofs.MaskedWaits.{both_never}
+use Rattle.fx_look_laws.proofs.WaitsLike.{WaitsLike, never_waits, left_first, right_first, enters_first, alike_waits}
 
 abbrev nothing : Term
 nothing = Pure (Number 0)
@@ -136,14 +135,11 @@ module _ (o : Outside) (f g : Term) (same_f : (n m : ℕ) → Alike n m f f) (sa
         (left_first o (must_forced c bare refl) refl refl (left_first o (begins_finalizer c f (Finalizer g ∷ [])) refl refl (first_to c entered near)))
 
     pub finalized_waits : WaitsLike o c (Runs whole) c (Runs bare)
-    finalized_waits ls d q h b =
-        let k = enters o outside p (forced_after f g) refl refl refl c refl ls d q h b in
-        let run : Leads entered (Runs (placed first_in_mask f)) k.rest d q =
-        subst (λ (x : Term). Leads entered (Runs (placed outside (Masked 0 x))) k.rest d q) (let e = unused_f 0 in let e' = unused_g 0 in rw (e, e') refl) k.run in
-        let rest : WaitsLike o entered (Runs (placed first_in_mask f)) c (Runs bare) =
-        right_first o (must_forced c bare refl).step refl (right_first o (begins_finalizer c f (Finalizer g ∷ [])).step refl
-        (first_from entered c (shifted_back near))) in
-        subst (λ (ms : List Label). CanStop o c (Runs bare) ms) (ap visible (sym k.is)) (rest k.rest d q run b)
+    finalized_waits =
+        enters_first o outside p (forced_after f g) refl refl refl c refl
+        (rw (unused_f 0, unused_g 0)
+        (right_first o (must_forced c bare refl).step refl
+        (right_first o (begins_finalizer c f (Finalizer g ∷ [])).step refl (first_from entered c (shifted_back near)))))
 
 module _ (o : Outside) (scope : ℕ → Option NameKind) (p : ℕ) (f g : Term) (plain_f : IsPlain f) (plain_g : IsPlain g)
     (scoped_f : IsScoped (with_name p kind.OtherPoll scope) f) (scoped_g : IsScoped (with_name p kind.OtherPoll scope) g) (next end : ℕ) where

@@ -39,7 +39,8 @@ module _ {Pair : (ℕ → Bool) → Term → Term → Type 0} where
 
   -- where pairs are pairs with a number for a name too
   module _ (puts : ArePutToo Pair) where
-    pub put_others : {v v' : ℕ → Bool} {x : ℕ} → IsPutUnder v v' x → (n : ℕ) {t u : Term} → StartsOthers Pair v t u → StartsOthers Pair v' (put x n t) (put x n u)
+    pub put_others : {v v' : ℕ → Bool} {x : ℕ} → IsPutUnder v v' x → (n : ℕ) {t u : Term} → StartsOthers Pair v t u
+        → StartsOthers Pair v' (put x n t) (put x n u)
     put_others h n others.same = others.same
     put_others {v = v} {v' = v'} {x = x} h n (others.starts {h = h0} {a = a} {a' = a'} p q) =
         others.starts (puts v v' x h n a a' p) (put_others (deeper h0 h) n q)

@@ -88,8 +88,13 @@ module _ (Pair : (ℕ → Bool) → Term → Term → Type 0) (puts : ArePutToo 
   abbrev s' : ScriptView
   s' = record { term = term'; capacities = s.capacities }
 
+  abbrev Done : ℕ → Type 0
+  Done f = let n = runs'.run_of f in IsDoneSo Pair puts needs s term' may r lawful IsLooked looked begins_main same_need f n.origin n.labels n.asks
+
   abbrev Told : ℕ → Type 0
-  Told f = let n = runs'.run_of f in IsToldSo Pair puts needs s term' may r lawful IsLooked looked begins_main same_need f n.origin n.labels n.counts n.progress n.asks
+  Told f =
+      let n = runs'.run_of f in
+      IsToldSo Pair puts needs s term' may r lawful IsLooked looked begins_main same_need f n.origin n.labels n.counts n.progress n.asks
 
   told : (f : ℕ) (x : FiberReportView) → fiber_in r f ≡ Some x → Told f
   told f x at = (runs'.run_of f).told x at
@@ -118,7 +123,7 @@ module _ (Pair : (ℕ → Bool) → Term → Term → Type 0) (puts : ArePutToo 
   asks_may f asks = let x = asks_told f asks in by_done x.0 x.1 (told f x.0 x.1).done
     where
       by_done : (x : FiberReportView) → fiber_in r f ≡ Some x
-          → IsDoneSo Pair puts needs s term' may r lawful IsLooked looked begins_main same_need f (runs'.run_of f).origin (runs'.run_of f).labels (runs'.run_of f).asks → may f ≡ true
+          → Done f → may f ≡ true
       by_done x at (kept q none) = absurd cc
       by_done x at (looks_so p is) = mays f x at (runs'.run_of f).origin.term p
 
@@ -263,7 +268,7 @@ module _ (Pair : (ℕ → Bool) → Term → Term → Type 0) (puts : ArePutToo 
       (runs'.run_of f).counts (runs'.run_of f).progress ≡ false)
       (sym outcomes_same) (by_asks (runs'.run_of f).asks refl)
     where
-      by_done : IsDoneSo Pair puts needs s term' may r lawful IsLooked looked begins_main same_need f (runs'.run_of f).origin (runs'.run_of f).labels (runs'.run_of f).asks
+      by_done : Done f
           → (runs'.run_of f).asks ≡ true → can_step here f (runs'.run_of f).counts (runs'.run_of f).progress ≡ false
       by_done (kept q none) is = absurd cc
       by_done (looks_so p sees) is =
@@ -400,7 +405,7 @@ module _ (Pair : (ℕ → Bool) → Term → Term → Type 0) (puts : ArePutToo 
           asked_rightly r' f (requested_too f ∙ or_second (is_requested_in r f) (runs'.run_of f).asks asks) (runs'.run_of f).labels
       by_sees false sees asks = unseen_rightly r' f (runs'.run_of f).labels sees
 
-      by_done : IsDoneSo Pair puts needs s term' may r lawful IsLooked looked begins_main same_need f (runs'.run_of f).origin (runs'.run_of f).labels (runs'.run_of f).asks
+      by_done : Done f
           → All (IsSeenRightly r' f) (runs'.run_of f).labels
       by_done (kept q none) =
           all_by (IsSeenRightly r f) (IsSeenRightly r' f) (one (requested_same f none)) (runs'.run_of f).labels
@@ -428,7 +433,7 @@ module _ (Pair : (ℕ → Bool) → Term → Term → Type 0) (puts : ArePutToo 
     others_same f not_one = by_report (fiber_in r f) refl
       where
         by_done : (x : FiberReportView) → fiber_in r f ≡ Some x
-            → IsDoneSo Pair puts needs s term' may r lawful IsLooked looked begins_main same_need f (runs'.run_of f).origin (runs'.run_of f).labels (runs'.run_of f).asks
+            → Done f
             → fiber_in r' f ≡ fiber_in r f
         by_done x at (kept q none) =
             let h = lawful.runs.run f x at in
@@ -444,7 +449,7 @@ module _ (Pair : (ℕ → Bool) → Term → Term → Type 0) (puts : ArePutToo 
     asked_same f not_one = outs_any f ∙ or_none (list_any (λ g. g == f) r.outside) (runs'.run_of f).asks (by_report (fiber_in r f) refl)
       where
         by_done : (x : FiberReportView) → fiber_in r f ≡ Some x
-            → IsDoneSo Pair puts needs s term' may r lawful IsLooked looked begins_main same_need f (runs'.run_of f).origin (runs'.run_of f).labels (runs'.run_of f).asks
+            → Done f
             → (runs'.run_of f).asks ≡ false
         by_done x at (kept q none) = none
         by_done x at (looks_so p is) = absurd (not_one (one_of_some f x at (runs'.run_of f).origin.term p))

@@ -1,14 +1,14 @@
 -- A fiber that comes to where it waits, and another one that comes there too, so that others see the same.
 use Rattle.std.proofs.Common.{◌≡◌, ℕ, true, false, List, [], ◌∷◌, ◌++◌, refl, sym, ◌∙◌, ap, subst}
 use Rattle.fx_term.specs.declared.done.Done.{Done}
-use Rattle.fx_term.specs.Term.{Term, Finished}
-use Rattle.fx_model.specs.Path.{leaf}
-use Rattle.fx_model.specs.Row.{Counts, Label, Row}
-use Rattle.fx_model.specs.Step.{Progress, Step}
+use Rattle.fx_term.specs.Term.{Term, Finished, Mask, Masked, put}
+use Rattle.fx_model.specs.Path.{leaf, Context, cleanup_terms, is_open, must_cancel}
+use Rattle.fx_model.specs.Row.{Counts, Label, Row, one_more_mask}
+use Rattle.fx_model.specs.Step.{Progress, Step, Runs}
 use Rattle.fx_model.specs.Run.{Leads}
 use Rattle.fx_model.specs.Outside.{Outside, can_step, leaf_can_step}
 use Rattle.fx_model.proofs.Alike.{Alike}
-use Rattle.fx_laws.specs.Everywhere.{Place, come_to}
+use Rattle.fx_laws.specs.Everywhere.{Place, come_to, placed}
 use Rattle.fx_laws.specs.Others.{visible}
 use Rattle.fx_laws.proofs.AlikeFibers.{AreShifted, alike_rows, alike_results}
 use Rattle.fx_laws.proofs.Forced.{IsForced}
@@ -16,7 +16,7 @@ use Rattle.fx_laws.proofs.Inside.{RowsAreFollowed, ResultsAreResults}
 use Rattle.fx_laws.proofs.Looking.{looking, visible_more}
 use Rattle.fx_laws.proofs.Shut.{ShutStep, moves_at, result_at}
 use Rattle.fx_script_laws.proofs.BesideEnds.{waits_alike}
-use Rattle.fx_look_laws.proofs.MaskedWaits.{IsBlockedAt, IsNeverBlocked, peel}
+use Rattle.fx_look_laws.proofs.Blocked.{IsBlockedAt, IsNeverBlocked, peel, enters}
 use Rattle.fx_script_laws.proofs.ShutInside.{IsShutWith, shut_can, shut_only, shut_does, goes_on}
 
 module _ (o : Outside) where
@@ -57,6 +57,14 @@ module _ (o : Outside) where
         visible_is = visible_more l k.labels ∙ ap (λ (ms : List Label). ms ++ visible k.labels) hidden ∙ k.visible_is;
         blocked = k.blocked;
       }
+
+  -- a mask that is entered, with nothing round it that closes a place or is to be cleaned up
+  pub enters_first : (fs : List Context) (p : ℕ) (t : Term) → is_open (placed fs (Mask p t)) ≡ true → must_cancel false (placed fs (Mask p t)) ≡ false
+      → cleanup_terms (placed fs (Mask p t)) ≡ [] → (c : Counts) → c.known ≡ false → {c' : Counts} {p' : Progress}
+      → WaitsLike (one_more_mask c) (Runs (placed fs (Masked c.masks (put p c.masks t)))) c' p' → WaitsLike c (Runs (placed fs (Mask p t))) c' p'
+  enters_first fs p t opened free clean c unknown {c' = c'} {p' = p'} next ls d q h b =
+      let k = enters o fs p t opened free clean c unknown ls d q h b in
+      subst (λ (ms : List Label). CanStop c' p' ms) (ap visible (sym k.is)) (next k.rest d q k.run b)
 
   -- one step of which others see the same
   pub step_like : {c' e' : Counts} {p' m' : Progress} {l' : Label} (l : Label) (ls : List Label) → Step c' p' l' e' m'
