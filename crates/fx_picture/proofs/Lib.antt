@@ -12,3 +12,4 @@ pub mod NamedEnds
 pub mod CausesDrawn
 pub mod Releases
 pub mod BarsClosed
+pub mod Masked

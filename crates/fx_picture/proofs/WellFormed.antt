@@ -16,7 +16,7 @@ use Rattle.fx_picture.specs.declared.drawn.Drawn.{Drawn}
 use Rattle.fx_picture.specs.declared.stood.Stood.{Stood}
 use Rattle.fx_picture.specs.declared.layout.TheConstants.{AGAIN}
 use Rattle.fx_picture.specs.Causes.{cause_of}
-use Rattle.fx_picture.specs.Bars.{life_at, bar_at, closing_row}
+use Rattle.fx_picture.specs.Bars.{life_at, bar_at, mask_at, closing_row}
 use Rattle.fx_picture.specs.Folds.{in_row, sheet_of}
 use Rattle.fx_picture.specs.Visits.{queue_at, count_at}
 use Rattle.fx_picture.specs.Labels.{fiber_words, wait_of}
@@ -52,16 +52,17 @@ bar_to_is : (fibers : List FiberReportView) (rows : ℕ) (x : Drawn) (bar : Bar)
 bar_to_is fibers rows x bar closing =
     cond_both (ends_in x.row closing) nothing _ (λ (c : Content). has_distinct_keys c ≡ true) (λ _. refl) (λ _. refl)
 
-bar_is : (fibers : List FiberReportView) (rows : ℕ) (x : Drawn) (list : List Drawn) (bar : Option Bar)
-    → has_distinct_keys (bar_of fibers rows x list bar) ≡ true
-bar_is fibers rows x list None = refl
-bar_is fibers rows x list (Some bar) = bar_to_is fibers rows x bar (closing_row x.event.fiber bar list)
+bar_is : (stood : List Stood) (fibers : List FiberReportView) (rows : ℕ) (x : Drawn) (list : List Drawn) (bar : Option Bar)
+    → has_distinct_keys (bar_of stood fibers rows x list bar) ≡ true
+bar_is stood fibers rows x list None = refl
+bar_is stood fibers rows x list (Some bar) = bar_to_is fibers rows x bar (closing_row stood x.event.fiber bar list)
 
-bars : (fibers : List FiberReportView) (rows : ℕ) (xs : List Drawn) → has_distinct_keys (bars_from fibers rows xs) ≡ true
-bars fibers rows [] = refl
-bars fibers rows (x ∷ xs) =
-    all_true _ _ (bar_is fibers rows x (x ∷ xs) (life_at x.event.place))
-    (all_true _ _ (bar_is fibers rows x (x ∷ xs) (bar_at x.event.event)) (bars fibers rows xs))
+bars : (stood : List Stood) (fibers : List FiberReportView) (rows : ℕ) (xs : List Drawn) → has_distinct_keys (bars_from stood fibers rows xs) ≡ true
+bars stood fibers rows [] = refl
+bars stood fibers rows (x ∷ xs) =
+    all_true _ _ (bar_is stood fibers rows x (x ∷ xs) (life_at x.event.place))
+    (all_true _ _ (bar_is stood fibers rows x (x ∷ xs) (bar_at x.event.event))
+    (all_true _ _ (bar_is stood fibers rows x (x ∷ xs) (mask_at stood x.event.fiber x.event.place)) (bars stood fibers rows xs)))
 
 visit_is : (fibers : List FiberReportView) (x : Drawn) (queue : Option ℕ) → has_distinct_keys (visit_for fibers x queue) ≡ true
 visit_is fibers x None = refl
@@ -114,10 +115,10 @@ is_document names stood blocked fibers list =
     let drawn = (sheet_of list).drawn in
     let rows = (sheet_of list).rows in
     let ground = all_true _ _ (lanes names rows blocked 0 fibers)
-    (all_true _ _ (queue_lanes rows (length fibers) names) (bars fibers rows drawn)) in
+    (all_true _ _ (queue_lanes rows (length fibers) names) (bars stood fibers rows drawn)) in
     let figures = all_true _ _ (visits fibers (length names) drawn rows)
     (all_true _ _ (all_arrows fibers drawn 0 drawn) (marks names stood fibers drawn rows)) in
     well_formed tag.Svg (size (length fibers + length names) rows)
     (both (head (length fibers) (length drawn))
-    (both legend (both (ground_of names blocked fibers (sheet_of list)) (figures_of names stood fibers (sheet_of list)))))
+    (both legend (both (ground_of names stood blocked fibers (sheet_of list)) (figures_of names stood fibers (sheet_of list)))))
     (all_true _ _ ground figures)

@@ -64,7 +64,7 @@ lines =
     entry (codes "arrow start") (codes "to what it started") ∷ entry (codes "arrow end") (codes "to who learns of the end")
     ∷ entry (codes "arrow cancel dashed") (codes "to who sees the request") ∷ entry (codes "life") (codes "a fiber that ends")
     ∷ entry (codes "life open") (codes "one that waits for good") ∷ entry (codes "unwinding") (codes "its clean-ups run")
-    ∷ entry (codes "holding") (codes "it holds a resource") ∷ []
+    ∷ entry (codes "holding") (codes "it holds a resource") ∷ entry (codes "masked") (codes "no cancellation acts") ∷ []
 
 -- the mark of several events
 abbrev pub fold_sample : ℕ → Content
@@ -76,4 +76,4 @@ fold_entry row ws = both (fold_sample (legend_y row)) (said (legend_y row) ws)
 abbrev pub legend : Content
 legend = element tag.Group (set_to key.Class (codes "legend") ∷ [])
     (both (mark_entries 0 marks_of_fibers) (both (mark_entries 6 marks_of_queues)
-    (both (line_entries 11 lines) (fold_entry 18 (codes "so many events of a loop")))))
+    (both (line_entries 11 lines) (fold_entry 19 (codes "so many events of a loop")))))

@@ -20,7 +20,7 @@ use Rattle.fx_picture.specs.declared.picture.TheConstants.{TITLE, DESCRIPTION}
 use Rattle.fx_picture.specs.Causes.{cause_of, cause_class}
 use Rattle.fx_picture.specs.declared.stood.Stood.{Stood}
 use Rattle.fx_picture.specs.Folds.{SheetView, sheet_of, in_row}
-use Rattle.fx_picture.specs.Bars.{life_at, bar_at, closing_row, aside, bar_class, bar_words}
+use Rattle.fx_picture.specs.Bars.{life_at, bar_at, mask_at, closing_row, beside, bar_class, bar_words}
 use Rattle.fx_picture.specs.Visits.{queue_at, visit_class, visit_words, count_at, times_words}
 use Rattle.fx_picture.specs.Layout.{lane_of, lane_x, row_y, band_y, height}
 use Rattle.fx_picture.specs.Labels.{mark_words, fold_words, fiber_words, wait_of, wait_words, count_words}
@@ -94,18 +94,20 @@ module _ (fibers : List FiberReportView) (rows : ℕ) where
   abbrev pub bar_to : Drawn → Bar → Option ℕ → Content
   bar_to x bar closing =
       if ends_in x.row closing then nothing
-      else bar_line bar closing (lane_x (lane_of fibers x.event.fiber) + aside bar) (row_y x.row) (bar_end rows closing)
+      else bar_line bar closing (beside bar (lane_x (lane_of fibers x.event.fiber))) (row_y x.row) (bar_end rows closing)
 
+module _ (stood : List Stood) (fibers : List FiberReportView) (rows : ℕ) where
   -- where these are the events from it on
   abbrev pub bar_of : Drawn → List Drawn → Option Bar → Content
   bar_of x list None = nothing
-  bar_of x list (Some bar) = bar_to x bar (closing_row x.event.fiber bar list)
+  bar_of x list (Some bar) = bar_to fibers rows x bar (closing_row stood x.event.fiber bar list)
 
   -- those that begin at these events
   abbrev pub bars_from : List Drawn → Content
   bars_from [] = nothing
   bars_from (x ∷ xs) =
-      both (bar_of x (x ∷ xs) (life_at x.event.place)) (both (bar_of x (x ∷ xs) (bar_at x.event.event)) (bars_from xs))
+      both (bar_of x (x ∷ xs) (life_at x.event.place)) (both (bar_of x (x ∷ xs) (bar_at x.event.event))
+      (both (bar_of x (x ∷ xs) (mask_at stood x.event.fiber x.event.place)) (bars_from xs)))
 
 module _ (fibers : List FiberReportView) where
   -- the line from an event to that queue, with what the event does there
@@ -222,10 +224,10 @@ size lanes rows =
     ∷ number_of key.Height (height rows) ∷ []
 
 -- the lanes of fibers and queues, and the bars beside them
-abbrev pub ground_of : List (List ℕ) → List Blocked → List FiberReportView → SheetView → Content
-ground_of names blocked fibers sheet =
+abbrev pub ground_of : List (List ℕ) → List Stood → List Blocked → List FiberReportView → SheetView → Content
+ground_of names stood blocked fibers sheet =
     both (lanes_from names sheet.rows blocked 0 fibers)
-    (both (queue_lanes_from sheet.rows (length fibers) names) (bars_from fibers sheet.rows sheet.drawn))
+    (both (queue_lanes_from sheet.rows (length fibers) names) (bars_from stood fibers sheet.rows sheet.drawn))
 
 -- what happens on them
 abbrev pub figures_of : List (List ℕ) → List Stood → List FiberReportView → SheetView → Content
@@ -237,7 +239,7 @@ figures_of names stood fibers sheet =
 abbrev pub drawing : List (List ℕ) → List Stood → List Blocked → List FiberReportView → SheetView → Content
 drawing names stood blocked fibers sheet = element tag.Svg (size (length fibers + length names) sheet.rows)
     (both (head (length fibers) (length sheet.drawn))
-    (both legend (both (ground_of names blocked fibers sheet) (figures_of names stood fibers sheet))))
+    (both legend (both (ground_of names stood blocked fibers sheet) (figures_of names stood fibers sheet))))
 
 -- with these events from top to bottom
 abbrev pub picture : List (List ℕ) → List Stood → List Blocked → List FiberReportView → List Occurrence → Content

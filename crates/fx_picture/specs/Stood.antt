@@ -1,5 +1,5 @@
 -- Where fibers stood when they showed their events, and the words for that.
-use Rattle.std.specs.Prelude.{ℕ, ◌-◌, ◌==◌, Bool, true, false, Option, Some, None, List, [], ◌∷◌, ◌++◌, codes, decimal, if◌then◌else◌}
+use Rattle.std.specs.Prelude.{ℕ, ◌-◌, ◌==◌, Bool, true, false, not, Option, Some, None, List, [], ◌∷◌, ◌++◌, codes, decimal, if◌then◌else◌}
 use Rattle.fx_text.specs.declared.position.Position.{Position}
 use Rattle.fx_picture.specs.declared.stood.Stood.{Stood}
 
@@ -7,6 +7,15 @@ use Rattle.fx_picture.specs.declared.stood.Stood.{Stood}
 abbrev pub stood_at : List Stood → ℕ → ℕ → Option Stood
 stood_at [] f i = None
 stood_at (s ∷ stood) f i = if s.fiber == f then (if i == 0 then Some s else stood_at stood f (i - 1)) else stood_at stood f i
+
+-- the place is told to be closed, so that a request would not be seen there; or open
+abbrev pub is_told_closed : Option Stood → Bool
+is_told_closed None = false
+is_told_closed (Some s) = not s.is_open
+
+abbrev pub is_told_open : Option Stood → Bool
+is_told_open None = false
+is_told_open (Some s) = s.is_open
 
 -- the line and the column of a form, if they are known
 abbrev pub position_words : Option Position → List ℕ

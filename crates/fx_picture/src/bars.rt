@@ -4,9 +4,10 @@ ghost use Rattle.fx_svg.specs.Content.{rendering};
 ghost use Rattle.fx_picture.specs.Bars.{closing_row};
 ghost use Rattle.fx_picture.specs.Picture.{bar_end, ends_in, bar_line, bar_to, bar_of, bars_from};
 
-use crate::bar::{Bar, bar_at, life_at};
+use crate::bar::{Bar, bar_at, life_at, mask_at};
 use crate::drawn::Drawn;
 use crate::layout::{BOTTOM, MOST_EVENTS, lane_of, lane_x, row_y};
+use crate::stood::Stood;
 use fx_model::FiberReport;
 use fx_svg::{Attribute, Key, Tag, Value, push_element, push_end_tag, push_start_tag};
 use std::alloc::{AllocError, Global};
@@ -90,7 +91,7 @@ fn push_bar_to(
     if ends_in(from.row, closing) {
         return Ok(());
     }
-    let x = lane_x(lane_of(fibers, from.event.fiber)) + bar.aside();
+    let x = bar.beside(lane_x(lane_of(fibers, from.event.fiber)));
     let top = row_y(from.row);
     push_bar_line(alloc, text, bar, closing, x, top, bar_end(rows, closing))
 }
@@ -99,6 +100,7 @@ fn push_bar_to(
 fn push_bar_of(
     alloc: Global,
     text: &mut String,
+    stood: &[Stood],
     fibers: &[FiberReport],
     rows: u32,
     from: Drawn,
@@ -107,11 +109,11 @@ fn push_bar_of(
 ) -> Result<(), AllocError>
     requires { length fibers.now ≤ MOST_EVENTS }
     ensures { OnOk result (string_bytes text.new ≡ string_bytes text.old
-        ++ rendering (bar_of fibers.now rows from list.now bar)) }
+        ++ rendering (bar_of stood.now fibers.now rows from list.now bar)) }
 {
     match bar {
         Some(bar) => {
-            let closing = bar.closing_row(from.event.fiber, list);
+            let closing = bar.closing_row(stood, from.event.fiber, list);
             push_bar_to(alloc, text, fibers, rows, from, bar, closing)
         }
         None => Ok(()),
@@ -122,20 +124,23 @@ fn push_bar_of(
 pub(crate) fn push_bars(
     alloc: Global,
     text: &mut String,
+    stood: &[Stood],
     fibers: &[FiberReport],
     rows: u32,
     list: &[Drawn],
 ) -> Result<(), AllocError>
     requires { length fibers.now ≤ MOST_EVENTS }
     ensures { OnOk result (string_bytes text.new ≡ string_bytes text.old
-        ++ rendering (bars_from fibers.now rows list.now)) }
+        ++ rendering (bars_from stood.now fibers.now rows list.now)) }
 {
     let mut rest = list;
     while let Some((it, more)) = rest.split_first() {
         let life = life_at(it.event.place);
-        push_bar_of(alloc, text, fibers, rows, *it, rest, life)?;
+        push_bar_of(alloc, text, stood, fibers, rows, *it, rest, life)?;
         let bar = bar_at(it.event.event);
-        push_bar_of(alloc, text, fibers, rows, *it, rest, bar)?;
+        push_bar_of(alloc, text, stood, fibers, rows, *it, rest, bar)?;
+        let mask = mask_at(stood, it.event.fiber, it.event.place);
+        push_bar_of(alloc, text, stood, fibers, rows, *it, rest, mask)?;
         rest = more;
     }
     Ok(())

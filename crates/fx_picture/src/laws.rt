@@ -19,7 +19,8 @@ ghost use Rattle.fx_picture.specs.declared.drawn.Drawn.{Drawn};
 ghost use Rattle.fx_picture.specs.declared.stood.Stood.{Stood};
 ghost use Rattle.fx_picture.specs.Causes.{cause_of};
 ghost use Rattle.fx_picture.specs.Folds.{event_of, is_quiet, in_row, sheet_of};
-ghost use Rattle.fx_picture.specs.IsClosed.{Begins, IsClosed};
+ghost use Rattle.fx_picture.specs.IsClosed.{Begins, IsClosed, IsMasked};
+ghost use Rattle.fx_picture.specs.Stood.{stood_at, is_told_closed};
 ghost use Rattle.fx_picture.specs.Has.{Has, IsArrow};
 ghost use Rattle.fx_picture.specs.IsFolded.{SharesRow, IsRun, events_in};
 ghost use Rattle.fx_picture.specs.IsDrawn.{SaysItsCause, IsDrawn, HasArrow};
@@ -87,12 +88,19 @@ pub fn causes_are_drawn()
 {}
 
 /// Where the list is an order in which causes come first, each bar of a fiber that has ended is closed: its life,
-/// its clean-ups, and each resource that it acquired.
+/// its clean-ups, each resource that it acquired, and each closed place.
 pub fn bars_of_ended_fibers_are_closed()
     ensures { (s : ScriptView) (may : ℕ → Bool) (r : ReportView) (lawful : IsLawfulReport s may r)
-        (list : List Occurrence) (order : IsCausalOrder s may r lawful list)
+        (list : List Occurrence) (order : IsCausalOrder s may r lawful list) (stood : List Stood)
         → HoldsWhatIsPromised s r lawful.runs → (f : ℕ) (x : FiberReportView)
         → fiber_in r f ≡ Some x → x.has_ended ≡ true → (i : ℕ) (e : Event) (bar : Bar)
-        → slice_get x.trace i ≡ Some e → Begins i e bar
-        → IsClosed list f (order.moment f i) bar }
+        → slice_get x.trace i ≡ Some e → Begins stood f i e bar
+        → IsClosed stood list f (order.moment f i) bar }
+{}
+
+/// At each event that is told to be at a closed place the bar of such a place has begun and not ended, but by the end of the
+/// fiber.
+pub fn closed_places_have_bars()
+    ensures { (stood : List Stood) (f i : ℕ) → is_told_closed (stood_at stood f i) ≡ true
+        → IsMasked stood f i }
 {}

@@ -23,7 +23,7 @@ pub(crate) const LINE_RIGHT: u64 = 36;
 pub(crate) const WORDS: u64 = 46;
 
 /// How many rows it has at most.
-pub(crate) const MOST_ENTRIES: usize = 19;
+pub(crate) const MOST_ENTRIES: usize = 20;
 
 /// What is shown, by the name by which the style means it, and what that is in words.
 #[derive(Clone, Copy)]
@@ -236,6 +236,10 @@ fn push_lines(text: &mut String) -> Result<(), AllocError>
             class: "holding",
             words: "it holds a resource",
         },
+        Entry {
+            class: "masked",
+            words: "no cancellation acts",
+        },
     ];
     push_line_entries(text, 11, &entries)
 }
@@ -278,6 +282,6 @@ pub(crate) fn push_legend(text: &mut String) -> Result<(), AllocError>
     push_marks_of_fibers(text)?;
     push_marks_of_queues(text)?;
     push_lines(text)?;
-    push_fold_entry(text, 18, "so many events of a loop")?;
+    push_fold_entry(text, 19, "so many events of a loop")?;
     push_end_tag(text, Tag::Group)
 }

@@ -14,6 +14,7 @@ pub(crate) const STYLE: &str =
     .visited,.again{paint-order:stroke;stroke:#fff;stroke-width:3px}\
     .waits{fill:#a34700;font-weight:bold}.lane{stroke:#e4e4e4}\
     .queue{stroke:#009e73;stroke-width:3;opacity:.35}.life{stroke:#888;stroke-width:2}\
+    .masked{stroke:#56b4e9;stroke-width:4}\
     .unwinding{stroke:#d55e00;stroke-width:14;opacity:.25}.holding{stroke:#cc79a7;stroke-width:4}\
     .open{stroke-dasharray:4 4}circle{stroke-width:2;stroke:#555;fill:#fff}\
     .start{stroke:#0072b2;fill:#0072b2}.learn{stroke:#0072b2}\

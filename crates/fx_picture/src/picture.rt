@@ -131,6 +131,7 @@ fn push_ground(
     alloc: Global,
     text: &mut String,
     queues: &[QueueDecl],
+    stood: &[Stood],
     blocked: &[Blocked],
     fibers: &[FiberReport],
     sheet: &Sheet,
@@ -138,11 +139,11 @@ fn push_ground(
     requires fibers { length fibers.now ≤ MOST_EVENTS }
     requires queues { length queues.now ≤ MOST_EVENTS }
     ensures { OnOk result (string_bytes text.new ≡ string_bytes text.old ++ rendering
-        (ground_of (names_of queues.now) blocked.now fibers.now (view_sheet sheet.now))) }
+        (ground_of (names_of queues.now) stood.now blocked.now fibers.now (view_sheet sheet.now))) }
 {
     push_lanes(alloc, text, queues, blocked, sheet.rows, fibers)?;
     push_queue_lanes(alloc, text, sheet.rows, fibers.len(), queues)?;
-    push_bars(alloc, text, fibers, sheet.rows, &sheet.drawn)
+    push_bars(alloc, text, stood, fibers, sheet.rows, &sheet.drawn)
 }
 
 /// Appends what happens on the lanes of these fibers and queues.
@@ -184,7 +185,7 @@ fn push_drawing(
     push_start(text, fibers.len() + queues.len(), sheet.rows)?;
     push_head(alloc, text, fibers.len(), sheet.drawn.len())?;
     push_legend(text)?;
-    push_ground(alloc, text, queues, blocked, fibers, sheet)?;
+    push_ground(alloc, text, queues, stood, blocked, fibers, sheet)?;
     push_figures(alloc, text, queues, stood, fibers, sheet)?;
     push_end_tag(text, Tag::Svg)
 }

@@ -1,6 +1,6 @@
 //! Where fibers stood when they showed their events.
 ghost use Rattle.std.specs.Prelude.{◌≡◌, ◌++◌, OnOk, string_bytes};
-ghost use Rattle.fx_picture.specs.Stood.{stood_at, position_words, open_words, stood_words};
+ghost use Rattle.fx_picture.specs.Stood.{stood_at, is_told_closed, is_told_open, position_words, open_words, stood_words};
 
 use fx_order::Occurrence;
 use fx_text::Position;
@@ -15,15 +15,15 @@ pub struct Stood {
     pub is_open: bool,
 }
 
-/// What is told of that event, if something is: the first of these of its fiber is told of the first event of that, and so
-/// on.
-fn stood_at(stood: &[Stood], event: Occurrence) -> Option<Stood>
-    ensures { result ≡ stood_at stood.now event.fiber event.place }
+/// What is told of the event in that place of the fiber, if something is: the first of these of a fiber is told of its first
+/// event, and so on.
+fn stood_at(stood: &[Stood], fiber: u32, place: usize) -> Option<Stood>
+    ensures { result ≡ stood_at stood.now fiber place }
 {
-    let mut left = event.place;
+    let mut left = place;
     let mut rest = stood;
     while let Some((it, more)) = rest.split_first() {
-        if it.fiber == event.fiber {
+        if it.fiber == fiber {
             if left == 0 {
                 return Some(*it);
             }
@@ -32,6 +32,26 @@ fn stood_at(stood: &[Stood], event: Occurrence) -> Option<Stood>
         rest = more;
     }
     None
+}
+
+/// Whether that event is told to be at a closed place.
+pub(crate) fn is_told_closed(stood: &[Stood], fiber: u32, place: usize) -> bool
+    ensures { result ≡ is_told_closed (stood_at stood.now fiber place) }
+{
+    match stood_at(stood, fiber, place) {
+        Some(it) => !it.is_open,
+        None => false,
+    }
+}
+
+/// Whether it is told to be at an open one.
+pub(crate) fn is_told_open(stood: &[Stood], fiber: u32, place: usize) -> bool
+    ensures { result ≡ is_told_open (stood_at stood.now fiber place) }
+{
+    match stood_at(stood, fiber, place) {
+        Some(it) => it.is_open,
+        None => false,
+    }
 }
 
 /// Appends where a form stands, if that is known.
@@ -65,7 +85,7 @@ pub(crate) fn push_stood(
     ensures { OnOk result
         (string_bytes text.new ≡ string_bytes text.old ++ stood_words (stood_at stood.now event.fiber event.place)) }
 {
-    match stood_at(stood, event) {
+    match stood_at(stood, event.fiber, event.place) {
         Some(it) => {
             push_position(text, it.position)?;
             push_open(text, it.is_open)

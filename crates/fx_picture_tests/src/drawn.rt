@@ -29,8 +29,8 @@ static STOOD: [Stood; 3] = [
 ];
 
 /// What stands in the picture: rows are 18 apart from 64 on, and lanes 96 from 260 on.
-static DRAWN: [&str; 16] = [
-    "<svg xmlns=\"http://www.w3.org/2000/svg\" role=\"img\" width=\"452\" height=\"378\"><title>",
+static DRAWN: [&str; 18] = [
+    "<svg xmlns=\"http://www.w3.org/2000/svg\" role=\"img\" width=\"452\" height=\"396\"><title>",
     "<desc>2 fibers and 7 events. Each fiber",
     "<line class=\"lane\" x1=\"260\" y1=\"44\" x2=\"260\" y2=\"200\"></line>",
     "<text class=\"name\" x=\"356\" y=\"20\">fiber 1</text>",
@@ -38,6 +38,8 @@ static DRAWN: [&str; 16] = [
     "<text class=\"ended\" x=\"356\" y=\"218\">canceled</text>",
     "<line class=\"life\" x1=\"260\" y1=\"64\" x2=\"260\" y2=\"172\"><title>",
     "<line class=\"unwinding\" x1=\"356\" y1=\"118\" x2=\"356\" y2=\"136\"><title>",
+    "<line class=\"masked\" x1=\"252\" y1=\"64\" x2=\"252\" y2=\"172\"><title>closed: no cancellation acts<",
+    "<line class=\"masked\" x1=\"348\" y1=\"118\" x2=\"348\" y2=\"136\"><title>",
     "<line class=\"arrow start\" x1=\"260\" y1=\"64\" x2=\"356\" y2=\"100\"></line>",
     "<line class=\"arrow cancel dashed\" x1=\"260\" y1=\"82\" x2=\"356\" y2=\"100\"></line>",
     "<line class=\"arrow end\" x1=\"356\" y1=\"136\" x2=\"260\" y2=\"154\"></line>",
@@ -50,7 +52,7 @@ static DRAWN: [&str; 16] = [
 
 /// What stands in that of a fiber which does nine things, of which the first is no part of a run, and ends.
 static FOLDED: [&str; 5] = [
-    "width=\"452\" height=\"378\"><title>",
+    "width=\"452\" height=\"396\"><title>",
     "<circle class=\"put\" cx=\"260\" cy=\"64\" r=\"5\"><title>0 1 put jobs 0</title>\n</circle>",
     "<g class=\"fold\"><title>8 events:&#10;0 2 put jobs 1&#10;0 3 put jobs 2&#10;0 4 put jobs 3&#10;0 5 put jobs 4",
     "<rect x=\"246\" y=\"75\" width=\"28\" height=\"14\"></rect>\n<text class=\"count\" x=\"260\" y=\"86\">8</text>\n</g>",
@@ -59,7 +61,7 @@ static FOLDED: [&str; 5] = [
 
 /// What stands in that of a fiber which waits, holds a resource and has put an element.
 static HELD: [&str; 7] = [
-    "width=\"452\" height=\"378\"><title>",
+    "width=\"452\" height=\"396\"><title>",
     "<text class=\"name\" x=\"356\" y=\"20\">queue jobs</text>",
     "<text class=\"waits\" x=\"260\" y=\"36\">blocked</text>",
     "<text class=\"waits\" x=\"260\" y=\"144\">room in jobs</text>",

@@ -6,7 +6,8 @@ use Rattle.fx_picture.proofs.bars.push_bars.Given as goal
 -- what is written so far, and the other bars, are all
 abbrev pub invariant-loop-it : goal.invariant-loop-it
 invariant-loop-it l =
-    string_bytes l.text ++ rendering (bars_from l.fibers l.rows l.rest) ≡ string_bytes l.fn.text ++ rendering (bars_from l.fibers l.rows l.list)
+    string_bytes l.text ++ rendering (bars_from l.stood l.fibers l.rows l.rest)
+    ≡ string_bytes l.fn.text ++ rendering (bars_from l.stood l.fibers l.rows l.list)
 
 abbrev pub decreases-loop-it : goal.decreases-loop-it
 decreases-loop-it l = length l.rest

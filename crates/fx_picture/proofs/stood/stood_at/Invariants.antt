@@ -3,7 +3,7 @@ use Rattle.fx_picture.specs.Stood.{stood_at}
 use Rattle.fx_picture.proofs.stood.stood_at.Given as goal
 
 abbrev pub invariant-loop-it : goal.invariant-loop-it
-invariant-loop-it l = stood_at l.rest l.event.fiber l.left ≡ stood_at l.stood l.event.fiber l.event.place
+invariant-loop-it l = stood_at l.rest l.fiber l.left ≡ stood_at l.stood l.fiber l.place
 
 abbrev pub decreases-loop-it : goal.decreases-loop-it
 decreases-loop-it l = length l.rest
