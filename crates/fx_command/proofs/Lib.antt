@@ -2,6 +2,10 @@ mod Refused
 mod Performed
 mod PictureWords
 mod StoodEventsLaws
+mod ShownCounts
+mod HeldPuts
+mod GetsInOrder
+mod ToldOf
 mod WorkersLaws
 mod StatesLaws
 mod Fetched

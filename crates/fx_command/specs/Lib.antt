@@ -10,7 +10,10 @@ pub mod Printable
 pub mod Said
 pub mod Fetched
 pub mod Passed
+pub mod SoFar
 pub mod StoodEvents
+pub mod TakesInOrder
+pub mod IsToldOf
 pub mod Pictured
 pub mod Placed
 pub mod ToldText

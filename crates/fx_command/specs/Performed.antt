@@ -85,7 +85,7 @@ pub data IsPerformed (source : List ℕ) (m : Meaning) (picks : List Pick) (expe
   pictured : {r : ReportView} {blocked : List Blocked} {passed : Option PassedOver} {nodes : List Node} {places : List FormPlace} {told : List Told}
       {words text : List ℕ} {status : ℕ} → root_term nodes ≡ m.term → IsReplayWithBlocked nodes (script_of m) picks r blocked
       → TellsPassed (script_of m) picks passed → ArePlacesOrNone source nodes places → TellsRun nodes (script_of m) picks told
-      → IsPictured (queue_names m) (stood_events places (total (script_of m)) told) r blocked
+      → IsPictured (queue_names m) (stood_events places (total (script_of m)) (length m.queues) told) r blocked
       (replay_words (queue_names m) passed (positions_of places) blocked) words status text
       → IsPerformed source m picks expected Picture words status text
   picture_ran : {workers : ℕ} {r : ReportView} {blocked : List Blocked} {nodes : List Node} {places : List FormPlace} {words text : List ℕ} {status : ℕ}

@@ -13,8 +13,8 @@
 //!    those about picks of the schedule that were passed over. Or it searches all runs of the script, and
 //!    writes what it has found, or of that the first report that is not expected. `placed` finds where the nodes of
 //!    the script stand in its text, for those words and for the steps; `told_text` writes the steps, `stood` knows at
-//!    which node each fiber stood last, and `stood_events` at which place it showed each event, for `pictured`,
-//!    which draws runs.
+//!    which node each fiber stood last, `so_far` whose puts each queue holds, and `stood_events` what is told of each
+//!    event, for `pictured`, which draws runs.
 //! 5. `stream` is what is written to: a writer, of which contracts know whether it has refused a write.
 //! 6. `command` goes through these in that order, gives the status, and says on standard error those
 //!    words, or why nothing was printed.
@@ -35,6 +35,7 @@ mod command_fault;
 mod excerpt;
 mod explain;
 pub mod files;
+mod held_puts;
 mod help;
 pub mod laws;
 mod open_groups;
@@ -47,6 +48,7 @@ mod position;
 mod printable;
 mod schedule_words;
 mod script_words;
+mod so_far;
 mod states;
 mod stood;
 mod stood_events;

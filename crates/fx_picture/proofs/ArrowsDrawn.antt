@@ -7,7 +7,9 @@ use Rattle.fx_svg.specs.Content.{Content}
 use Rattle.fx_picture.specs.declared.cause.Cause.{Cause}
 use Rattle.fx_picture.specs.declared.drawn.Drawn.{Drawn}
 use Rattle.fx_picture.specs.declared.stood.Stood.{Stood}
-use Rattle.fx_picture.specs.Causes.{cause_of}
+use Rattle.fx_picture.specs.declared.stood.EventAt.{EventAt}
+use Rattle.fx_picture.specs.Stood.{stood_at, told_cause}
+use Rattle.fx_picture.specs.Causes.{cause_in}
 use Rattle.fx_picture.specs.Folds.{sheet_of}
 use Rattle.fx_picture.specs.Has.{Has, IsArrow}
 use Rattle.fx_picture.specs.Picture.{arrow, arrow_for, arrows_to, arrows_from, picture}
@@ -27,38 +29,42 @@ in_front (y ∷ xs) i zero x is = absurd (cc is)
 in_front (y ∷ xs) zero (suc j) x is = (omega arith, is)
 in_front (y ∷ xs) (suc i) (suc j) x is = let rest = in_front xs i j x is in (let lt : i < j = rest.0 in omega arith, rest.1)
 
-module _ (fibers : List FiberReportView) where
+module _ (stood : List Stood) (fibers : List FiberReportView) where
+  -- the event that is told to have caused y
+  abbrev told_of : Drawn → Option EventAt
+  told_of y = told_cause (stood_at stood y.event.fiber y.event.place)
+
   -- there is an arrow to y from each of these that it stands on
-  has_to : (y : Drawn) (xs : List Drawn) (k : ℕ) (x : Drawn) (cause : Cause) → slice_get xs k ≡ Some x → cause_of x.event y.event ≡ Some cause
-      → Has (arrows_to fibers y xs) (arrow fibers x y cause)
+  has_to : (y : Drawn) (xs : List Drawn) (k : ℕ) (x : Drawn) (cause : Cause) → slice_get xs k ≡ Some x → cause_in stood x.event y.event ≡ Some cause
+      → Has (arrows_to fibers (told_of y) y xs) (arrow fibers x y cause)
   has_to y [] k x cause is stands = absurd (cc is)
   has_to y (z ∷ xs) zero x cause is stands =
       let same : z ≡ x = cc is in
       inl (subst (λ (o : Option Cause). Has (arrow_for fibers z y o) (arrow fibers x y cause))
-      (sym (ap (λ (w : Drawn). cause_of w.event y.event) same ∙ stands)) (inl (ap (λ (w : Drawn). arrow fibers w y cause) (sym same))))
+      (sym (ap (λ (w : Drawn). cause_in stood w.event y.event) same ∙ stands)) (inl (ap (λ (w : Drawn). arrow fibers w y cause) (sym same))))
   has_to y (z ∷ xs) (suc k) x cause is stands = inr (has_to y xs k x cause is stands)
 
   has_from : (list ys : List Drawn) (place k : ℕ) (y : Drawn) (e : Content) → slice_get ys k ≡ Some y
-      → Has (arrows_to fibers y (take (place + k) list)) e → Has (arrows_from fibers list place ys) e
+      → Has (arrows_to fibers (told_of y) y (take (place + k) list)) e → Has (arrows_from stood fibers list place ys) e
   has_from list [] place k y e is has = absurd (cc is)
   has_from list (z ∷ ys) place zero y e is has =
       let same : y ≡ z = cc is in
       let here : place + 0 ≡ place = omega arith in
-      inl (subst (λ (n : ℕ). Has (arrows_to fibers z (take n list)) e) here
-      (subst (λ (w : Drawn). Has (arrows_to fibers w (take (place + 0) list)) e) same has))
+      inl (subst (λ (n : ℕ). Has (arrows_to fibers (told_of z) z (take n list)) e) here
+      (subst (λ (w : Drawn). Has (arrows_to fibers (told_of w) w (take (place + 0) list)) e) same has))
   has_from list (z ∷ ys) place (suc k) y e is has =
       let next : place + suc k ≡ suc place + k = omega arith in
-      inr (has_from list ys (suc place) k y e is (subst (λ (n : ℕ). Has (arrows_to fibers y (take n list)) e) next has))
+      inr (has_from list ys (suc place) k y e is (subst (λ (n : ℕ). Has (arrows_to fibers (told_of y) y (take n list)) e) next has))
 
-  pub none_missing : (names : List (List ℕ)) (stood : List Stood) (blocked : List Blocked) (list : List Occurrence) (above below : ℕ) (first second : Drawn)
-      (cause : Cause) → above < below → slice_get (sheet_of list).drawn above ≡ Some first → slice_get (sheet_of list).drawn below ≡ Some second
-      → cause_of first.event second.event ≡ Some cause → Has (picture names stood blocked fibers list) (arrow fibers first second cause)
-  none_missing names stood blocked list above below first second cause lt is_first is_second stands =
-      let drawn = (sheet_of list).drawn in
+  pub none_missing : (names : List (List ℕ)) (blocked : List Blocked) (list : List Occurrence) (above below : ℕ) (first second : Drawn)
+      (cause : Cause) → above < below → slice_get (sheet_of stood list).drawn above ≡ Some first → slice_get (sheet_of stood list).drawn below ≡ Some second
+      → cause_in stood first.event second.event ≡ Some cause → Has (picture names stood blocked fibers list) (arrow fibers first second cause)
+  none_missing names blocked list above below first second cause lt is_first is_second stands =
+      let drawn = (sheet_of stood list).drawn in
       let zero_below : below ≡ 0 + below = omega arith in
       let one = has_to second (take below drawn) above first cause (above_place drawn above below first lt is_first) stands in
       inr (inr (inr (inr (inr (inl (has_from drawn drawn 0 below second _ is_second
-      (subst (λ (n : ℕ). Has (arrows_to fibers second (take n drawn)) (arrow fibers first second cause)) zero_below one)))))))
+      (subst (λ (n : ℕ). Has (arrows_to fibers (told_of second) second (take n drawn)) (arrow fibers first second cause)) zero_below one)))))))
 
   -- one of these that y stands on, and its arrow
   record IsFrom (y : Drawn) (xs : List Drawn) (e : Content) : Type 0 where
@@ -66,19 +72,19 @@ module _ (fibers : List FiberReportView) where
     event : Drawn
     cause : Cause
     is_event : slice_get xs place ≡ Some event
-    stands : cause_of event.event y.event ≡ Some cause
+    stands : cause_in stood event.event y.event ≡ Some cause
     is : e ≡ arrow fibers event y cause
 
-  found_by : (y z : Drawn) (xs : List Drawn) (e : Content) (o : Option Cause) → cause_of z.event y.event ≡ o
+  found_by : (y z : Drawn) (xs : List Drawn) (e : Content) (o : Option Cause) → cause_in stood z.event y.event ≡ o
       → Has (arrow_for fibers z y o) e → IsFrom y (z ∷ xs) e
   found_by y z xs e None stands has = absurd has
   found_by y z xs e (Some cause) stands (inl same) =
       record { place = 0; event = z; cause = cause; is_event = refl; stands = stands; is = same }
   found_by y z xs e (Some cause) stands (inr none) = absurd none
 
-  found_to : (y : Drawn) (xs : List Drawn) (e : Content) → Has (arrows_to fibers y xs) e → IsFrom y xs e
+  found_to : (y : Drawn) (xs : List Drawn) (e : Content) → Has (arrows_to fibers (told_of y) y xs) e → IsFrom y xs e
   found_to y [] e has = absurd has
-  found_to y (z ∷ xs) e (inl has) = found_by y z xs e (cause_of z.event y.event) refl has
+  found_to y (z ∷ xs) e (inl has) = found_by y z xs e (cause_in stood z.event y.event) refl has
   found_to y (z ∷ xs) e (inr has) =
       let rest = found_to y xs e has in
       record {
@@ -94,13 +100,13 @@ module _ (fibers : List FiberReportView) where
     at : ℕ
     event : Drawn
     is_event : slice_get ys at ≡ Some event
-    has : Has (arrows_to fibers event (take (place + at) list)) e
+    has : Has (arrows_to fibers (told_of event) event (take (place + at) list)) e
 
-  found_from : (list : List Drawn) (place : ℕ) (ys : List Drawn) (e : Content) → Has (arrows_from fibers list place ys) e → IsTo list place ys e
+  found_from : (list : List Drawn) (place : ℕ) (ys : List Drawn) (e : Content) → Has (arrows_from stood fibers list place ys) e → IsTo list place ys e
   found_from list place [] e has = absurd has
   found_from list place (y ∷ ys) e (inl has) =
       let here : place ≡ place + 0 = omega arith in
-      record { at = 0; event = y; is_event = refl; has = subst (λ (n : ℕ). Has (arrows_to fibers y (take n list)) e) here has }
+      record { at = 0; event = y; is_event = refl; has = subst (λ (n : ℕ). Has (arrows_to fibers (told_of y) y (take n list)) e) here has }
   found_from list place (y ∷ ys) e (inr has) =
       let rest = found_from list (suc place) ys e has in
       let next : suc place + rest.at ≡ place + suc rest.at = omega arith in
@@ -108,14 +114,14 @@ module _ (fibers : List FiberReportView) where
         at = suc rest.at;
         event = rest.event;
         is_event = rest.is_event;
-        has = subst (λ (n : ℕ). Has (arrows_to fibers rest.event (take n list)) e) next rest.has;
+        has = subst (λ (n : ℕ). Has (arrows_to fibers (told_of rest.event) rest.event (take n list)) e) next rest.has;
       }
 
-  pub is_arrow : (list : List Drawn) (e : Content) → Has (arrows_from fibers list 0 list) e → IsArrow fibers list e
+  pub is_arrow : (list : List Drawn) (e : Content) → Has (arrows_from stood fibers list 0 list) e → IsArrow stood fibers list e
   is_arrow list e has =
       let to = found_from list 0 list e has in
       let row : 0 + to.at ≡ to.at = omega arith in
-      let from = found_to to.event (take to.at list) e (subst (λ (n : ℕ). Has (arrows_to fibers to.event (take n list)) e) row to.has) in
+      let from = found_to to.event (take to.at list) e (subst (λ (n : ℕ). Has (arrows_to fibers (told_of to.event) to.event (take n list)) e) row to.has) in
       let front = in_front list from.place to.at from.event from.is_event in
       record {
         above = from.place;

@@ -112,10 +112,10 @@ module _ (s : ScriptView) (may : ℕ → Bool) (r : ReportView) (lawful : IsLawf
       let closed : slice_get (trace_in r f) c.place ≡ Some c.event = subst (λ (es : List Event). slice_get es c.place ≡ Some c.event) (sym same) c.is in
       let le = moments i c.place c.behind (slice_get_within _ i e here) (slice_get_within _ c.place c.event closed) in
       let sum : order.moment f i + (order.moment f c.place - order.moment f i) ≡ order.moment f c.place = omega arith in
-      let at_end = drawn_at list (order.moment f c.place) _ (order.stands f c.place c.event closed) in
+      let at_end = drawn_at stood list (order.moment f c.place) _ (order.stands f c.place c.event closed) in
       let got =
-      got_behind (order.moment f i) (sheet_of list).drawn (order.moment f c.place - order.moment f i) ∙ ap (slice_get (sheet_of list).drawn) sum ∙ at_end.1 in
-      closed_by stood f bar (drop (order.moment f i) (sheet_of list).drawn) (order.moment f c.place - order.moment f i) at_end.0 got
+      got_behind (order.moment f i) (sheet_of stood list).drawn (order.moment f c.place - order.moment f i) ∙ ap (slice_get (sheet_of stood list).drawn) sum ∙ at_end.1 in
+      closed_by stood f bar (drop (order.moment f i) (sheet_of stood list).drawn) (order.moment f c.place - order.moment f i) at_end.0 got
       (ap (λ (o : Occurrence). o.fiber) at_end.2) (c.does at_end.0.event (ap (λ (o : Occurrence). o.event) at_end.2))
     where
       moments : (i j : ℕ) → i ≤ j → i < length (trace_in r f) → j < length (trace_in r f) → order.moment f i ≤ order.moment f j

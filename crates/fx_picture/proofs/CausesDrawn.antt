@@ -19,12 +19,12 @@ use Rattle.fx_order.specs.declared.occurrence.Occurrence.{Occurrence}
 use Rattle.fx_order.specs.CausalOrder.{IsCausalOrder}
 use Rattle.fx_report.specs.declared.blocked.Blocked.{Blocked}
 use Rattle.fx_picture.specs.declared.cause.Cause.{Cause}
-use Rattle.fx_picture.specs.declared.cause.Cause.TheVariants.{Start, End, Request}
+use Rattle.fx_picture.specs.declared.cause.Cause.TheVariants.{Start, End, Request, Element}
 use Rattle.fx_picture.specs.declared.drawn.Drawn.{Drawn}
 use Rattle.fx_picture.specs.declared.stood.Stood.{Stood}
-use Rattle.fx_picture.specs.Causes.{is_told_by, cause_of}
+use Rattle.fx_picture.specs.Causes.{is_told_by, is_at, cause_in}
 use Rattle.fx_picture.specs.Folds.{sheet_of}
-use Rattle.fx_picture.specs.IsDrawn.{SaysItsCause, IsDrawn, HasArrow}
+use Rattle.fx_picture.specs.IsDrawn.{SaysItsCause, Tells, IsDrawn, HasArrow}
 use Rattle.fx_picture.proofs.ArrowsDrawn.{none_missing}
 use Rattle.fx_picture.proofs.Quiet.{drawn_at, goes_down}
 use Rattle.fx_picture.proofs.NamedEnds.{Names, run_names}
@@ -42,24 +42,33 @@ module _ (s : ScriptView) (may : ℕ → Bool) (r : ReportView) (lawful : IsLawf
   event_of f i e = record { fiber = f; place = i; event = e; stamp = stamp_in r f i }
 
   abbrev drawn : List Drawn
-  drawn = (sheet_of list).drawn
+  drawn = (sheet_of stood list).drawn
 
   -- an event that stands on one above it is drawn with an arrow
   is_drawn : (f i g j : ℕ) (e d : Event) (cause : Cause) → slice_get (trace_in r f) i ≡ Some e → slice_get (trace_in r g) j ≡ Some d
-      → order.moment g j < order.moment f i → cause_of (event_of g j d) (event_of f i e) ≡ Some cause → IsDrawn names stood blocked r list f i g j
+      → order.moment g j < order.moment f i → cause_in stood (event_of g j d) (event_of f i e) ≡ Some cause → IsDrawn names stood blocked r list f i g j
   is_drawn f i g j e d cause at by above stands =
-      let from = drawn_at list (order.moment g j) (event_of g j d) (order.stands g j d by) in
-      let to = drawn_at list (order.moment f i) (event_of f i e) (order.stands f i e at) in
-      let joined : cause_of from.0.event to.0.event ≡ Some cause = rw (from.2, to.2) stands in
+      let from = drawn_at stood list (order.moment g j) (event_of g j d) (order.stands g j d by) in
+      let to = drawn_at stood list (order.moment f i) (event_of f i e) (order.stands f i e at) in
+      let joined : cause_in stood from.0.event to.0.event ≡ Some cause = rw (from.2, to.2) stands in
       record {
         from = from.0;
         to = to.0;
         cause = cause;
         begins = record { fiber = ap (λ (o : Occurrence). o.fiber) from.2; place = ap (λ (o : Occurrence). o.place) from.2 };
         ends = record { fiber = ap (λ (o : Occurrence). o.fiber) to.2; place = ap (λ (o : Occurrence). o.place) to.2 };
-        goes_down = goes_down list (order.moment g j) (order.moment f i) from.0 to.0 cause above from.1 to.1 joined;
-        has = none_missing r.fibers names stood blocked list (order.moment g j) (order.moment f i) from.0 to.0 cause above from.1 to.1 joined;
+        goes_down = goes_down stood list (order.moment g j) (order.moment f i) from.0 to.0 cause above from.1 to.1 joined;
+        has = none_missing stood r.fibers names blocked list (order.moment g j) (order.moment f i) from.0 to.0 cause above from.1 to.1 joined;
       }
+
+  proper : (f i g j : ℕ) (l : LearnsOfEnd (trace_in r) lawful.runs.labels f i g j) → IsProper (Learns g l.outcome l.learning)
+  proper f i g j l = by_fiber (fiber_in r f) refl
+    where
+      by_fiber : (o : Option FiberReportView) → fiber_in r f ≡ o → IsProper (Learns g l.outcome l.learning)
+      by_fiber None none =
+          absurd (none-some l.learning (sym (ap (λ (o : Option FiberReportView). slice_get (trace_of_report o) i) none) ∙ l.tells))
+      by_fiber (Some x) there =
+          shown_holds IsProper (lawful.runs.labels f) i _ (run_is_proper _ _ _ _ (lawful.runs.labels f) (lawful.runs.run f x there).run) l.learns
 
   tells : (f i g j : ℕ) (l : LearnsOfEnd (trace_in r) lawful.runs.labels f i g j) → SaysItsCause l.learning → is_told_by g l.learning ≡ true
   tells f i g j l says = by_fiber (fiber_in r f) refl
@@ -82,6 +91,33 @@ module _ (s : ScriptView) (may : ℕ → Bool) (r : ReportView) (lawful : IsLawf
       let above = order.in_order.needed f i g j (slice_get_within _ i e at) (slice_get_within _ j _ l.ended) (needs.end_of_other l) in
       is_drawn f i g j l.learning (event.Ended l.outcome) End l.tells l.ended above (rw told)
   cause_is_drawn f i g j e at says (needs.start first started) =
+      let above = order.in_order.needed f i g j (slice_get_within _ i e at) (slice_get_within _ j _ started) (needs.start first started) in
+      is_drawn f i g j e (event.Start f) Start at started above (rw (eq-eqb i 0 first, eq-eqb f f refl))
+
+  -- so is a cause that is told
+  is_here : (g j : ℕ) (d : Event) → is_at (event_of g j d) (Some (record { fiber = g; place = j })) ≡ true
+  is_here g j d = rw (eq-eqb g g refl, eq-eqb j j refl) refl
+
+  -- that of a first, and that of another event which learns of an end
+  end_is_drawn : (f i g j : ℕ) (e : Event) → slice_get (trace_in r f) i ≡ Some e → Tells stood f i g j
+      → (l : LearnsOfEnd (trace_in r) lawful.runs.labels f i g j) → IsProper (Learns g l.outcome e) → IsDrawn names stood blocked r list f i g j
+  end_is_drawn f i g j (event.First n) at told l is_proper =
+      let above = order.in_order.needed f i g j (slice_get_within _ i _ at) (slice_get_within _ j _ l.ended) (needs.end_of_other l) in
+      is_drawn f i g j (event.First n) (event.Ended l.outcome) End at l.ended above (rw (told, is_here g j (event.Ended l.outcome)) refl)
+  end_is_drawn f i g j (event.Joined h o) at told l is_proper = cause_is_drawn f i g j (event.Joined h o) at tt (needs.end_of_other l)
+  end_is_drawn f i g j (event.Awaited h) at told l is_proper = cause_is_drawn f i g j (event.Awaited h) at tt (needs.end_of_other l)
+  end_is_drawn f i g j _ at told l is_proper = absurd is_proper
+
+  pub told_is_drawn : (f i g j : ℕ) (e : Event) → slice_get (trace_in r f) i ≡ Some e → Tells stood f i g j
+      → Needs (trace_in r) lawful.runs.labels (LeavesQueue s may r lawful) f i g j → IsDrawn names stood blocked r list f i g j
+  told_is_drawn f i g j e at told (needs.taken_element t) =
+      let above = order.in_order.needed f i g j (slice_get_within _ i _ t.got) (slice_get_within _ j _ t.put) (needs.taken_element t) in
+      is_drawn f i g j (event.Got t.queue t.value) (event.Put t.queue t.value) Element t.got t.put above
+      (rw (told, is_here g j (event.Put t.queue t.value), eq-eqb t.queue t.queue refl, eq-eqb t.value t.value refl) refl)
+  told_is_drawn f i g j e at told (needs.end_of_other l) =
+      end_is_drawn f i g j e at told l
+      (subst (λ (v : Event). IsProper (Learns g l.outcome v)) (same_Some l.learning e (sym l.tells ∙ at)) (proper f i g j l))
+  told_is_drawn f i g j e at told (needs.start first started) =
       let above = order.in_order.needed f i g j (slice_get_within _ i e at) (slice_get_within _ j _ started) (needs.start first started) in
       is_drawn f i g j e (event.Start f) Start at started above (rw (eq-eqb i 0 first, eq-eqb f f refl))
 

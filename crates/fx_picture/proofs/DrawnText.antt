@@ -9,7 +9,7 @@ use Rattle.fx_picture.specs.Folds.{SheetView, sheet_of}
 use Rattle.fx_picture.specs.Picture.{drawing, picture_text}
 
 pub drawn_as : (t₀ t₁ : List ℕ) (names : List (List ℕ)) (stood : List Stood) (blocked : List Blocked) (fibers : List FiberReportView) (list : List Occurrence)
-    (sheet : SheetView) → sheet ≡ sheet_of list → t₁ ≡ t₀ ++ rendering (drawing names stood blocked fibers sheet)
+    (sheet : SheetView) → sheet ≡ sheet_of stood list → t₁ ≡ t₀ ++ rendering (drawing names stood blocked fibers sheet)
     → t₁ ≡ t₀ ++ picture_text names stood blocked fibers list
 unfolding picture_text
 drawn_as t₀ t₁ names stood blocked fibers list sheet same is =

@@ -47,10 +47,10 @@ once_each rows [] below = rw (none_in rows) (IsPermutation-refl [])
 once_each rows (x ∷ xs) below =
     IsPermutation-trans _ _ _ (IsPermutation-cons x.event _ _ (once_each rows xs (λ k y is. below (suc k) y is))) (with_one rows x xs (below 0 x refl))
 
-pub each_once : (list : List Occurrence) → IsPermutation list (events_in (sheet_of list).rows (sheet_of list).drawn)
-each_once list =
-    subst (λ (l : List Occurrence). IsPermutation l (events_in (sheet_of list).rows (sheet_of list).drawn)) (same_events list)
-    (once_each (sheet_of list).rows (sheet_of list).drawn (sheet_is_sound list).below)
+pub each_once : (stood : List Stood) (list : List Occurrence) → IsPermutation list (events_in (sheet_of stood list).rows (sheet_of stood list).drawn)
+each_once stood list =
+    subst (λ (l : List Occurrence). IsPermutation l (events_in (sheet_of stood list).rows (sheet_of stood list).drawn)) (same_events stood list)
+    (once_each (sheet_of stood list).rows (sheet_of stood list).drawn (sheet_is_sound stood list).below)
 
 -- an event stands among those of its row
 pub stands_in : (k : ℕ) (xs : List Drawn) (x : Drawn) → slice_get xs k ≡ Some x → Contains (in_row x.row xs) x.event
@@ -82,12 +82,12 @@ module _ (names : List (List ℕ)) (stood : List Stood) (fibers : List FiberRepo
 
 pub is_marked : (names : List (List ℕ)) (stood : List Stood) (blocked : List Blocked) (fibers : List FiberReportView)
     (list : List Occurrence) (place : ℕ) (x : Drawn)
-    → slice_get (sheet_of list).drawn place ≡ Some x
-    → Contains (in_row x.row (sheet_of list).drawn) x.event × Has (picture names stood blocked fibers list)
-    (mark_of names stood fibers x.row (in_row x.row (sheet_of list).drawn))
+    → slice_get (sheet_of stood list).drawn place ≡ Some x
+    → Contains (in_row x.row (sheet_of stood list).drawn) x.event × Has (picture names stood blocked fibers list)
+    (mark_of names stood fibers x.row (in_row x.row (sheet_of stood list).drawn))
 is_marked names stood blocked fibers list place x is =
-    let stands = stands_in place (sheet_of list).drawn x is in (
+    let stands = stands_in place (sheet_of stood list).drawn x is in (
       stands,
-      inr (inr (inr (inr (inr (inr (has_mark names stood fibers (sheet_of list).drawn (sheet_of list).rows x.row _ ((sheet_is_sound list).below place x is)
-          (own_mark names stood fibers x.row (in_row x.row (sheet_of list).drawn) x.event stands))))))),
+      inr (inr (inr (inr (inr (inr (has_mark names stood fibers (sheet_of stood list).drawn (sheet_of stood list).rows x.row _ ((sheet_is_sound stood list).below place x is)
+          (own_mark names stood fibers x.row (in_row x.row (sheet_of stood list).drawn) x.event stands))))))),
     )

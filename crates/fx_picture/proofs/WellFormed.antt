@@ -15,6 +15,8 @@ use Rattle.fx_picture.specs.declared.cause.Cause.{Cause}
 use Rattle.fx_picture.specs.declared.drawn.Drawn.{Drawn}
 use Rattle.fx_picture.specs.declared.stood.Stood.{Stood}
 use Rattle.fx_picture.specs.declared.layout.TheConstants.{AGAIN}
+use Rattle.fx_picture.specs.declared.stood.EventAt.{EventAt}
+use Rattle.fx_picture.specs.Stood.{stood_at, told_cause, told_held}
 use Rattle.fx_picture.specs.Causes.{cause_of}
 use Rattle.fx_picture.specs.Bars.{life_at, bar_at, mask_at, closing_row}
 use Rattle.fx_picture.specs.Folds.{in_row, sheet_of}
@@ -22,7 +24,7 @@ use Rattle.fx_picture.specs.Visits.{queue_at, count_at}
 use Rattle.fx_picture.specs.Labels.{fiber_words, wait_of}
 use Rattle.fx_picture.specs.Legend.{legend}
 use Rattle.fx_picture.specs.Picture.{names_again, foot, lanes_from, queue_lanes_from, ends_in, bar_to, bar_of, bars_from}
-use Rattle.fx_picture.specs.Picture.{visit_for, all_times, visits_of, visits_in}
+use Rattle.fx_picture.specs.Picture.{held_label, visit_for, all_times, visits_of, visits_in}
 use Rattle.fx_picture.specs.Picture.{arrow_for, arrows_to, arrows_from, mark_of, marks_in, head, size, ground_of, figures_of, picture_text}
 
 all_true : (x y : Bool) → x ≡ true → y ≡ true → x && y ≡ true
@@ -64,9 +66,13 @@ bars stood fibers rows (x ∷ xs) =
     (all_true _ _ (bar_is stood fibers rows x (x ∷ xs) (bar_at x.event.event))
     (all_true _ _ (bar_is stood fibers rows x (x ∷ xs) (mask_at stood x.event.fiber x.event.place)) (bars stood fibers rows xs)))
 
-visit_is : (fibers : List FiberReportView) (x : Drawn) (queue : Option ℕ) → has_distinct_keys (visit_for fibers x queue) ≡ true
-visit_is fibers x None = refl
-visit_is fibers x (Some q) = refl
+held_is : (lane row : ℕ) (held : Option ℕ) → has_distinct_keys (held_label lane row held) ≡ true
+held_is lane row None = refl
+held_is lane row (Some n) = refl
+
+visit_is : (stood : List Stood) (fibers : List FiberReportView) (x : Drawn) (queue : Option ℕ) → has_distinct_keys (visit_for stood fibers x queue) ≡ true
+visit_is stood fibers x None = refl
+visit_is stood fibers x (Some q) = held_is (length fibers + q) x.row (told_held (stood_at stood x.event.fiber x.event.place))
 
 times_are : (fibers : List FiberReportView) (row f : ℕ) (list : List Occurrence) (queues : ℕ)
     → has_distinct_keys (all_times fibers row f list queues) ≡ true
@@ -75,27 +81,31 @@ times_are fibers row f list (suc q) =
     all_true _ _ (times_are fibers row f list q)
     (cond_both (count_at q 0 list == 0) nothing _ (λ (c : Content). has_distinct_keys c ≡ true) (λ _. refl) (λ _. refl))
 
-visits_are : (fibers : List FiberReportView) (queues row : ℕ) (list : List Occurrence) → has_distinct_keys (visits_of fibers queues row list) ≡ true
-visits_are fibers queues row [] = refl
-visits_are fibers queues row (o ∷ []) = visit_is fibers (record { row = row; event = o }) (queue_at o.event)
-visits_are fibers queues row (o ∷ p ∷ os) = times_are fibers row o.fiber (o ∷ p ∷ os) queues
+visits_are : (stood : List Stood) (fibers : List FiberReportView) (queues row : ℕ) (list : List Occurrence)
+    → has_distinct_keys (visits_of stood fibers queues row list) ≡ true
+visits_are stood fibers queues row [] = refl
+visits_are stood fibers queues row (o ∷ []) = visit_is stood fibers (record { row = row; event = o }) (queue_at o.event)
+visits_are stood fibers queues row (o ∷ p ∷ os) = times_are fibers row o.fiber (o ∷ p ∷ os) queues
 
-visits : (fibers : List FiberReportView) (queues : ℕ) (list : List Drawn) (rows : ℕ) → has_distinct_keys (visits_in fibers queues list rows) ≡ true
-visits fibers queues list zero = refl
-visits fibers queues list (suc row) = all_true _ _ (visits fibers queues list row) (visits_are fibers queues row (in_row row list))
+visits : (stood : List Stood) (fibers : List FiberReportView) (queues : ℕ) (list : List Drawn) (rows : ℕ)
+    → has_distinct_keys (visits_in stood fibers queues list rows) ≡ true
+visits stood fibers queues list zero = refl
+visits stood fibers queues list (suc row) = all_true _ _ (visits stood fibers queues list row) (visits_are stood fibers queues row (in_row row list))
 
 arrow_is : (fibers : List FiberReportView) (x y : Drawn) (cause : Option Cause) → has_distinct_keys (arrow_for fibers x y cause) ≡ true
 arrow_is fibers x y None = refl
 arrow_is fibers x y (Some cause) = refl
 
-arrows_are : (fibers : List FiberReportView) (y : Drawn) (xs : List Drawn) → has_distinct_keys (arrows_to fibers y xs) ≡ true
-arrows_are fibers y [] = refl
-arrows_are fibers y (x ∷ xs) = all_true _ _ (arrow_is fibers x y (cause_of x.event y.event)) (arrows_are fibers y xs)
+arrows_are : (fibers : List FiberReportView) (told : Option EventAt) (y : Drawn) (xs : List Drawn) → has_distinct_keys (arrows_to fibers told y xs) ≡ true
+arrows_are fibers told y [] = refl
+arrows_are fibers told y (x ∷ xs) = all_true _ _ (arrow_is fibers x y (cause_of told x.event y.event)) (arrows_are fibers told y xs)
 
-all_arrows : (fibers : List FiberReportView) (list : List Drawn) (place : ℕ) (ys : List Drawn)
-    → has_distinct_keys (arrows_from fibers list place ys) ≡ true
-all_arrows fibers list place [] = refl
-all_arrows fibers list place (y ∷ ys) = all_true _ _ (arrows_are fibers y (take place list)) (all_arrows fibers list (suc place) ys)
+all_arrows : (stood : List Stood) (fibers : List FiberReportView) (list : List Drawn) (place : ℕ) (ys : List Drawn)
+    → has_distinct_keys (arrows_from stood fibers list place ys) ≡ true
+all_arrows stood fibers list place [] = refl
+all_arrows stood fibers list place (y ∷ ys) =
+    all_true _ _ (arrows_are fibers (told_cause (stood_at stood y.event.fiber y.event.place)) y (take place list))
+    (all_arrows stood fibers list (suc place) ys)
 
 mark_is : (names : List (List ℕ)) (stood : List Stood) (fibers : List FiberReportView) (row : ℕ) (list : List Occurrence)
     → has_distinct_keys (mark_of names stood fibers row list) ≡ true
@@ -112,13 +122,13 @@ pub is_document : (names : List (List ℕ)) (stood : List Stood) (blocked : List
     → is_well_formed (picture_text names stood blocked fibers list) ≡ true
 unfolding picture_text
 is_document names stood blocked fibers list =
-    let drawn = (sheet_of list).drawn in
-    let rows = (sheet_of list).rows in
+    let drawn = (sheet_of stood list).drawn in
+    let rows = (sheet_of stood list).rows in
     let ground = all_true _ _ (lanes names rows blocked 0 fibers)
     (all_true _ _ (queue_lanes rows (length fibers) names) (bars stood fibers rows drawn)) in
-    let figures = all_true _ _ (visits fibers (length names) drawn rows)
-    (all_true _ _ (all_arrows fibers drawn 0 drawn) (marks names stood fibers drawn rows)) in
+    let figures = all_true _ _ (visits stood fibers (length names) drawn rows)
+    (all_true _ _ (all_arrows stood fibers drawn 0 drawn) (marks names stood fibers drawn rows)) in
     well_formed tag.Svg (size (length fibers + length names) rows)
     (both (head (length fibers) (length drawn))
-    (both legend (both (ground_of names stood blocked fibers (sheet_of list)) (figures_of names stood fibers (sheet_of list)))))
+    (both legend (both (ground_of names stood blocked fibers (sheet_of stood list)) (figures_of names stood fibers (sheet_of stood list)))))
     (all_true _ _ ground figures)

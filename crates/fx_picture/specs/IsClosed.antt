@@ -15,7 +15,7 @@ Begins stood f i e bar = (life_at i ≡ Some bar) ⊎ (bar_at e ≡ Some bar) �
 
 -- the bar of fiber f that begins at this place of the list ends in some row
 abbrev pub IsClosed : List Stood → List Occurrence → ℕ → ℕ → Bar → Type 0
-IsClosed stood list f place bar = IsSome (closing_row stood f bar (drop place (sheet_of list).drawn))
+IsClosed stood list f place bar = IsSome (closing_row stood f bar (drop place (sheet_of stood list).drawn))
 
 -- the bar of a closed place has begun at event i of fiber f or before it, and no event from there to this one ends it, but the end of the fiber
 pub record IsMasked (stood : List Stood) (f i : ℕ) : Type 0 where

@@ -62,7 +62,8 @@ marks_of_queues =
 abbrev pub lines : List EntryView
 lines =
     entry (codes "arrow start") (codes "to what it started") ∷ entry (codes "arrow end") (codes "to who learns of the end")
-    ∷ entry (codes "arrow cancel dashed") (codes "to who sees the request") ∷ entry (codes "life") (codes "a fiber that ends")
+    ∷ entry (codes "arrow cancel dashed") (codes "to who sees the request")
+    ∷ entry (codes "arrow put") (codes "to who takes the element") ∷ entry (codes "life") (codes "a fiber that ends")
     ∷ entry (codes "life open") (codes "one that waits for good") ∷ entry (codes "unwinding") (codes "its clean-ups run")
     ∷ entry (codes "holding") (codes "it holds a resource") ∷ entry (codes "masked") (codes "no cancellation acts") ∷ []
 
@@ -73,7 +74,17 @@ fold_sample y = element tag.Group (set_to key.Class (codes "fold") ∷ []) (box 
 abbrev pub fold_entry : ℕ → List ℕ → Content
 fold_entry row ws = both (fold_sample (legend_y row)) (said (legend_y row) ws)
 
+-- how many elements a queue holds
+abbrev pub held_entry : ℕ → List ℕ → Content
+held_entry row ws =
+    both (line_sample (codes "queue") (legend_y row))
+    (both (label (codes "holds") MARK (legend_y row + BASE) (codes "2")) (said (legend_y row) ws))
+
+-- what is counted
+abbrev pub counted : Content
+counted = both (fold_entry 20 (codes "so many events of a loop")) (held_entry 21 (codes "so many it holds then"))
+
 abbrev pub legend : Content
 legend = element tag.Group (set_to key.Class (codes "legend") ∷ [])
     (both (mark_entries 0 marks_of_fibers) (both (mark_entries 6 marks_of_queues)
-    (both (line_entries 11 lines) (fold_entry 19 (codes "so many events of a loop")))))
+    (both (line_entries 11 lines) counted)))

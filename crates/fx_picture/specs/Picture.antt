@@ -18,6 +18,8 @@ use Rattle.fx_picture.specs.declared.layout.TheConstants.{AGAIN, TOP, ABOVE, NEX
 use Rattle.fx_picture.specs.declared.queues.TheConstants.{BESIDE}
 use Rattle.fx_picture.specs.declared.picture.TheConstants.{TITLE, DESCRIPTION}
 use Rattle.fx_picture.specs.Causes.{cause_of, cause_class}
+use Rattle.fx_picture.specs.declared.stood.EventAt.{EventAt}
+use Rattle.fx_picture.specs.Stood.{stood_at, told_cause, told_held}
 use Rattle.fx_picture.specs.declared.stood.Stood.{Stood}
 use Rattle.fx_picture.specs.Folds.{SheetView, sheet_of, in_row}
 use Rattle.fx_picture.specs.Bars.{life_at, bar_at, mask_at, closing_row, beside, bar_class, bar_words}
@@ -110,21 +112,6 @@ module _ (stood : List Stood) (fibers : List FiberReportView) (rows : ℕ) where
       (both (bar_of x (x ∷ xs) (mask_at stood x.event.fiber x.event.place)) (bars_from xs)))
 
 module _ (fibers : List FiberReportView) where
-  -- the line from an event to that queue, with what the event does there
-  abbrev pub visit_line : Drawn → ℕ → Content
-  visit_line x q =
-      line (visit_class x.event.event) (lane_x (lane_of fibers x.event.fiber)) (row_y x.row) (lane_x (length fibers + q)) (row_y x.row)
-
-  abbrev pub visit : Drawn → ℕ → Content
-  visit x q = both (visit_line x q) (label (codes "visited") (lane_x (length fibers + q) + BESIDE) (row_y x.row + BASE) (visit_words x.event.event))
-
-  abbrev pub visit_for : Drawn → Option ℕ → Content
-  visit_for x None = nothing
-  visit_for x (Some q) = visit x q
-
-  abbrev pub visit_of : Drawn → Content
-  visit_of x = visit_for x (queue_at x.event.event)
-
   -- the line from the mark of several events of fiber f to that queue, with how many of them are there
   abbrev pub times : ℕ → ℕ → ℕ → ℕ → Content
   times row f q n =
@@ -139,17 +126,46 @@ module _ (fibers : List FiberReportView) where
   all_times row f list zero = nothing
   all_times row f list (suc q) = both (all_times row f list q) (times_of row f list q)
 
+-- how many elements a queue holds, on its lane, if that is told
+abbrev pub held_label : ℕ → ℕ → Option ℕ → Content
+held_label lane row None = nothing
+held_label lane row (Some n) = label (codes "holds") (lane_x lane) (row_y row + BASE) (decimal n)
+
+module _ (fibers : List FiberReportView) where
+  -- the line from an event to that queue
+  abbrev pub visit_line : Drawn → ℕ → Content
+  visit_line x q =
+      line (visit_class x.event.event) (lane_x (lane_of fibers x.event.fiber)) (row_y x.row) (lane_x (length fibers + q)) (row_y x.row)
+
+module _ (stood : List Stood) (fibers : List FiberReportView) where
+  -- what the event does there, and how many elements the queue holds then
+  abbrev pub visited : Drawn → ℕ → Content
+  visited x q =
+      both (label (codes "visited") (lane_x (length fibers + q) + BESIDE) (row_y x.row + BASE) (visit_words x.event.event))
+      (held_label (length fibers + q) x.row (told_held (stood_at stood x.event.fiber x.event.place)))
+
+  abbrev pub visit : Drawn → ℕ → Content
+  visit x q = both (visit_line fibers x q) (visited x q)
+
+  abbrev pub visit_for : Drawn → Option ℕ → Content
+  visit_for x None = nothing
+  visit_for x (Some q) = visit x q
+
+  abbrev pub visit_of : Drawn → Content
+  visit_of x = visit_for x (queue_at x.event.event)
+
   -- what the events of a row do at so many queues
   abbrev pub visits_of : ℕ → ℕ → List Occurrence → Content
   visits_of queues row [] = nothing
   visits_of queues row (o ∷ []) = visit_of (record { row = row; event = o })
-  visits_of queues row (o ∷ p ∷ os) = all_times row o.fiber (o ∷ p ∷ os) queues
+  visits_of queues row (o ∷ p ∷ os) = all_times fibers row o.fiber (o ∷ p ∷ os) queues
 
   -- and those of so many rows
   abbrev pub visits_in : ℕ → List Drawn → ℕ → Content
   visits_in queues list zero = nothing
   visits_in queues list (suc row) = both (visits_in queues list row) (visits_of queues row (in_row row list))
 
+module _ (fibers : List FiberReportView) where
   -- an arrow from an event in its row to another
   abbrev pub arrow : Drawn → Drawn → Cause → Content
   arrow x y cause =
@@ -159,19 +175,21 @@ module _ (fibers : List FiberReportView) where
   arrow_for x y None = nothing
   arrow_for x y (Some cause) = arrow x y cause
 
-  -- the arrow from the one to the other, if that stands on it
-  abbrev pub arrow_by : Drawn → Drawn → Content
-  arrow_by x y = arrow_for x y (cause_of x.event y.event)
+  -- the arrow from the one to the other, if that stands on it, where this is told to have caused it
+  abbrev pub arrow_by : Option EventAt → Drawn → Drawn → Content
+  arrow_by told x y = arrow_for x y (cause_of told x.event y.event)
 
   -- the arrows to y from these
-  abbrev pub arrows_to : Drawn → List Drawn → Content
-  arrows_to y [] = nothing
-  arrows_to y (x ∷ xs) = both (arrow_by x y) (arrows_to y xs)
+  abbrev pub arrows_to : Option EventAt → Drawn → List Drawn → Content
+  arrows_to told y [] = nothing
+  arrows_to told y (x ∷ xs) = both (arrow_by told x y) (arrows_to told y xs)
 
+module _ (stood : List Stood) (fibers : List FiberReportView) where
   -- the arrows to these, which stand from this place of the list on, each from those of the list above it
   abbrev pub arrows_from : List Drawn → ℕ → List Drawn → Content
   arrows_from list place [] = nothing
-  arrows_from list place (y ∷ ys) = both (arrows_to y (take place list)) (arrows_from list (suc place) ys)
+  arrows_from list place (y ∷ ys) =
+      both (arrows_to fibers (told_cause (stood_at stood y.event.fiber y.event.place)) y (take place list)) (arrows_from list (suc place) ys)
 
 -- how many the events of a mark are
 abbrev pub count_label : ℕ → ℕ → ℕ → Content
@@ -232,8 +250,8 @@ ground_of names stood blocked fibers sheet =
 -- what happens on them
 abbrev pub figures_of : List (List ℕ) → List Stood → List FiberReportView → SheetView → Content
 figures_of names stood fibers sheet =
-    both (visits_in fibers (length names) sheet.drawn sheet.rows)
-    (both (arrows_from fibers sheet.drawn 0 sheet.drawn) (marks_in names stood fibers sheet.drawn sheet.rows))
+    both (visits_in stood fibers (length names) sheet.drawn sheet.rows)
+    (both (arrows_from stood fibers sheet.drawn 0 sheet.drawn) (marks_in names stood fibers sheet.drawn sheet.rows))
 
 -- the picture of these fibers with these events, where the script's queues have these names, fibers stood there and blocked ones wait for this
 abbrev pub drawing : List (List ℕ) → List Stood → List Blocked → List FiberReportView → SheetView → Content
@@ -243,7 +261,7 @@ drawing names stood blocked fibers sheet = element tag.Svg (size (length fibers 
 
 -- with these events from top to bottom
 abbrev pub picture : List (List ℕ) → List Stood → List Blocked → List FiberReportView → List Occurrence → Content
-picture names stood blocked fibers list = drawing names stood blocked fibers (sheet_of list)
+picture names stood blocked fibers list = drawing names stood blocked fibers (sheet_of stood list)
 
 -- its text
 unfoldable pub picture_text : List (List ℕ) → List Stood → List Blocked → List FiberReportView → List Occurrence → List ℕ

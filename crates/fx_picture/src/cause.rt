@@ -1,7 +1,8 @@
 //! Which events stand on which.
 ghost use Rattle.std.specs.Prelude.{◌≡◌};
-ghost use Rattle.fx_picture.specs.Causes.{is_told_by, is_seen, cause_of, cause_class};
+ghost use Rattle.fx_picture.specs.Causes.{is_told_by, is_seen, is_first, is_got_of, is_at, cause_of, cause_class};
 
+use crate::stood::EventAt;
 use fx_order::Occurrence;
 use fx_term::Event;
 
@@ -14,6 +15,8 @@ pub enum Cause {
     End,
     /// A request for the other's fiber, which sees one.
     Request,
+    /// The put of the element that the other takes.
+    Element,
 }
 
 /// Whether the event tells that this fiber has ended.
@@ -32,9 +35,39 @@ fn is_seen(event: Event) -> bool
     matches!(event, Event::Seen)
 }
 
-/// What the first is to the second, if that stands on it.
-pub(crate) fn cause_of(first: Occurrence, second: Occurrence) -> Option<Cause>
-    ensures { result ≡ cause_of first second }
+fn is_first(event: Event) -> bool
+    ensures { result ≡ is_first event }
+{
+    matches!(event, Event::First(_))
+}
+
+/// Whether the event takes that value out of that queue.
+fn is_got_of(queue: u8, value: u64, event: Event) -> bool
+    ensures { result ≡ is_got_of queue value event }
+{
+    match event {
+        Event::Got(from, taken) => from == queue && taken == value,
+        _ => false,
+    }
+}
+
+/// Whether it is the one that is told.
+fn is_at(it: Occurrence, told: Option<EventAt>) -> bool
+    ensures { result ≡ is_at it told }
+{
+    match told {
+        Some(at) => at.fiber == it.fiber && at.place == it.place,
+        None => false,
+    }
+}
+
+/// What the first is to the second, if that stands on it. This event, if one, is told to have caused the second.
+pub(crate) fn cause_of(
+    told: Option<EventAt>,
+    first: Occurrence,
+    second: Occurrence,
+) -> Option<Cause>
+    ensures { result ≡ cause_of told first second }
 {
     match first.event {
         Event::Start(fiber) => {
@@ -45,7 +78,9 @@ pub(crate) fn cause_of(first: Occurrence, second: Occurrence) -> Option<Cause>
             }
         }
         Event::Ended(_) => {
-            if is_told_by(first.fiber, second.event) {
+            if is_told_by(first.fiber, second.event)
+                || is_first(second.event) && is_at(first, told)
+            {
                 Some(Cause::End)
             } else {
                 None
@@ -54,6 +89,13 @@ pub(crate) fn cause_of(first: Occurrence, second: Occurrence) -> Option<Cause>
         Event::Request(fiber) => {
             if is_seen(second.event) && second.fiber == fiber {
                 Some(Cause::Request)
+            } else {
+                None
+            }
+        }
+        Event::Put(queue, value) => {
+            if is_got_of(queue, value, second.event) && is_at(first, told) {
+                Some(Cause::Element)
             } else {
                 None
             }
@@ -71,6 +113,7 @@ impl Cause {
             Cause::Start => "arrow start",
             Cause::End => "arrow end",
             Cause::Request => "arrow cancel dashed",
+            Cause::Element => "arrow put",
         }
     }
 }

@@ -17,13 +17,13 @@ ghost use Rattle.fx_picture.specs.declared.cause.Cause.{Cause};
 ghost use Rattle.fx_picture.specs.declared.bar.Bar.{Bar};
 ghost use Rattle.fx_picture.specs.declared.drawn.Drawn.{Drawn};
 ghost use Rattle.fx_picture.specs.declared.stood.Stood.{Stood};
-ghost use Rattle.fx_picture.specs.Causes.{cause_of};
+ghost use Rattle.fx_picture.specs.Causes.{cause_in};
 ghost use Rattle.fx_picture.specs.Folds.{event_of, is_quiet, in_row, sheet_of};
 ghost use Rattle.fx_picture.specs.IsClosed.{Begins, IsClosed, IsMasked};
 ghost use Rattle.fx_picture.specs.Stood.{stood_at, is_told_closed};
 ghost use Rattle.fx_picture.specs.Has.{Has, IsArrow};
 ghost use Rattle.fx_picture.specs.IsFolded.{SharesRow, IsRun, events_in};
-ghost use Rattle.fx_picture.specs.IsDrawn.{SaysItsCause, IsDrawn, HasArrow};
+ghost use Rattle.fx_picture.specs.IsDrawn.{SaysItsCause, Tells, IsDrawn, HasArrow};
 ghost use Rattle.fx_picture.specs.Picture.{arrow, arrows_from, mark_of, picture, picture_text};
 
 /// The text of a picture is a well-formed document.
@@ -34,50 +34,58 @@ pub fn picture_is_well_formed()
 
 /// What stands among the arrows of a picture is an arrow from an event to one below it that stands on it, and goes down.
 pub fn arrows_join_causes()
-    ensures down { (list : List Occurrence) (above below : ℕ) (first second : Drawn) (cause : Cause) → above < below
-        → slice_get (sheet_of list).drawn above ≡ Some first → slice_get (sheet_of list).drawn below ≡ Some second
-        → cause_of first.event second.event ≡ Some cause → first.row < second.row }
-    ensures joins { (fibers : List FiberReportView) (list : List Occurrence) (e : Content)
-        → Has (arrows_from fibers (sheet_of list).drawn 0 (sheet_of list).drawn) e
-        → IsArrow fibers (sheet_of list).drawn e }
+    ensures down { (stood : List Stood) (list : List Occurrence) (above below : ℕ) (first second : Drawn) (cause : Cause) → above < below
+        → slice_get (sheet_of stood list).drawn above ≡ Some first → slice_get (sheet_of stood list).drawn below ≡ Some second
+        → cause_in stood first.event second.event ≡ Some cause → first.row < second.row }
+    ensures joins { (stood : List Stood) (fibers : List FiberReportView) (list : List Occurrence) (e : Content)
+        → Has (arrows_from stood fibers (sheet_of stood list).drawn 0 (sheet_of stood list).drawn) e
+        → IsArrow stood fibers (sheet_of stood list).drawn e }
 {}
 
 /// From each event to each one below it that stands on it there is an arrow.
 pub fn no_arrow_is_missing()
     ensures { (names : List (List ℕ)) (stood : List Stood) (blocked : List Blocked) (fibers : List FiberReportView)
         (list : List Occurrence) (above below : ℕ) (first second : Drawn) (cause : Cause) → above < below
-        → slice_get (sheet_of list).drawn above ≡ Some first → slice_get (sheet_of list).drawn below ≡ Some second
-        → cause_of first.event second.event ≡ Some cause
+        → slice_get (sheet_of stood list).drawn above ≡ Some first → slice_get (sheet_of stood list).drawn below ≡ Some second
+        → cause_in stood first.event second.event ≡ Some cause
         → Has (picture names stood blocked fibers list) (arrow fibers first second cause) }
 {}
 
 /// Each event of the list has its place in one row, and each row has its mark.
 pub fn each_event_is_drawn_once()
-    ensures same { (list : List Occurrence) → map event_of (sheet_of list).drawn ≡ list }
-    ensures once { (list : List Occurrence) → IsPermutation list (events_in (sheet_of list).rows (sheet_of list).drawn) }
+    ensures same { (stood : List Stood) (list : List Occurrence) → map event_of (sheet_of stood list).drawn ≡ list }
+    ensures once { (stood : List Stood) (list : List Occurrence)
+        → IsPermutation list (events_in (sheet_of stood list).rows (sheet_of stood list).drawn) }
     ensures marked { (names : List (List ℕ)) (stood : List Stood) (blocked : List Blocked) (fibers : List FiberReportView)
-        (list : List Occurrence) (place : ℕ) (x : Drawn) → slice_get (sheet_of list).drawn place ≡ Some x
-        → Contains (in_row x.row (sheet_of list).drawn) x.event × Has (picture names stood blocked fibers list)
-        (mark_of names stood fibers x.row (in_row x.row (sheet_of list).drawn)) }
+        (list : List Occurrence) (place : ℕ) (x : Drawn) → slice_get (sheet_of stood list).drawn place ≡ Some x
+        → Contains (in_row x.row (sheet_of stood list).drawn) x.event × Has (picture names stood blocked fibers list)
+        (mark_of names stood fibers x.row (in_row x.row (sheet_of stood list).drawn)) }
 {}
 
 /// What shares a row is a run of one lane in which no arrow begins or ends, and nothing of that lane between them stands
 /// elsewhere.
 pub fn folds_are_runs()
-    ensures run { (list : List Occurrence) (i j : ℕ) (x y : Drawn) → SharesRow (sheet_of list).drawn i j x y
-        → IsRun (sheet_of list).drawn i j x y }
-    ensures from { (x y : Occurrence) → is_quiet x ≡ true → cause_of x y ≡ None }
-    ensures to { (x y : Occurrence) → is_quiet y ≡ true → cause_of x y ≡ None }
+    ensures run { (stood : List Stood) (list : List Occurrence) (i j : ℕ) (x y : Drawn)
+        → SharesRow (sheet_of stood list).drawn i j x y → IsRun stood (sheet_of stood list).drawn i j x y }
+    ensures from { (stood : List Stood) (x y : Occurrence) → is_quiet stood x ≡ true → cause_in stood x y ≡ None }
+    ensures to { (stood : List Stood) (x y : Occurrence) → is_quiet stood y ≡ true → cause_in stood x y ≡ None }
 {}
 
 /// Where the list is an order in which causes come first, there is an arrow to each event that says what it
 /// stands on from each event that it stands on by the model, and to each that sees a request from some
-/// request, unless one came from outside.
+/// request, unless one came from outside. So there is to any event from one that is told to have caused it, if it stands on
+/// that by the model.
 pub fn causes_are_drawn()
     ensures needed { (s : ScriptView) (may : ℕ → Bool) (r : ReportView)
         (lawful : IsLawfulReport s may r) (list : List Occurrence)
         → IsCausalOrder s may r lawful list → (names : List (List ℕ)) (stood : List Stood) (blocked : List Blocked)
         (f i g j : ℕ) (e : Event) → slice_get (trace_in r f) i ≡ Some e → SaysItsCause e
+        → Needs (trace_in r) lawful.runs.labels (LeavesQueue s may r lawful) f i g j
+        → IsDrawn names stood blocked r list f i g j }
+    ensures told { (s : ScriptView) (may : ℕ → Bool) (r : ReportView)
+        (lawful : IsLawfulReport s may r) (list : List Occurrence)
+        → IsCausalOrder s may r lawful list → (names : List (List ℕ)) (stood : List Stood) (blocked : List Blocked)
+        (f i g j : ℕ) (e : Event) → slice_get (trace_in r f) i ≡ Some e → Tells stood f i g j
         → Needs (trace_in r) lawful.runs.labels (LeavesQueue s may r lawful) f i g j
         → IsDrawn names stood blocked r list f i g j }
     ensures requested { (s : ScriptView) (may : ℕ → Bool) (r : ReportView)

@@ -42,7 +42,7 @@ pub(crate) const FOOT: u64 = 60;
 pub(crate) const BASE: u64 = 4;
 
 /// Where the legend ends.
-pub(crate) const LEGEND_BOTTOM: u64 = 396;
+pub(crate) const LEGEND_BOTTOM: u64 = 432;
 
 /// How many events, fibers and queues a picture has at most, of each.
 pub const MOST_EVENTS: usize = 20_000;

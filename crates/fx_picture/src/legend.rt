@@ -2,7 +2,7 @@
 ghost use Rattle.std.specs.Prelude.{◌≡◌, ◌≤◌, ◌+◌, ◌++◌, length, map, OnOk, string_bytes};
 ghost use Rattle.fx_svg.specs.Content.{rendering};
 ghost use Rattle.fx_picture.specs.Legend.{view_entry, legend_y, said, mark_entry, mark_entries};
-ghost use Rattle.fx_picture.specs.Legend.{line_sample, line_entry, line_entries, marks_of_fibers, marks_of_queues, lines, fold_sample, fold_entry, legend};
+ghost use Rattle.fx_picture.specs.Legend.{line_sample, line_entry, line_entries, marks_of_fibers, marks_of_queues, lines, fold_sample, fold_entry, held_entry, counted, legend};
 
 use crate::elements::{HALF_HEIGHT, Point, push_box, push_label, push_line};
 use crate::layout::{BASE, LEGEND_BOTTOM, ROW};
@@ -23,7 +23,7 @@ pub(crate) const LINE_RIGHT: u64 = 36;
 pub(crate) const WORDS: u64 = 46;
 
 /// How many rows it has at most.
-pub(crate) const MOST_ENTRIES: usize = 20;
+pub(crate) const MOST_ENTRIES: usize = 22;
 
 /// What is shown, by the name by which the style means it, and what that is in words.
 #[derive(Clone, Copy)]
@@ -221,6 +221,10 @@ fn push_lines(text: &mut String) -> Result<(), AllocError>
             words: "to who sees the request",
         },
         Entry {
+            class: "arrow put",
+            words: "to who takes the element",
+        },
+        Entry {
             class: "life",
             words: "a fiber that ends",
         },
@@ -270,6 +274,30 @@ fn push_fold_entry(text: &mut String, row: usize, words: &str) -> Result<(), All
     push_said(text, y, words)
 }
 
+/// Appends how many elements a queue holds, with its words beside it.
+fn push_held_entry(text: &mut String, row: usize, words: &str) -> Result<(), AllocError>
+    requires { row ≤ MOST_ENTRIES }
+    ensures { OnOk result
+        (string_bytes text.new ≡ string_bytes text.old ++ rendering (held_entry row words.now)) }
+{
+    let y = legend_y(row);
+    let at = Point {
+        x: MARK,
+        y: y + BASE,
+    };
+    push_line_sample(text, "queue", y)?;
+    push_label(text, "holds", at, "2")?;
+    push_said(text, y, words)
+}
+
+/// Appends what is counted.
+fn push_counted(text: &mut String) -> Result<(), AllocError>
+    ensures { OnOk result (string_bytes text.new ≡ string_bytes text.old ++ rendering counted) }
+{
+    push_fold_entry(text, 20, "so many events of a loop")?;
+    push_held_entry(text, 21, "so many it holds then")
+}
+
 /// Appends the legend.
 pub(crate) fn push_legend(text: &mut String) -> Result<(), AllocError>
     ensures { OnOk result (string_bytes text.new ≡ string_bytes text.old ++ rendering legend) }
@@ -282,6 +310,6 @@ pub(crate) fn push_legend(text: &mut String) -> Result<(), AllocError>
     push_marks_of_fibers(text)?;
     push_marks_of_queues(text)?;
     push_lines(text)?;
-    push_fold_entry(text, 19, "so many events of a loop")?;
+    push_counted(text)?;
     push_end_tag(text, Tag::Group)
 }

@@ -4,11 +4,12 @@
 //! |---|---|
 //! | a fiber | a lane from top to bottom, with its number and how it is at the end above, and what it waits for below |
 //! | a queue | a lane right of these |
-//! | an event | a mark in its fiber's lane, with the line of its trace as a title, and where its fiber stood, if that is told |
+//! | an event | a mark in its fiber's lane, with the line of its trace as a title, and what is told of it |
 //! | a long run of events at queues and of resources | one mark, with how many they are, and their lines as a title |
 //! | an event at a queue | a line to that queue's lane, with what was put or taken |
 //! | a cause | an arrow from its mark to that of the event that it caused |
-//! | a life, clean-ups, a resource that is held | a bar from the event that begins it to that which ends it |
+//! | a life, clean-ups, a resource that is held, a closed place | a bar from the event that begins it to that which ends it |
+//! | how many elements a queue holds | the number on its lane, where that is told |
 //!
 //! Left of them stands a legend.
 //!
@@ -20,12 +21,12 @@
 //! 2. An arrow goes to a fiber's first event from the start of the fiber; to an event that tells of the end of
 //!    a fiber, by its number, from that end; and to one that sees a request, from each request for its fiber
 //!    above it.
-//! 3. No arrow goes to a `got` or a `first`: which put the one took, and which of two fibers the other found,
-//!    the events of a report do not say.
+//! 3. Which put a `got` took, and which of two fibers a `first` found, the events of a report do not say. An arrow goes to
+//!    these from the event that is told to have caused them, and else from none.
 //! 4. A bar goes to the first event of its fiber that ends it, and to the foot of the picture where there is
 //!    none.
-//! 5. How many elements a queue holds is not drawn: the order of the list need not be that in which it was
-//!    used.
+//! 5. How many elements a queue holds after an event is drawn where it is told: the order of the list need not be that in
+//!    which the queue was used.
 //! 6. The text is exactly the rendering of one tree of elements, so it is a well-formed document: that is a
 //!    law, in [`laws`].
 //!
@@ -57,4 +58,4 @@ pub use cause::Cause;
 pub use fault::PictureFault;
 pub use layout::MOST_EVENTS;
 pub use picture::format_picture;
-pub use stood::Stood;
+pub use stood::{EventAt, Stood};

@@ -11,7 +11,7 @@ use fx_term::{Event, Outcome};
 pub(crate) const STYLE: &str =
     "svg{background:#fff;font:12px sans-serif}text{text-anchor:middle;fill:#333}\
     .name{font-weight:bold}.again{fill:#777}.said,.visited{text-anchor:start}.visited{fill:#00664b}\
-    .visited,.again{paint-order:stroke;stroke:#fff;stroke-width:3px}\
+    .holds{font-size:10px;font-weight:bold;fill:#00664b}.visited,.again,.holds{paint-order:stroke;stroke:#fff;stroke-width:3px}\
     .waits{fill:#a34700;font-weight:bold}.lane{stroke:#e4e4e4}\
     .queue{stroke:#009e73;stroke-width:3;opacity:.35}.life{stroke:#888;stroke-width:2}\
     .masked{stroke:#56b4e9;stroke-width:4}\

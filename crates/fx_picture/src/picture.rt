@@ -161,8 +161,16 @@ fn push_figures(
     ensures { OnOk result (string_bytes text.new ≡ string_bytes text.old ++ rendering
         (figures_of (names_of queues.now) stood.now fibers.now (view_sheet sheet.now))) }
 {
-    push_visits(alloc, text, fibers, queues.len(), &sheet.drawn, sheet.rows)?;
-    push_arrows(text, fibers, &sheet.drawn)?;
+    push_visits(
+        alloc,
+        text,
+        stood,
+        fibers,
+        queues.len(),
+        &sheet.drawn,
+        sheet.rows,
+    )?;
+    push_arrows(text, stood, fibers, &sheet.drawn)?;
     push_marks(alloc, text, queues, stood, fibers, &sheet.drawn, sheet.rows)
 }
 
@@ -206,7 +214,7 @@ fn push_picture(
     ensures { OnOk result (string_bytes text.new ≡ string_bytes text.old
         ++ picture_text (names_of queues.now) stood.now blocked.now fibers.now list.now) }
 {
-    let sheet = sheet_of(alloc, list)?;
+    let sheet = sheet_of(alloc, stood, list)?;
     push_drawing(alloc, text, queues, stood, blocked, fibers, &sheet)
 }
 
@@ -238,8 +246,8 @@ fn draw(
     Ok(text)
 }
 
-/// The picture of a report, of which these fibers are blocked, and in whose run fibers stood there. It fails only where memory runs out, or where it would
-/// be too large.
+/// The picture of a report, of which these fibers are blocked, and of whose run this is told. It fails only where memory runs out, or where it would be too
+/// large.
 pub fn format_picture(
     alloc: Global,
     script: &Script,

@@ -1,15 +1,16 @@
-//! The lanes of queues, and what events do at them. How many elements a queue holds after an event is not drawn: the
-//! order of the list need not be that in which it was used.
+//! The lanes of queues, and what events do at them. How many elements a queue holds after an event is drawn where that is
+//! told: the order of the list need not be that in which it was used.
 ghost use Rattle.std.specs.Prelude.{◌≡◌, ◌≤◌, ◌<◌, ◌++◌, ◌∷◌, [], length, OnOk, IfOk, codes, string_bytes};
 ghost use Rattle.fx_report.specs.Text.{names_of};
 ghost use Rattle.fx_svg.specs.Content.{rendering};
-ghost use Rattle.fx_picture.specs.Picture.{queue_lane, queue_lanes_from, visit_line, visit, visit_of, times, times_of, all_times, visits_of, visits_in};
+ghost use Rattle.fx_picture.specs.Picture.{queue_lane, queue_lanes_from, held_label, visit_line, visited, visit, visit_of, times, times_of, all_times, visits_of, visits_in};
 
 use crate::drawn::{Drawn, place_of};
 use crate::elements::{Point, push_label, push_line};
 use crate::lanes::{push_names, push_upright};
 use crate::layout::{BASE, MOST_EVENTS, MOST_LANES, lane_of, lane_x, row_y};
 use crate::sheet::in_row;
+use crate::stood::{Stood, told_held};
 use crate::visit::{count_at, queue_at, times_words, visit_class, visit_words};
 use fx_model::FiberReport;
 use fx_order::Occurrence;
@@ -17,7 +18,7 @@ use fx_text::QueueDecl;
 use std::alloc::{AllocError, Global};
 
 /// How far right of a queue's lane the words stand that say what is done there.
-pub(crate) const BESIDE: u64 = 8;
+pub(crate) const BESIDE: u64 = 10;
 
 /// Appends the lane of a queue, beside so many rows.
 fn push_queue_lane(
@@ -79,38 +80,80 @@ fn push_way(
     push_line(text, visit_class(from.event.event), begins, ends)
 }
 
-/// Appends what an event does at that queue.
-fn push_visit(
+/// Appends how many elements a queue holds, on its lane, if that is told.
+fn push_held(
     alloc: Global,
     text: &mut String,
+    lane: usize,
+    row: u32,
+    held: Option<usize>,
+) -> Result<(), AllocError>
+    requires { lane ≤ MOST_LANES }
+    ensures { OnOk result (string_bytes text.new ≡ string_bytes text.old
+        ++ rendering (held_label lane row held)) }
+{
+    match held {
+        Some(count) => {
+            let words = format!(in alloc; "{count}")?;
+            let (x, y) = (lane_x(lane), row_y(row) + BASE);
+            push_label(text, "holds", Point { x, y }, &words)
+        }
+        None => Ok(()),
+    }
+}
+
+/// Appends what an event does at that queue, and how many elements that holds then, if it is told.
+fn push_visited(
+    alloc: Global,
+    text: &mut String,
+    stood: &[Stood],
     fibers: &[FiberReport],
     from: Drawn,
     queue: u8,
 ) -> Result<(), AllocError>
     requires { length fibers.now ≤ MOST_EVENTS }
     ensures { OnOk result (string_bytes text.new ≡ string_bytes text.old
-        ++ rendering (visit fibers.now from queue)) }
+        ++ rendering (visited stood.now fibers.now from queue)) }
 {
     let words = visit_words(alloc, from.event.event)?;
-    let x = lane_x(fibers.len() + queue as usize) + BESIDE;
-    let y = row_y(from.row) + BASE;
+    let lane = fibers.len() + queue as usize;
+    let (x, y) = (lane_x(lane) + BESIDE, row_y(from.row) + BASE);
+    push_label(text, "visited", Point { x, y }, &words)?;
+    let held = told_held(stood, from.event.fiber, from.event.place);
+    push_held(alloc, text, lane, from.row, held)
+}
+
+/// Appends the line from an event to that queue, and what the event does there.
+fn push_visit(
+    alloc: Global,
+    text: &mut String,
+    stood: &[Stood],
+    fibers: &[FiberReport],
+    from: Drawn,
+    queue: u8,
+) -> Result<(), AllocError>
+    requires { length fibers.now ≤ MOST_EVENTS }
+    ensures { OnOk result (string_bytes text.new ≡ string_bytes text.old
+        ++ rendering (visit stood.now fibers.now from queue)) }
+{
     push_way(text, fibers, from, queue)?;
-    push_label(text, "visited", Point { x, y }, &words)
+    push_visited(alloc, text, stood, fibers, from, queue)
 }
 
 /// Appends what an event does at a queue, if it is at one.
 fn push_visit_of(
     alloc: Global,
     text: &mut String,
+    stood: &[Stood],
     fibers: &[FiberReport],
     from: Drawn,
 ) -> Result<(), AllocError>
     requires { length fibers.now ≤ MOST_EVENTS }
     ensures { OnOk result (string_bytes text.new ≡ string_bytes text.old
-        ++ rendering (visit_of fibers.now from)) }
+        ++ rendering (visit_of stood.now fibers.now from)) }
 {
     match queue_at(from.event.event) {
-        Some(queue) => push_visit(alloc, text, fibers, from, queue),
+        Some(queue) => push_visit(alloc, text, stood, fibers, from, queue),
         None => Ok(()),
     }
 }
@@ -189,6 +232,7 @@ fn push_all_times(
 fn push_visits_of(
     alloc: Global,
     text: &mut String,
+    stood: &[Stood],
     fibers: &[FiberReport],
     queues: usize,
     row: u32,
@@ -197,11 +241,11 @@ fn push_visits_of(
     requires fibers { length fibers.now ≤ MOST_EVENTS }
     requires queues { queues ≤ MOST_EVENTS }
     ensures { OnOk result (string_bytes text.new ≡ string_bytes text.old
-        ++ rendering (visits_of fibers.now queues row list.now)) }
+        ++ rendering (visits_of stood.now fibers.now queues row list.now)) }
 {
     match list {
         [] => Ok(()),
-        [event] => push_visit_of(alloc, text, fibers, Drawn { row, event: *event }),
+        [event] => push_visit_of(alloc, text, stood, fibers, Drawn { row, event: *event }),
         [first, ..] => push_all_times(alloc, text, fibers, row, first.fiber, list, queues),
     }
 }
@@ -210,6 +254,7 @@ fn push_visits_of(
 pub(crate) fn push_visits(
     alloc: Global,
     text: &mut String,
+    stood: &[Stood],
     fibers: &[FiberReport],
     queues: usize,
     drawn: &[Drawn],
@@ -218,11 +263,11 @@ pub(crate) fn push_visits(
     requires fibers { length fibers.now ≤ MOST_EVENTS }
     requires queues { queues ≤ MOST_EVENTS }
     ensures { OnOk result (string_bytes text.new ≡ string_bytes text.old
-        ++ rendering (visits_in fibers.now queues drawn.now rows)) }
+        ++ rendering (visits_in stood.now fibers.now queues drawn.now rows)) }
 {
     for row in 0..rows {
         let list = in_row(alloc, row, drawn)?;
-        push_visits_of(alloc, text, fibers, queues, row, &list)?;
+        push_visits_of(alloc, text, stood, fibers, queues, row, &list)?;
     }
     Ok(())
 }

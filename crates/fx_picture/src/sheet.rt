@@ -4,6 +4,7 @@ ghost use Rattle.fx_picture.specs.Folds.{view_sheet, sheet_of, in_row};
 
 use crate::drawn::Drawn;
 use crate::layout::MOST_EVENTS;
+use crate::stood::Stood;
 use crate::tail::Tail;
 use fx_order::Occurrence;
 use std::alloc::{AllocError, Global};
@@ -16,17 +17,21 @@ pub(crate) struct Sheet {
 }
 
 /// Gives each of these events a row of its own, or that of the one above it in its lane, where both are of one long run.
-pub(crate) fn sheet_of(alloc: Global, list: &[Occurrence]) -> Result<Sheet, AllocError>
+pub(crate) fn sheet_of(
+    alloc: Global,
+    stood: &[Stood],
+    list: &[Occurrence],
+) -> Result<Sheet, AllocError>
     requires { length list.now ≤ MOST_EVENTS }
-    ensures is { IfOk result (λ sheet. view_sheet sheet ≡ sheet_of list.now) }
+    ensures is { IfOk result (λ sheet. view_sheet sheet ≡ sheet_of stood.now list.now) }
     ensures each { IfOk result (λ sheet. length sheet.drawn.items ≡ length list.now) }
 {
     let mut drawn = Vec::new(alloc);
     let mut rows = 0;
     let mut rest = list;
     while let Some((it, more)) = rest.split_first() {
-        let tail = Tail::of(it.fiber, &drawn);
-        let joins = tail.takes(*it, more);
+        let tail = Tail::of(stood, it.fiber, &drawn);
+        let joins = tail.takes(stood, *it, more);
         let row = if joins { tail.row } else { rows };
         drawn.push(Drawn { row, event: *it })?;
         rows = if joins { rows } else { rows + 1 };

@@ -1,8 +1,9 @@
-//! The picture of a fiber that is canceled while the main fiber waits, of one that waits for good, and of too many events.
+//! The picture of a fiber that is canceled while the main fiber waits, of one that waits for good, of an element that goes from
+//! one to another, and of too many events.
 use fx_model::{FiberReport, Report, Source, State};
-use fx_picture::{MOST_EVENTS, PictureFault, Stood, format_picture};
+use fx_picture::{EventAt, MOST_EVENTS, PictureFault, Stood, format_picture};
 use fx_report::{Blocked, Wait};
-use fx_term::Event::{Acquired, Awaited, Cancelled, Ended, Put, Request, Seen, Start};
+use fx_term::Event::{Acquired, Awaited, Cancelled, Ended, First, Got, Put, Request, Seen, Start};
 use fx_term::Outcome::{Canceled, Succeeded};
 use fx_term::{Event, Stamped};
 use fx_text::{Position, parse};
@@ -15,22 +16,28 @@ static STOOD: [Stood; 3] = [
         fiber: 1,
         position: Some(Position { line: 3, column: 7 }),
         is_open: true,
+        cause: None,
+        held: None,
     },
     Stood {
         fiber: 0,
         position: Some(Position { line: 1, column: 7 }),
         is_open: false,
+        cause: None,
+        held: None,
     },
     Stood {
         fiber: 1,
         position: None,
         is_open: false,
+        cause: None,
+        held: None,
     },
 ];
 
 /// What stands in the picture: rows are 18 apart from 64 on, and lanes 96 from 260 on.
 static DRAWN: [&str; 18] = [
-    "<svg xmlns=\"http://www.w3.org/2000/svg\" role=\"img\" width=\"452\" height=\"396\"><title>",
+    "<svg xmlns=\"http://www.w3.org/2000/svg\" role=\"img\" width=\"452\" height=\"432\"><title>",
     "<desc>2 fibers and 7 events. Each fiber",
     "<line class=\"lane\" x1=\"260\" y1=\"44\" x2=\"260\" y2=\"200\"></line>",
     "<text class=\"name\" x=\"356\" y=\"20\">fiber 1</text>",
@@ -52,22 +59,32 @@ static DRAWN: [&str; 18] = [
 
 /// What stands in that of a fiber which does nine things, of which the first is no part of a run, and ends.
 static FOLDED: [&str; 5] = [
-    "width=\"452\" height=\"396\"><title>",
+    "width=\"452\" height=\"432\"><title>",
     "<circle class=\"put\" cx=\"260\" cy=\"64\" r=\"5\"><title>0 1 put jobs 0</title>\n</circle>",
     "<g class=\"fold\"><title>8 events:&#10;0 2 put jobs 1&#10;0 3 put jobs 2&#10;0 4 put jobs 3&#10;0 5 put jobs 4",
     "<rect x=\"246\" y=\"75\" width=\"28\" height=\"14\"></rect>\n<text class=\"count\" x=\"260\" y=\"86\">8</text>\n</g>",
-    "<text class=\"visited\" x=\"364\" y=\"86\">8 times</text>",
+    "<text class=\"visited\" x=\"366\" y=\"86\">8 times</text>",
 ];
 
 /// What stands in that of a fiber which waits, holds a resource and has put an element.
 static HELD: [&str; 7] = [
-    "width=\"452\" height=\"396\"><title>",
+    "width=\"452\" height=\"432\"><title>",
     "<text class=\"name\" x=\"356\" y=\"20\">queue jobs</text>",
     "<text class=\"waits\" x=\"260\" y=\"36\">blocked</text>",
     "<text class=\"waits\" x=\"260\" y=\"144\">room in jobs</text>",
     "<line class=\"holding open\" x1=\"268\" y1=\"64\" x2=\"268\" y2=\"110\"><title>holds its resource 0<",
     "<line class=\"visit put\" x1=\"260\" y1=\"82\" x2=\"356\" y2=\"82\"></line>",
-    "<text class=\"visited\" x=\"364\" y=\"86\">+3</text>",
+    "<text class=\"visited\" x=\"366\" y=\"86\">+3</text>",
+];
+
+/// What stands in that of a fiber which takes what another one puts, and finds that this has ended, where both are told.
+static TAKEN: [&str; 6] = [
+    "<line class=\"arrow put\" x1=\"356\" y1=\"82\" x2=\"260\" y2=\"100\"></line>",
+    "<line class=\"arrow end\" x1=\"356\" y1=\"118\" x2=\"260\" y2=\"136\"></line>",
+    "<text class=\"holds\" x=\"452\" y=\"86\">1</text>",
+    "<text class=\"holds\" x=\"452\" y=\"104\">0</text>",
+    "<title>1 2 put jobs 7 holds 1</title>",
+    "<title>0 3 got jobs 7 holds 0</title>",
 ];
 
 fn stamped(stamp: u64, event: Event) -> Stamped {
@@ -124,6 +141,29 @@ fn looping(alloc: Global) -> Result<Report, AllocError> {
     Ok(report_with(alloc, fibers))
 }
 
+/// The main fiber takes what the other one puts, and then finds that this has ended.
+fn taking(alloc: Global) -> Result<Report, AllocError> {
+    let main = [
+        stamped(1, Start(1)),
+        stamped(3, Got(0, 7)),
+        stamped(4, First(0)),
+        stamped(5, Ended(Succeeded(6))),
+    ];
+    let child = [stamped(2, Put(0, 7)), stamped(3, Ended(Succeeded(0)))];
+    report_of(alloc, &main, &child)
+}
+
+/// An event of that fiber, at an open place, which this one caused, and after which its queue holds so many elements.
+fn told(fiber: u32, cause: Option<EventAt>, held: Option<usize>) -> Stood {
+    Stood {
+        fiber,
+        position: None,
+        is_open: true,
+        cause,
+        held,
+    }
+}
+
 fn canceled(alloc: Global) -> Result<Report, AllocError> {
     let main = [
         stamped(1, Start(1)),
@@ -161,6 +201,24 @@ fn draws_what_is_held_and_waited_for(rt: HostRuntime) -> Result<(), Fail> {
     }];
     let text = format_picture(rt.alloc(), &script, &waiting(rt.alloc())?, &[], &blocked)?;
     for drawn in &HELD {
+        assert!(rt; text.contains(*drawn));
+    }
+    Ok(())
+}
+
+#[test]
+fn draws_what_is_told_of_a_queue(rt: HostRuntime) -> Result<(), Fail> {
+    let script = parse(rt.alloc(), b"(queue jobs 1) (main (pure 6))")?;
+    let put = EventAt { fiber: 1, place: 0 };
+    let end = EventAt { fiber: 1, place: 1 };
+    let stood = [
+        told(0, None, None),
+        told(1, None, Some(1)),
+        told(0, Some(put), Some(0)),
+        told(0, Some(end), None),
+    ];
+    let text = format_picture(rt.alloc(), &script, &taking(rt.alloc())?, &stood, &[])?;
+    for drawn in &TAKEN {
         assert!(rt; text.contains(*drawn));
     }
     Ok(())

@@ -6,4 +6,4 @@ pub returns : goal.returns
 returns c =
     on_ok_weaker c.push_end_tag.result
     (λ last. joined _ _ _ _ _ _ _ _ _ _ _ _ _ c.in_ok-push_start_tag.ensures c.in_ok-push_marks_of_fibers.ensures c.in_ok-push_marks_of_queues.ensures
-    c.in_ok-push_lines.ensures c.in_ok-push_fold_entry.ensures last) c.push_end_tag.ensures
+    c.in_ok-push_lines.ensures c.in_ok-push_counted.ensures last) c.push_end_tag.ensures

@@ -5,7 +5,7 @@ use Rattle.fx_picture.proofs.sheet.sheet_of.Given as goal
 -- what is drawn so far and the other events make all
 abbrev pub invariant-loop-it : goal.invariant-loop-it
 invariant-loop-it l = record {
-  sheet : sheet_from l.drawn.items l.rows l.rest ≡ sheet_of l.list;
+  sheet : sheet_from l.stood l.drawn.items l.rows l.rest ≡ sheet_of l.stood l.list;
   each : length l.drawn.items + length l.rest ≡ length l.list;
   few : l.rows ≤ length l.drawn.items;
 }

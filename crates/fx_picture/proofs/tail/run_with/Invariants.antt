@@ -4,7 +4,7 @@ use Rattle.fx_picture.proofs.tail.run_with.Given as goal
 
 abbrev pub invariant-loop-it : goal.invariant-loop-it
 invariant-loop-it l = record {
-  run : run_below l.fiber l.run l.rest ≡ run_below l.fiber 1 l.below;
+  run : run_below l.stood l.fiber l.run l.rest ≡ run_below l.stood l.fiber 1 l.below;
   few : l.run + length l.rest ≤ 1 + length l.below;
 }
 

@@ -4,7 +4,7 @@ use Rattle.fx_picture.proofs.tail.Tail.of.Given as goal
 
 abbrev pub invariant-loop-it : goal.invariant-loop-it
 invariant-loop-it l = record {
-  tail : tail_from l.fiber l.tail l.rest ≡ tail_of l.fiber l.above;
+  tail : tail_from l.stood l.fiber l.tail l.rest ≡ tail_of l.stood l.fiber l.above;
   few : l.tail.run + length l.rest ≤ length l.above;
 }
 
