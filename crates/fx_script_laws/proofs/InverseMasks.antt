@@ -32,6 +32,8 @@ use Rattle.fx_script_laws.proofs.MasksEntered.{masks_entered, silent_inside}
 use Rattle.fx_script_laws.proofs.RegionLaws.{used_as_poll, mask_inside, poll_leads}
 use Rattle.fx_script_laws.proofs.NestedMasks.{not_innermost, inside_come, shift, left_apart, right_apart, one, out_of_one, out_of_two}
 use Rattle.fx_script_laws.proofs.AlikeInScripts.{ComeToTheSameWithOwn, alike_in_scripts}
+use Rattle.fx_script_laws.specs.Reached.{AreAlikeWhereReached}
+use Rattle.fx_script_laws.proofs.ReachedPlaces.{alike_where_reached}
 
 module _ (n : ℕ) where
   abbrev four : List Context
@@ -215,3 +217,13 @@ inverse_masks scope p q a other scoped =
     alike_in_scripts is_any (both_own p q) (IsInverse p q) (inverse_put p q) (inverse_need p q) (inverse_come p q other)
     (in_inverse p q a) (Mask p a)
     (inverse a (scoped_used p there kind.OtherPoll a (name_is p kind.OtherPoll last) scoped) (scoped_used q there kind.OtherPoll a q_there scoped))
+
+pub inverse_reached : (scope : ℕ → Option NameKind) (p q : ℕ) (a : Term) → p ≢ q → IsScopedWithout scope p q a
+    → AreAlikeWhereReached is_any (in_inverse p q a) (Mask p a)
+inverse_reached scope p q a other scoped =
+    let last = with_name q kind.OtherPoll scope in
+    let there = with_name p kind.OtherPoll last in
+    let q_there : there q ≡ Some kind.OtherPoll = rw (ne_eqb q p (λ e. other (sym e))) (name_is q kind.OtherPoll scope) in
+    alike_where_reached is_any (in_inverse p q a) (Mask p a)
+    (λ Ends ends s place any at. inverse_come p q other Ends ends s place any at (in_inverse p q a) (Mask p a)
+    (inverse a (scoped_used p there kind.OtherPoll a (name_is p kind.OtherPoll last) scoped) (scoped_used q there kind.OtherPoll a q_there scoped)))

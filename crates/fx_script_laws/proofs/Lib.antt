@@ -33,6 +33,7 @@ pub mod RenumberedRows
 pub mod RenumberedRuns
 pub mod OwnRegions
 pub mod AlikeInScripts
+pub mod ReachedPlaces
 pub mod RegionLaws
 pub mod FinalizersInScripts
 pub mod ClosedApart

@@ -27,6 +27,8 @@ use Rattle.fx_script_laws.proofs.MasksEntered.{masks_entered, silent_inside}
 use Rattle.fx_script_laws.proofs.RegionLaws.{used_as_poll, mask_inside}
 use Rattle.fx_script_laws.proofs.NestedMasks.{not_innermost, inside_come, shift, left_apart, right_apart, one, out_of_one}
 use Rattle.fx_script_laws.proofs.AlikeInScripts.{ComeToTheSameWithOwn, alike_in_scripts}
+use Rattle.fx_script_laws.specs.Reached.{AreAlikeWhereReached}
+use Rattle.fx_script_laws.proofs.ReachedPlaces.{alike_where_reached}
 
 -- In a mask that the fiber entered as its nth: a term with a finalizer round it, or without, which has no region but earlier ones, and so never opens the mask
 module _ {Ends : Counts → Progress → Type 0} (ends : AreEndsOfStops Ends) (place : Place) (n : ℕ) (f : Term) where
@@ -119,3 +121,10 @@ pub finalizer_in_mask : (scope : ℕ → Option NameKind) (p : ℕ) (a f : Term)
 finalizer_in_mask scope p a f scoped none =
     alike_in_scripts is_any none_bound HasFinalizer finalizer_put finalizer_need finalizer_come (Mask p (OnCancel a f)) (Mask p a)
     (a_finalizer p a f none (scoped_used p (with_name p kind.OtherPoll scope) kind.OtherPoll a (name_is p kind.OtherPoll scope) scoped))
+
+pub finalizer_reached : (scope : ℕ → Option NameKind) (p : ℕ) (a f : Term) → IsScoped (with_name p kind.OtherPoll scope) a → need f ≡ 0
+    → AreAlikeWhereReached is_any (Mask p (OnCancel a f)) (Mask p a)
+finalizer_reached scope p a f scoped none =
+    alike_where_reached is_any (Mask p (OnCancel a f)) (Mask p a)
+    (λ Ends ends s place any at. finalizer_come Ends ends s place any at (Mask p (OnCancel a f)) (Mask p a)
+    (a_finalizer p a f none (scoped_used p (with_name p kind.OtherPoll scope) kind.OtherPoll a (name_is p kind.OtherPoll scope) scoped)))

@@ -32,6 +32,8 @@ use Rattle.fx_script_laws.proofs.ShutInside.{deeper, come_deeper, shut_come, shu
 use Rattle.fx_script_laws.proofs.MasksEntered.{masks_entered, silent_inside}
 use Rattle.fx_script_laws.proofs.RegionLaws.{used_as_poll, mask_inside}
 use Rattle.fx_script_laws.proofs.AlikeInScripts.{ComeToTheSameWithOwn, alike_in_scripts}
+use Rattle.fx_script_laws.specs.Reached.{AreAlikeWhereReached}
+use Rattle.fx_script_laws.proofs.ReachedPlaces.{alike_where_reached}
 
 -- a region that is not the innermost one takes nothing away
 pub not_innermost : (q r : ℕ) (cs : List Closing) → q ≢ r → without_region r (Region q ∷ cs) ≡ Region q ∷ cs
@@ -199,3 +201,13 @@ nested_masks scope p q a other scoped =
     let q_there : there q ≡ Some kind.OtherPoll = rw (ne_eqb q p (λ e. other (sym e))) (name_is q kind.OtherPoll scope) in
     alike_in_scripts is_any none_bound IsNested nested_put nested_need nested_come (Mask p (Mask q a)) (Mask p a)
     (nested p q a (scoped_used p there kind.OtherPoll a (name_is p kind.OtherPoll last) scoped) (scoped_used q there kind.OtherPoll a q_there scoped))
+
+pub nested_reached : (scope : ℕ → Option NameKind) (p q : ℕ) (a : Term) → p ≢ q → IsScopedWithout scope p q a
+    → AreAlikeWhereReached is_any (Mask p (Mask q a)) (Mask p a)
+nested_reached scope p q a other scoped =
+    let last = with_name q kind.OtherPoll scope in
+    let there = with_name p kind.OtherPoll last in
+    let q_there : there q ≡ Some kind.OtherPoll = rw (ne_eqb q p (λ e. other (sym e))) (name_is q kind.OtherPoll scope) in
+    alike_where_reached is_any (Mask p (Mask q a)) (Mask p a)
+    (λ Ends ends s place any at. nested_come Ends ends s place any at (Mask p (Mask q a)) (Mask p a)
+    (nested p q a (scoped_used p there kind.OtherPoll a (name_is p kind.OtherPoll last) scoped) (scoped_used q there kind.OtherPoll a q_there scoped)))

@@ -38,6 +38,8 @@ use Rattle.fx_script_laws.proofs.StepsAtPlace.{silent_by}
 use Rattle.fx_script_laws.proofs.StepsBefore.{begins_put, same_as}
 use Rattle.fx_script_laws.proofs.RegionLaws.{number_put, poll_leads, polled_inside}
 use Rattle.fx_script_laws.proofs.AlikeInScripts.{ComeToTheSameWithOwn, alike_in_scripts}
+use Rattle.fx_script_laws.specs.Reached.{AreAlikeWhereReached}
+use Rattle.fx_script_laws.proofs.ReachedPlaces.{alike_where_reached}
 
 -- one term in two lists of contexts, in which it is at the same spot, and whose results come to the same
 module _ {Ends : Counts → Progress → Type 0} (gs hs : List Context) (spots : (x : Term) → IsSameSpot (placed gs x) (placed hs x)) where
@@ -161,3 +163,10 @@ polled_openly scope p a scoped b =
     alike_in_scripts is_any (and_bound p none_bound) (PollsOpenly p) (polls_put p) (polls_need p) (polls_come p)
     (Mask p (Poll (Slot p) a)) a
     (polls a (scoped_used p (with_name p kind.OtherPoll scope) kind.OtherPoll a (name_is p kind.OtherPoll scope) scoped) b)
+
+pub polled_openly_reached : (scope : ℕ → Option NameKind) (p : ℕ) (a : Term) → IsScoped (with_name p kind.OtherPoll scope) a → BeginsOpenly a
+    → AreAlikeWhereReached is_any (Mask p (Poll (Slot p) a)) a
+polled_openly_reached scope p a scoped b =
+    alike_where_reached is_any (Mask p (Poll (Slot p) a)) a
+    (λ Ends ends s place any at. polls_come p Ends ends s place any at (Mask p (Poll (Slot p) a)) a
+    (polls a (scoped_used p (with_name p kind.OtherPoll scope) kind.OtherPoll a (name_is p kind.OtherPoll scope) scoped) b))

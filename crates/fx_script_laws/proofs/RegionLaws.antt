@@ -37,6 +37,8 @@ use Rattle.fx_script_laws.proofs.OwnRegions.{own_with, one_more_entered}
 use Rattle.fx_script_laws.proofs.AtClosedPlaces.{AreEndsOfStops, leads_on, can_go, after_silent}
 use Rattle.fx_script_laws.proofs.ClosedLaws.{sealed_spot}
 use Rattle.fx_script_laws.proofs.AlikeInScripts.{ComeToTheSameWithOwn, alike_in_scripts}
+use Rattle.fx_script_laws.specs.Reached.{AreAlikeWhereReached}
+use Rattle.fx_script_laws.proofs.ReachedPlaces.{alike_where_reached}
 
 -- a name that may not be used is used as a poll where it is used
 module _ (x : ℕ) where
@@ -204,3 +206,17 @@ pub mask_of_sealed : (scope : ℕ → Option NameKind) (p : ℕ) (a : Term) → 
 mask_of_sealed scope p a scoped =
     alike_in_scripts is_sealed none_bound HasMask mask_put mask_need mask_comes (Mask p a) a
     (a_mask p a (scoped_used p (with_name p kind.OtherPoll scope) kind.OtherPoll a (name_is p kind.OtherPoll scope) scoped))
+
+pub polled_reached : (scope : ℕ → Option NameKind) (p : ℕ) (a : Term) → IsScoped (with_name p kind.OtherPoll scope) a
+    → AreAlikeWhereReached is_closed (Mask p (Poll (Slot p) a)) a
+polled_reached scope p a scoped =
+    alike_where_reached is_closed (Mask p (Poll (Slot p) a)) a
+    (λ Ends ends s place closed at. polls_come p Ends ends s place closed at (Mask p (Poll (Slot p) a)) a
+    (polls a (scoped_used p (with_name p kind.OtherPoll scope) kind.OtherPoll a (name_is p kind.OtherPoll scope) scoped)))
+
+pub mask_reached : (scope : ℕ → Option NameKind) (p : ℕ) (a : Term) → IsScoped (with_name p kind.OtherPoll scope) a
+    → AreAlikeWhereReached is_sealed (Mask p a) a
+mask_reached scope p a scoped =
+    alike_where_reached is_sealed (Mask p a) a
+    (λ Ends ends s place sealed at. mask_comes Ends ends s place sealed at (Mask p a) a
+    (a_mask p a (scoped_used p (with_name p kind.OtherPoll scope) kind.OtherPoll a (name_is p kind.OtherPoll scope) scoped)))

@@ -42,7 +42,8 @@ pub shut_only : (place : Place) (c d : Counts) (l : Label) (t : Term) (q : Progr
 shut_only (InTerm fs) c d l t q shut s = (run_is_shut fs).only c d l t q shut s
 shut_only (InCleanup k rest fs) c d l t q shut s = (cleanup_is_shut k fs rest).only c d l t q tt s
 
-pub shut_does : (place : Place) (c d : Counts) (l : Label) (t u : Term) → IsShutWith place t → Row true c t l d u → Step c (come_to place t) l d (come_to place u)
+pub shut_does : (place : Place) (c d : Counts) (l : Label) (t u : Term) → IsShutWith place t → Row true c t l d u
+    → Step c (come_to place t) l d (come_to place u)
 shut_does (InTerm fs) c d l t u shut r = (run_is_shut fs).does c d l t u shut r
 shut_does (InCleanup k rest fs) c d l t u shut r = (cleanup_is_shut k fs rest).does c d l t u tt r
 

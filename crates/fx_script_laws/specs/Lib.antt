@@ -4,3 +4,4 @@ pub mod Interchange
 pub mod BeginsOpenly
 pub mod InScripts
 pub mod BlockedAlone
+pub mod Reached

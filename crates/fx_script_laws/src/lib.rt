@@ -11,6 +11,7 @@
 //! | `Filled` | one term is another one with pairs of terms put for one another in it |
 //! | `Cover` | what closes a place for certain, by the forms that stand round it |
 //! | `InScripts` | two scripts that differ at such places have the same lawful reports |
+//! | `Reached` | where a fiber of a script comes to two terms it shows the same and waits for the same |
 //! | `Interchange` | two terms show the same everywhere and wait for the same, whatever numbers stand for their names |
 //!
 //! | laws of | what they say |
@@ -20,6 +21,7 @@
 //! | [`laws`] | which terms can be put for one another |
 //! | [`closed`], [`bare`] | which can where they stand at closed places, or where nothing closes their place |
 //! | [`regions`] | which of them, where the one enters a mask more |
+//! | [`reached`] | what comes to the same where a fiber of a script comes to it, though it enters a mask more |
 //! | [`masks`] | which masks, as a whole script, have the same reports |
 //! | [`refused`] | which cannot |
 #![tactic(auto)]
@@ -29,6 +31,7 @@ pub mod closed;
 pub mod contexts;
 pub mod laws;
 pub mod masks;
+pub mod reached;
 pub mod refused;
 pub mod regions;
 pub mod scripts;
