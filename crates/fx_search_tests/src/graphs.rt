@@ -1,7 +1,7 @@
 //! Small graphs, searched.
 ghost use Rattle.std.specs.Prelude.{[], refl};
 
-use fx_search::{Ending, Space, search};
+use fx_search::{Ending, Nobody, Progress, SoFar, Space, search};
 use fx_term::Memory;
 use std::alloc::Global;
 use std::hash::{Hash, Hasher};
@@ -62,7 +62,7 @@ static SEARCHES: [(&str, &[&[u32]], usize, &[u32], usize, Ending); 7] = [
 #[test]
 fn graphs_are_searched_breadth_first(rt: HostRuntime) -> Result<(), Fail> {
     for &(row, lists, most, states, expanded, ending) in &SEARCHES {
-        let met = search(rt.alloc(), &mut Graph { lists }, 0, most)?;
+        let met = search(rt.alloc(), &mut Graph { lists }, 0, most, &mut Nobody)?;
         assert!(rt; met.states.as_slice() == states, "{row}");
         assert_eq!(rt; (met.expanded, met.ending), (expanded, ending), "{row}");
     }
@@ -71,7 +71,7 @@ fn graphs_are_searched_breadth_first(rt: HostRuntime) -> Result<(), Fail> {
 
 #[test]
 fn parents_lead_back_to_the_start(rt: HostRuntime) -> Result<(), Fail> {
-    let met = search(rt.alloc(), &mut Graph { lists: WIDE }, 0, 9)?;
+    let met = search(rt.alloc(), &mut Graph { lists: WIDE }, 0, 9, &mut Nobody)?;
     assert!(rt; met.parents.as_slice() == [0, 0, 0, 1, 2, 3].as_slice());
     Ok(())
 }
@@ -112,9 +112,31 @@ impl Space<Colliding> for Countdown {
 
 #[test]
 fn states_of_one_hash_are_told_apart(rt: HostRuntime) -> Result<(), Fail> {
-    let met = search(rt.alloc(), &mut Countdown, Colliding(4), 9)?;
+    let met = search(rt.alloc(), &mut Countdown, Colliding(4), 9, &mut Nobody)?;
     let numbers = [4, 3, 2, 1, 0].map(Colliding);
     assert!(rt; met.states.as_slice() == numbers.as_slice());
     assert!(rt; met.ending == Ending::Exhausted);
+    Ok(())
+}
+
+/// Keeps the last four things that it hears.
+#[derive(Drop)]
+struct Listener {
+    heard: [(usize, usize); 4],
+}
+
+impl Progress for Listener {
+    ghost hears = { λ old so_far new. Unit {0} };
+
+    fn tell(&mut self, so_far: SoFar) {
+        self.heard[so_far.expanded % 4] = (so_far.expanded, so_far.met);
+    }
+}
+
+#[test]
+fn each_state_is_told_before_it_is_expanded(rt: HostRuntime) -> Result<(), Fail> {
+    let mut listener = Listener { heard: [(9, 9); 4] };
+    search(rt.alloc(), &mut Graph { lists: WIDE }, 0, 3, &mut listener)?;
+    assert!(rt; listener.heard == [(0, 1), (1, 3), (2, 4), (9, 9)]);
     Ok(())
 }
