@@ -31,6 +31,7 @@ pub mod laws;
 mod lines;
 mod resting;
 mod schedules;
+mod states;
 mod status;
 mod telling;
 mod write;

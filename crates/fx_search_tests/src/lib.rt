@@ -3,3 +3,7 @@
 
 #[cfg(test)]
 mod graphs;
+#[cfg(test)]
+mod numbered;
+#[cfg(test)]
+mod sets;
