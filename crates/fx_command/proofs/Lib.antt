@@ -14,3 +14,4 @@ mod FoundAnswers
 mod ExpectedAnswers
 pub mod ToldTextLaws
 mod ShortCalls
+pub mod Heard

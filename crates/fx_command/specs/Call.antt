@@ -3,7 +3,8 @@ use Rattle.std.specs.Prelude.{ℕ, if◌then◌else◌, Option, Some, None, List
 use Rattle.fx_command.specs.declared.call.Command.{Command}
 use Rattle.fx_command.specs.declared.call.Command.TheVariants.{Check, Replay, Trace, Steps, Run, Record, Picture, PictureRun, Explore, Expect}
 use Rattle.fx_command.specs.declared.call.Call.{Call}
-use Rattle.fx_command.specs.declared.call.Search.{Search}
+use Rattle.fx_command.specs.declared.call.Telling.{Telling}
+use Rattle.fx_command.specs.declared.call.Telling.TheVariants.{Silent, Aloud}
 use Rattle.fx_command.specs.declared.states.TheConstants.{MOST_STATES}
 use Rattle.fx_command.specs.Workers.{workers_in}
 use Rattle.fx_command.specs.States.{states_in}
@@ -43,21 +44,41 @@ abbrev pub call_by_workers : Command → List (List ℕ) → Option CallView
 call_by_workers c (script ∷ word ∷ []) = Some (record { command = c; script = script; schedule = None; expected = None })
 call_by_workers c names = None
 
--- with the name of a script, and nothing more, or the word for what is expected and the name of its text, which is no standard input
-abbrev pub call_expecting : List ℕ → Search → List (List ℕ) → Option CallView
-call_expecting script search [] = Some (record { command = Explore search; script = script; schedule = None; expected = None })
-call_expecting script search (word ∷ file ∷ []) =
-    if bytes_eq word (codes "expect") && not (bytes_eq file (codes "-")) then
-    Some (record { command = Expect search; script = script; schedule = None; expected = Some file })
-    else None
-call_expecting script search words = None
+-- at the end the word that asks to be told how far a search has come, or nothing
+abbrev pub telling_among : List (List ℕ) → Option Telling
+telling_among [] = Some Silent
+telling_among (word ∷ []) = if bytes_eq word (codes "progress") then Some Aloud else None
+telling_among words = None
+
+abbrev pub call_finding : List ℕ → ℕ → Option ℕ → Telling → CallView
+call_finding script most target telling = record {
+  command = Explore (record { most = most; target = target; telling = telling });
+  script = script;
+  schedule = None;
+  expected = None;
+}
+
+abbrev pub call_comparing : List ℕ → ℕ → Option ℕ → List ℕ → Telling → CallView
+call_comparing script most target file telling = record {
+  command = Expect (record { most = most; target = target; telling = telling });
+  script = script;
+  schedule = None;
+  expected = Some file;
+}
+
+-- with the name of a script, and before that end the word for what is expected and the name of its text, which is no standard input, or neither
+abbrev pub call_expecting : List ℕ → ℕ → Option ℕ → List (List ℕ) → Option CallView
+call_expecting script most target (word ∷ file ∷ rest) =
+    if bytes_eq word (codes "expect") && not (bytes_eq file (codes "-")) then option_map (call_comparing script most target file) (telling_among rest)
+    else option_map (call_finding script most target) (telling_among (word ∷ file ∷ rest))
+call_expecting script most target words = option_map (call_finding script most target) (telling_among words)
 
 -- before these the word for a request from outside and the number of its fiber, or neither
 abbrev pub call_canceling : List ℕ → ℕ → List (List ℕ) → Option CallView
 call_canceling script most (word ∷ fiber ∷ rest) =
-    if bytes_eq word (codes "cancel") then option_and_then (λ n. call_expecting script (record { most = most; target = Some n }) rest) (workers_in fiber)
-    else call_expecting script (record { most = most; target = None }) (word ∷ fiber ∷ rest)
-call_canceling script most words = call_expecting script (record { most = most; target = None }) words
+    if bytes_eq word (codes "cancel") then option_and_then (λ n. call_expecting script most (Some n) rest) (workers_in fiber)
+    else call_expecting script most None (word ∷ fiber ∷ rest)
+call_canceling script most words = call_expecting script most None words
 
 -- before these a number of states, if the first word is one
 abbrev pub call_with_states : List ℕ → List (List ℕ) → List (List ℕ) → Option ℕ → Option CallView

@@ -4,6 +4,7 @@ pub mod CommandFault
 pub mod Workers
 pub mod States
 pub mod Call
+pub mod Heard
 pub mod Help
 pub mod Stream
 pub mod Printable

@@ -1,6 +1,6 @@
 //! What the words after the program's name ask for.
 ghost use Rattle.std.specs.Prelude.{◌≡◌, map, string_bytes};
-ghost use Rattle.fx_command.specs.Call.{workers_among};
+ghost use Rattle.fx_command.specs.Call.{workers_among, telling_among};
 
 use crate::files::STANDARD_INPUT;
 use crate::states::{MOST_STATES, states_in};
@@ -38,6 +38,17 @@ pub(crate) struct Search {
     pub(crate) most: u32,
     /// The fiber that may be requested from outside, if one may.
     pub(crate) target: Option<u32>,
+    /// Whether it tells how far it has come.
+    pub(crate) telling: Telling,
+}
+
+/// Whether a search tells how far it has come.
+#[derive(Clone, Copy, PartialEq, Eq, Debug)]
+pub(crate) enum Telling {
+    /// It tells nothing until it ends.
+    Silent,
+    /// It tells that as it goes on.
+    Aloud,
 }
 
 /// A call of the program.
@@ -58,6 +69,17 @@ fn workers_among(names: &[String]) -> Option<u32>
 {
     match names {
         [_, workers] => workers_in(workers.as_str()),
+        _ => None,
+    }
+}
+
+/// Whether a search tells how far it has come, by the words at the end: one word asks for that.
+fn telling_among(words: &[String]) -> Option<Telling>
+    ensures { result ≡ telling_among (map string_bytes words.now) }
+{
+    match words {
+        [] => Some(Telling::Silent),
+        [word] if word.as_str() == "progress" => Some(Telling::Aloud),
         _ => None,
     }
 }
@@ -158,32 +180,50 @@ impl<'a> Call<'a> {
         }
     }
 
-    /// The call for this search of the script of this name, with nothing more, or with a word before the name of
-    /// what is expected. That is a file.
-    fn expecting(script: &'a str, search: Search, words: &'a [String]) -> Option<Call<'a>>
+    /// The call for a search of the script of this name, from at most so many states and with this target, where a
+    /// word may come before the name of what is expected, which is a file, and at the end one that asks to be told
+    /// how far the search has come.
+    fn expecting(
+        script: &'a str,
+        most: u32,
+        target: Option<u32>,
+        words: &'a [String],
+    ) -> Option<Call<'a>>
         ensures call { option_map view_call result
-            ≡ call_expecting script.now search (map string_bytes words.now) }
+            ≡ call_expecting script.now most target (map string_bytes words.now) }
         ensures file { IfSome result
             (λ call. IfSome call.schedule (λ name. name.now ≢ codes "-")) }
         ensures expected { IfSome result
             (λ call. IfSome call.expected (λ name. name.now ≢ codes "-")) }
     {
         match words {
-            [] => Some(Call {
-                command: Command::Explore(search),
-                script,
-                schedule: None,
-                expected: None,
-            }),
-            [word, file] if word.as_str() == "expect" && file.as_str() != STANDARD_INPUT => {
+            [word, file, rest @ ..]
+                if word.as_str() == "expect" && file.as_str() != STANDARD_INPUT => {
+                let telling = telling_among(rest)?;
                 Some(Call {
-                    command: Command::Expect(search),
+                    command: Command::Expect(Search {
+                        most,
+                        target,
+                        telling,
+                    }),
                     script,
                     schedule: None,
                     expected: Some(file.as_str()),
                 })
             }
-            _ => None,
+            _ => {
+                let telling = telling_among(words)?;
+                Some(Call {
+                    command: Command::Explore(Search {
+                        most,
+                        target,
+                        telling,
+                    }),
+                    script,
+                    schedule: None,
+                    expected: None,
+                })
+            }
         }
     }
 
@@ -200,9 +240,9 @@ impl<'a> Call<'a> {
         match words {
             [word, fiber, rest @ ..] if word.as_str() == "cancel" => {
                 let target = Some(workers_in(fiber.as_str())?);
-                Call::expecting(script, Search { most, target }, rest)
+                Call::expecting(script, most, target, rest)
             }
-            _ => Call::expecting(script, Search { most, target: None }, words),
+            _ => Call::expecting(script, most, None, words),
         }
     }
 

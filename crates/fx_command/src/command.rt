@@ -5,7 +5,8 @@ ghost use Rattle.fx_command.specs.CommandFault.{IsUnread};
 ghost use Rattle.fx_command.specs.Fetched.{IsPrefixOf, ReadsScript, FetchesNoScript};
 ghost use Rattle.fx_command.specs.Fetched.{FetchesSchedule, FetchesNoSchedule, KeepsFiles};
 ghost use Rattle.fx_command.specs.Fetched.{FetchesAll, FetchesNone};
-ghost use Rattle.fx_command.specs.Call.{view_call};
+ghost use Rattle.fx_command.specs.Call.{call_of, view_call};
+ghost use Rattle.fx_command.specs.Heard.{HearsCall, HearsCommand};
 ghost use Rattle.fx_command.specs.CommandAnswer.{known_text, AnswersToCall, Leaves};
 ghost use Rattle.fx_command.specs.CommandAnswer.{TellsPage, TellsRefusal, TellsUnreadable, TellsRunFault, Runs};
 ghost use Rattle.fx_command.specs.Said.{Says, run_fault_line, unreadable_line};
@@ -19,6 +20,7 @@ use crate::perform::{Performed, perform};
 use crate::printable::push_printable;
 use crate::stream::{CutShort, Stream};
 use crate::texts::{picks_in, script_in};
+pub use fx_findings::{Nobody, Progress, SoFar};
 use fx_report::{AnswerFault, ENDED, MOST_OF_SCRIPT, REFUSED, read_text};
 pub use fx_report::{FAULT, OTHER_WORDS, UNREADABLE};
 use fx_run::RunFault;
@@ -129,12 +131,19 @@ fn expected_of<'a, F: Files>(
 
 /// Does what is asked. The script is read whole, and refused if it is none, before the schedule or what is
 /// expected is fetched.
-fn answer<'a, R: Wait + Threads + Sync + RandomSource + AllocGlobal, F: Files, W: Write>(
+fn answer<
+    'a,
+    R: Wait + Threads + Sync + RandomSource + AllocGlobal,
+    F: Files,
+    W: Write,
+    G: Progress,
+>(
     rt: &R,
     alloc: Global,
     call: Call<'a>,
     files: &mut F,
     out: &mut Stream<W>,
+    progress: &mut G,
 ) -> Result<Performed, CommandFault<'a>>
     requires schedule { IfSome call.schedule (λ name. name.now ≢ codes "-") }
     requires expected { IfSome call.expected (λ name. name.now ≢ codes "-") }
@@ -143,6 +152,7 @@ fn answer<'a, R: Wait + Threads + Sync + RandomSource + AllocGlobal, F: Files, W
         performed.status out.old out.new) }
     ensures fault { IfErr result
         (λ fault. Leaves (F.holds files.old) (view_call call.entry) fault out.old out.new) }
+    ensures hears { HearsCommand G.hears progress.old progress.new (view_call call.entry).command }
 {
     let (script, source) = script_of(alloc, files, call.script)?;
     let picks = schedule_of(alloc, files, call.schedule)?;
@@ -156,6 +166,7 @@ fn answer<'a, R: Wait + Threads + Sync + RandomSource + AllocGlobal, F: Files, W
         &picks,
         &expected,
         out,
+        progress,
     )
 }
 
@@ -270,17 +281,26 @@ fn tell_run_fault<E: Write>(alloc: Global, fault: RunFault, err: &mut Stream<E>)
 ///
 /// The texts for `out` and for `err` are whole before the first write, so at want of memory nothing is
 /// written on `out`. What a stream refused before this call is not told apart from what it refuses in
-/// it, so a caller hands in streams that have refused nothing.
-pub fn command<R: Wait + Threads + Sync + RandomSource + AllocGlobal, F: Files, W: Write, E: Write>(
+/// it, so a caller hands in streams that have refused nothing. How far a search has come is told to whoever
+/// listens, if the words ask for it.
+pub fn command<
+    R: Wait + Threads + Sync + RandomSource + AllocGlobal,
+    F: Files,
+    W: Write,
+    E: Write,
+    G: Progress,
+>(
     rt: &R,
     alloc: Global,
     words: &[String],
     files: &mut F,
     out: &mut Stream<W>,
     err: &mut Stream<E>,
+    progress: &mut G,
 ) -> u8
-    ensures { Runs (map string_bytes words.now) (F.holds files.old) out.old out.new err.old err.new
+    ensures runs { Runs (map string_bytes words.now) (F.holds files.old) out.old out.new err.old err.new
         result }
+    ensures hears { HearsCall G.hears progress.old progress.new (call_of (map string_bytes words.now)) }
 {
     if let Some(topic) = topic_of(words) {
         return tell_page(topic, out, err);
@@ -289,7 +309,7 @@ pub fn command<R: Wait + Threads + Sync + RandomSource + AllocGlobal, F: Files, 
         say(USAGE, err);
         return OTHER_WORDS;
     };
-    match answer(rt, alloc, call, files, out) {
+    match answer(rt, alloc, call, files, out, progress) {
         Ok(performed) => {
             say(&performed.words, err);
             performed.status

@@ -8,22 +8,29 @@ ghost use Rattle.fx_report.specs.Waits.{blocked_text, IsBlockedAtQueueBelow};
 ghost use Rattle.fx_text.specs.Grammar.{IsScript};
 ghost use Rattle.fx_places.specs.Places.{positions_of};
 ghost use Rattle.fx_plain.specs.PassedPicks.{IsWhyAtQueueBelow};
+ghost use Rattle.fx_explore.specs.Setting.{setting};
+ghost use Rattle.fx_findings.specs.Explored.{IsExplored};
+ghost use Rattle.fx_report.specs.Script.{script_of};
+ghost use Rattle.fx_command.specs.Heard.{HearsCommand, HearsTelling};
 ghost use Rattle.fx_command.specs.Passed.{replay_words};
 ghost use Rattle.fx_command.specs.Performed.{counts_text, check_text, Performs};
 
-use crate::call::{Command, Search};
+use crate::call::{Command, Search, Telling};
 use crate::command_fault::CommandFault;
 use crate::passed::format_passed;
 use crate::pictured::{picture, picture_run};
 use crate::placed::{places_in, places_of_blocked};
 use crate::stream::Stream;
 use crate::told_text::format_told;
-use fx_findings::{Compared, compare, explore, explored_status, format_explored};
+use fx_findings::{
+    Compared, Explored, Nobody, Progress, compare, explore, explored_status, format_explored,
+};
 use fx_places::{FormPlace, positions};
 use fx_plain::{Replayed, replay_to_halt, tell_run};
 use fx_report::{Blocked, ENDED, format_report, format_traces, format_waits, status_after};
 use fx_run::run_to_halt;
 use fx_sched::Free;
+use fx_term::Memory;
 use fx_text::{Pick, Script};
 use std::alloc::{AllocError, AllocGlobal, Global};
 use std::io::Write;
@@ -227,18 +234,38 @@ fn record<'a, R: Wait + Threads + Sync + RandomSource + AllocGlobal, W: Write>(
     })
 }
 
+/// What this search finds of the script's runs. It tells how far it has come, if that is asked for.
+fn explored_by<G: Progress>(
+    alloc: Global,
+    script: &Script,
+    search: Search,
+    progress: &mut G,
+) -> Result<Explored, Memory>
+    ensures explored { IfOk result
+        (λ explored. IsExplored (setting (script_of (meaning script.now)) search.target) search.most explored) }
+    ensures hears { HearsTelling G.hears progress.old progress.new search.telling }
+{
+    let most = search.most as usize;
+    match search.telling {
+        Telling::Silent => explore(alloc, script, search.target, most, &mut Nobody),
+        Telling::Aloud => explore(alloc, script, search.target, most, progress),
+    }
+}
+
 /// Visits the script's runs in this search, and writes what it has found.
-fn find<'a, W: Write>(
+fn find<'a, W: Write, G: Progress>(
     alloc: Global,
     script: &Script,
     search: Search,
     out: &mut Stream<W>,
+    progress: &mut G,
 ) -> Result<Performed, CommandFault<'a>>
-    ensures { (source : List ℕ) (picks : List pick.Pick) (expected : List ℕ)
+    ensures performs { (source : List ℕ) (picks : List pick.Pick) (expected : List ℕ)
         → Performs (command.Explore search) source (meaning script.now) picks expected result
         out.old out.new }
+    ensures hears { HearsTelling G.hears progress.old progress.new search.telling }
 {
-    let explored = explore(alloc, script, search.target, search.most as usize)?;
+    let explored = explored_by(alloc, script, search, progress)?;
     let text = format_explored(alloc, script, &explored)?;
     out.write(&text)?;
     Ok(Performed {
@@ -249,17 +276,19 @@ fn find<'a, W: Write>(
 
 /// Visits the script's runs in this search, and writes what comes of it where it is compared with the reports that are
 /// expected.
-fn expect<'a, W: Write>(
+fn expect<'a, W: Write, G: Progress>(
     alloc: Global,
     script: &Script,
     search: Search,
     expected: &[u8],
     out: &mut Stream<W>,
+    progress: &mut G,
 ) -> Result<Performed, CommandFault<'a>>
-    ensures { (source : List ℕ) (picks : List pick.Pick) → Performs (command.Expect search) source
+    ensures performs { (source : List ℕ) (picks : List pick.Pick) → Performs (command.Expect search) source
         (meaning script.now) picks expected.now result out.old out.new }
+    ensures hears { HearsTelling G.hears progress.old progress.new search.telling }
 {
-    let found = explore(alloc, script, search.target, search.most as usize)?;
+    let found = explored_by(alloc, script, search, progress)?;
     let Compared { text, status } = compare(alloc, script, &found, expected)?;
     out.write(&text)?;
     Ok(Performed {
@@ -276,8 +305,13 @@ fn expect<'a, W: Write>(
 /// none, whatever it has found, and the status is 6 where it is not complete and has found no fiber that waits
 /// for good. Where it is compared, the status is 1 where it has found a report that is not expected, whether a fiber waits
 /// for good in it or not, and else 6 or 0. It is 5 where a picture would be too large: then nothing is printed, and the words
-/// say so.
-pub(crate) fn perform<'a, R: Wait + Threads + Sync + RandomSource + AllocGlobal, W: Write>(
+/// say so. How far a search has come is told to whoever listens, if that is asked for.
+pub(crate) fn perform<
+    'a,
+    R: Wait + Threads + Sync + RandomSource + AllocGlobal,
+    W: Write,
+    G: Progress,
+>(
     rt: &R,
     alloc: Global,
     command: Command,
@@ -286,11 +320,13 @@ pub(crate) fn perform<'a, R: Wait + Threads + Sync + RandomSource + AllocGlobal,
     picks: &[Pick],
     expected: &[u8],
     out: &mut Stream<W>,
+    progress: &mut G,
 ) -> Result<Performed, CommandFault<'a>>
     requires queues { script.now.code.queues ≤ length script.now.queues.items }
     requires says { IsScript source.now (meaning script.now) }
-    ensures { Performs command source.now (meaning script.now) picks.now expected.now result
+    ensures performs { Performs command source.now (meaning script.now) picks.now expected.now result
         out.old out.new }
+    ensures hears { HearsCommand G.hears progress.old progress.new command }
 {
     match command {
         Command::Check => check(alloc, script, picks, out),
@@ -301,7 +337,7 @@ pub(crate) fn perform<'a, R: Wait + Threads + Sync + RandomSource + AllocGlobal,
         Command::Record(workers) => record(rt, alloc, script, source, workers, out),
         Command::Picture => picture(alloc, script, source, picks, out),
         Command::PictureRun(workers) => picture_run(rt, alloc, script, source, workers, out),
-        Command::Explore(search) => find(alloc, script, search, out),
-        Command::Expect(search) => expect(alloc, script, search, expected, out),
+        Command::Explore(search) => find(alloc, script, search, out, progress),
+        Command::Expect(search) => expect(alloc, script, search, expected, out, progress),
     }
 }

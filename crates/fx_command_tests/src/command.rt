@@ -1,5 +1,5 @@
 //! Runs of the program over texts in memory.
-use fx_command::command::{FAULT, UNREADABLE, command};
+use fx_command::command::{FAULT, Nobody, Progress, SoFar, UNREADABLE, command};
 use fx_command::files::{FetchFault, Files};
 use fx_command::stream::Stream;
 use fx_plain::{ENDED, REFUSED};
@@ -11,6 +11,7 @@ use std::sync::Wait;
 use std::test::Fail;
 use std::thread::Threads;
 
+mod heard;
 mod inputs;
 mod limits;
 mod streams;
@@ -89,13 +90,24 @@ fn words_of(alloc: Global, line: &str) -> Result<Vec<String>, AllocError> {
     Ok(words)
 }
 
-/// The run of the program with these words, over these texts.
+/// The run of the program with these words, over these texts, where nobody listens.
 fn run_of(rt: &impl Machine, line: &str, texts: &[(&str, Text<'_>)]) -> Result<Ran, AllocError> {
+    run_heard(rt, line, texts, &mut Nobody)
+}
+
+/// The run of the program with these words, over these texts, where this one listens.
+fn run_heard(
+    rt: &impl Machine,
+    line: &str,
+    texts: &[(&str, Text<'_>)],
+    progress: &mut impl Progress,
+) -> Result<Ran, AllocError> {
     let alloc = rt.alloc();
     let words = words_of(alloc, line)?;
     let mut out = Stream::new(Vec::new(alloc));
     let mut err = Stream::new(Vec::new(alloc));
-    let status = command(rt, alloc, &words, &mut Texts { texts }, &mut out, &mut err);
+    let mut texts = Texts { texts };
+    let status = command(rt, alloc, &words, &mut texts, &mut out, &mut err, progress);
     Ok(Ran {
         status,
         out: out.into_writer(),

@@ -13,3 +13,4 @@ pub mod MappedSplits
 pub mod LentLines
 pub mod ReadBlocks
 pub mod Judged
+pub mod Heard

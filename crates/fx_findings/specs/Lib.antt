@@ -7,3 +7,4 @@ pub mod Text
 pub mod Printed
 pub mod Expected
 pub mod Compared
+pub mod Heard

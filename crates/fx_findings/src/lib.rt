@@ -39,5 +39,6 @@ mod write;
 pub use compared::{Compared, UNEXPECTED, compare};
 pub use explored::{Explored, Finding, HaltedFiber, Told};
 pub use exploring::explore;
+pub use fx_search::{Nobody, Progress, SoFar};
 pub use status::{INCOMPLETE, explored_status};
 pub use write::format_explored;

@@ -1,5 +1,5 @@
 //! Scripts with all reports that their runs have, each worked out from the rules.
-use fx_findings::{compare, explore};
+use fx_findings::{Nobody, compare, explore};
 use fx_report::ENDED;
 use fx_search::Ending;
 use fx_text::{Pick, parse};
@@ -283,7 +283,7 @@ fn requests_for(picks: &[Pick], target: u32) -> usize {
 fn reports_are_those_of_the_rules(rt: HostRuntime) -> Result<(), Fail> {
     for row in &ROWS {
         let script = parse(rt.alloc(), row.script)?;
-        let explored = explore(rt.alloc(), &script, None, 100_000)?;
+        let explored = explore(rt.alloc(), &script, None, 100_000, &mut Nobody)?;
         assert_eq!(rt; explored.ending, Ending::Exhausted);
         assert_eq!(rt; explored.findings.len(), row.count);
         let compared = compare(rt.alloc(), &script, &explored, row.reports)?;
@@ -296,7 +296,13 @@ fn reports_are_those_of_the_rules(rt: HostRuntime) -> Result<(), Fail> {
 fn a_fiber_is_requested_at_any_moment(rt: HostRuntime) -> Result<(), Fail> {
     for asked in &ASKED {
         let script = parse(rt.alloc(), asked.row.script)?;
-        let explored = explore(rt.alloc(), &script, Some(asked.target), 100_000)?;
+        let explored = explore(
+            rt.alloc(),
+            &script,
+            Some(asked.target),
+            100_000,
+            &mut Nobody,
+        )?;
         assert_eq!(rt; explored.ending, Ending::Exhausted);
         assert_eq!(rt; explored.findings.len(), asked.row.count);
         let compared = compare(rt.alloc(), &script, &explored, asked.row.reports)?;
@@ -309,7 +315,13 @@ fn a_fiber_is_requested_at_any_moment(rt: HostRuntime) -> Result<(), Fail> {
 fn a_fiber_is_requested_at_most_once(rt: HostRuntime) -> Result<(), Fail> {
     for asked in &ASKED {
         let script = parse(rt.alloc(), asked.row.script)?;
-        let explored = explore(rt.alloc(), &script, Some(asked.target), 100_000)?;
+        let explored = explore(
+            rt.alloc(),
+            &script,
+            Some(asked.target),
+            100_000,
+            &mut Nobody,
+        )?;
         for finding in &explored.findings {
             assert!(rt; finding.schedule.is_some());
             if let Some(picks) = &finding.schedule {

@@ -1,5 +1,5 @@
 //! Small scripts, and what can be told of their runs, by the rules.
-use fx_findings::{Finding, HaltedFiber, explore};
+use fx_findings::{Finding, HaltedFiber, Nobody, explore};
 use fx_search::Ending;
 use fx_term::Outcome;
 use fx_text::parse;
@@ -141,7 +141,7 @@ fn are_found(findings: &[Finding], rows: &[Row]) -> bool {
 fn reports_of_small_scripts_are_found(rt: HostRuntime) -> Result<(), Fail> {
     for &(text, rows) in &SCRIPTS {
         let script = parse(rt.alloc(), text)?;
-        let explored = explore(rt.alloc(), &script, None, 1000)?;
+        let explored = explore(rt.alloc(), &script, None, 1000, &mut Nobody)?;
         assert_eq!(rt; explored.ending, Ending::Exhausted);
         assert_eq!(rt; explored.findings.len(), rows.len());
         assert!(rt; are_found(&explored.findings, rows));
@@ -153,7 +153,7 @@ fn reports_of_small_scripts_are_found(rt: HostRuntime) -> Result<(), Fail> {
 fn each_of_two_may_end_first_by_a_schedule(rt: HostRuntime) -> Result<(), Fail> {
     let text = b"(main (start a (pure 1) (start b (pure 2) (first a b))))";
     let script = parse(rt.alloc(), text)?;
-    let explored = explore(rt.alloc(), &script, None, 1000)?;
+    let explored = explore(rt.alloc(), &script, None, 1000, &mut Nobody)?;
     assert_eq!(rt; explored.findings.len(), EITHER.len());
     assert!(rt; are_found(&explored.findings, EITHER));
     Ok(())
@@ -171,7 +171,7 @@ fn have_plain_run(findings: &[Finding]) -> bool {
 fn run_without_a_schedule_wants_no_picks(rt: HostRuntime) -> Result<(), Fail> {
     for &(text, _rows) in &SCRIPTS {
         let script = parse(rt.alloc(), text)?;
-        let explored = explore(rt.alloc(), &script, None, 1000)?;
+        let explored = explore(rt.alloc(), &script, None, 1000, &mut Nobody)?;
         assert!(rt; have_plain_run(&explored.findings));
     }
     Ok(())
@@ -181,7 +181,7 @@ fn run_without_a_schedule_wants_no_picks(rt: HostRuntime) -> Result<(), Fail> {
 fn search_that_is_cut_short_says_so(rt: HostRuntime) -> Result<(), Fail> {
     for &(text, _rows) in &SCRIPTS {
         let script = parse(rt.alloc(), text)?;
-        let explored = explore(rt.alloc(), &script, None, 1)?;
+        let explored = explore(rt.alloc(), &script, None, 1, &mut Nobody)?;
         assert_eq!(rt; (explored.states, explored.ending), (1, Ending::Limit));
     }
     Ok(())

@@ -26,6 +26,8 @@ how each fiber ended; or it visits all runs of the script.
                               from outside, at any moment
   fibers explore F [MOST] [cancel N] expect FILE
                               prints the first of these that FILE does not have
+  fibers explore F .. progress
+                              says on standard error how far it has come
   fibers help [WORD]          prints this page, or the one on a word
 
 F is a file with a script, or - for standard input. SCHEDULE is a file with the
@@ -201,7 +203,7 @@ on the other the order does not say which came first.
 ";
 
 const EXPLORE: &str = "\
-fibers explore F [MOST] [cancel N] [expect FILE]
+fibers explore F [MOST] [cancel N] [expect FILE] [progress]
 
 Visits all runs of the script in the file F in which nobody is requested from
 outside, and prints each report that some run has, each once, those first in
@@ -215,8 +217,9 @@ other reports. It is incomplete where there are more than MOST states, a number
 from 1 to 4294967295, and 1000000 if it is left out, or where memory ran out.
 
 The status is 1 where a report has a blocked fiber, 6 where none has and the
-search is incomplete, and else 0. Standard error has nothing: what a blocked
-fiber waits for, fibers replay says there, by the schedule.
+search is incomplete, and else 0. Standard error has nothing, if the last word
+is not progress: what a blocked fiber waits for, fibers replay says there, by
+the schedule.
 
     $ echo '(queue q 1) (main (start h (offer q 1) (offer q 2)))' > script
     $ fibers explore script | head -4
@@ -246,6 +249,11 @@ it found are, and else 0, also where a fiber is blocked.
     $ fibers explore script > expected
     $ fibers explore script expect expected
     explored: 2 reports, 4 states, all expected
+
+With the word progress at the end standard error has a line for each second but
+the first: from how many states the search has gone on, and from how many more
+that it has met it is still to do so. A second search, which is made where the
+first one has left out a step of a first, begins at none again.
 ";
 
 const SCHEDULE: &str = "\

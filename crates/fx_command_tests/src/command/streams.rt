@@ -88,7 +88,15 @@ fn run_into(rt: &impl Machine, row: &Row, out: Full, err: Full) -> Result<Ran, A
     let mut texts = Texts { texts: &texts };
     let mut out = Stream::new(out);
     let mut err = Stream::new(err);
-    let status = command(rt, alloc, &words, &mut texts, &mut out, &mut err);
+    let status = command(
+        rt,
+        alloc,
+        &words,
+        &mut texts,
+        &mut out,
+        &mut err,
+        &mut Nobody,
+    );
     Ok(Ran {
         status,
         out: out.into_writer().taken,

@@ -7,7 +7,7 @@ use crate::shown::room;
 use fx_command::command::{FAULT, command};
 use fx_command::files::{FetchFault, Files};
 use fx_command::stream::Stream;
-use fx_findings::INCOMPLETE;
+use fx_findings::{INCOMPLETE, Nobody};
 use fx_report::BLOCKED as OF_BLOCKED;
 use std::alloc::{AllocGlobal, Global};
 use std::io;
@@ -268,7 +268,15 @@ pub fn commands<R: Wait + Threads + Sync + RandomSource + AllocGlobal>(
     let (mut out, mut err) = (Stream::new(out), Stream::new(err));
     let mut texts = Texts { script: on.text };
     refuser.go_on();
-    let status = command(rt, alloc, &words, &mut texts, &mut out, &mut err);
+    let status = command(
+        rt,
+        alloc,
+        &words,
+        &mut texts,
+        &mut out,
+        &mut err,
+        &mut Nobody,
+    );
     refuser.hold();
     answer_of(said, on, status, &out.into_writer(), &err.into_writer())
 }

@@ -8,7 +8,7 @@ use crate::refuser::Refuser;
 use crate::scripts::{Printed, Worked};
 use crate::shown::{is_written, room};
 use fx_fiber::Report;
-use fx_findings::{Compared, compare, explore};
+use fx_findings::{Compared, Nobody, compare, explore};
 use fx_picture::{PictureFault, format_picture};
 use fx_plain::{ENDED, OutFault, Told, replay, tell_run, write_report, write_trace};
 use fx_term::Memory;
@@ -75,7 +75,7 @@ fn tells(alloc: Global, given: &Given, refuser: &Refuser) -> Answer {
 
 /// What the comparison with this text answers, which has the one report that a search finds.
 fn compares(alloc: Global, given: &Given, text: &str, refuser: &Refuser) -> Answer {
-    let Ok(explored) = explore(alloc, &given.script, None, 10_000) else {
+    let Ok(explored) = explore(alloc, &given.script, None, 10_000, &mut Nobody) else {
         return UNSET;
     };
     refuser.go_on();

@@ -3,6 +3,7 @@ use Rattle.std.proofs.Common.{◌∙◌}
 use Rattle.fx_command.specs.Call.{view_call}
 use Rattle.fx_command.proofs.Fetched.{text_kept}
 use Rattle.fx_command.proofs.CommandAnswer.{fetches, leaves_no_script, leaves_no_schedule, leaves_no_expected, leaves_unwritten, writes_answer}
+use Rattle.fx_command.proofs.Heard.{silent_command}
 use Rattle.fx_command.proofs.command.answer.Goals as goal
 
 pub returns-in_err-script-clause-fault : goal.returns-in_err-script-clause-fault
@@ -38,7 +39,7 @@ returns-clause-fault g c =
     ∙ text_kept _ _ c.args.call.expected c.script_of.ensures.kept c.requires.expected in
     let all = rw (still, ← c.deref-3.ensures.value) at c.in_ok-expected.ensures.found in
     leaves_unwritten (g.F.Files.holds c.args.files.now) (view_call c.args.call) _ _ _ _ c.perform.result c.args.out.now
-    c.perform.new.out has found all c.perform.ensures
+    c.perform.new.out has found all c.perform.ensures.performs
 
 pub returns-clause-answered : goal.returns-clause-answered
 returns-clause-answered g c =
@@ -50,4 +51,13 @@ returns-clause-answered g c =
     ∙ text_kept _ _ c.args.call.expected c.script_of.ensures.kept c.requires.expected in
     let all = rw (still, ← c.deref-3.ensures.value) at c.in_ok-expected.ensures.found in
     writes_answer (g.F.Files.holds c.args.files.now) (view_call c.args.call) _ _ _ _ c.perform.result c.args.out.now
-    c.perform.new.out has found all c.perform.ensures
+    c.perform.new.out has found all c.perform.ensures.performs
+
+pub returns-in_err-script-clause-hears : goal.returns-in_err-script-clause-hears
+returns-in_err-script-clause-hears g c = silent_command g.G.Progress.hears c.args.progress.now (view_call c.args.call).command
+
+pub returns-in_err-picks-clause-hears : goal.returns-in_err-picks-clause-hears
+returns-in_err-picks-clause-hears g c = silent_command g.G.Progress.hears c.args.progress.now (view_call c.args.call).command
+
+pub returns-in_err-expected-clause-hears : goal.returns-in_err-expected-clause-hears
+returns-in_err-expected-clause-hears g c = silent_command g.G.Progress.hears c.args.progress.now (view_call c.args.call).command

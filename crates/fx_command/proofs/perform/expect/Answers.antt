@@ -3,15 +3,15 @@ use Rattle.fx_command.specs.Performed.{compared}
 use Rattle.fx_command.proofs.Performed.{compared_with_status, cut_short}
 use Rattle.fx_command.proofs.perform.expect.Goals as goal
 
-pub returns-in_err-write : goal.returns-in_err-write
-returns-in_err-write g c source picks =
+pub returns-in_err-write-clause-performs : goal.returns-in_err-write-clause-performs
+returns-in_err-write-clause-performs g c source picks =
     let fault = err_from_is_err_and c.from_residual-in_err-write.result c.from_residual-in_err-write.ensures.1 in
     let part = rw (c.deref.ensures, c.in_ok-text.ensures.text) at c.in_err-write.ensures.part in
-    rw (fault.1, fault.2) (cut_short _ _ _ _ _ _ _ _ _ _ (compared c.in_ok-found.ensures) part)
+    rw (fault.1, fault.2) (cut_short _ _ _ _ _ _ _ _ _ _ (compared c.in_ok-found.ensures.explored) part)
 
-pub returns : goal.returns
-returns g c source picks = record {
+pub returns-clause-performs : goal.returns-clause-performs
+returns-clause-performs g c source picks = record {
   text = _;
-  answer = compared_with_status _ _ _ _ _ _ _ _ c.in_ok-found.ensures c.new.ensures.bytes c.in_ok-text.ensures.status;
+  answer = compared_with_status _ _ _ _ _ _ _ _ c.in_ok-found.ensures.explored c.new.ensures.bytes c.in_ok-text.ensures.status;
   taken = rw (c.deref.ensures, c.in_ok-text.ensures.text) at c.in_ok-write.ensures.whole;
 }

@@ -3,15 +3,15 @@ use Rattle.fx_command.specs.Performed.{explored}
 use Rattle.fx_command.proofs.Performed.{explored_with_status, cut_short}
 use Rattle.fx_command.proofs.perform.find.Goals as goal
 
-pub returns-in_err-write : goal.returns-in_err-write
-returns-in_err-write g c source picks expected =
+pub returns-in_err-write-clause-performs : goal.returns-in_err-write-clause-performs
+returns-in_err-write-clause-performs g c source picks expected =
     let fault = err_from_is_err_and c.from_residual-in_err-write.result c.from_residual-in_err-write.ensures.1 in
     let part = rw (c.deref.ensures, c.in_ok-text.ensures) at c.in_err-write.ensures.part in
-    rw (fault.1, fault.2) (cut_short _ _ _ _ _ _ _ _ _ _ (explored c.in_ok-explored.ensures) part)
+    rw (fault.1, fault.2) (cut_short _ _ _ _ _ _ _ _ _ _ (explored c.in_ok-explored.ensures.explored) part)
 
-pub returns : goal.returns
-returns g c source picks expected = record {
+pub returns-clause-performs : goal.returns-clause-performs
+returns-clause-performs g c source picks expected = record {
   text = _;
-  answer = explored_with_status _ _ _ _ _ _ _ _ c.in_ok-explored.ensures c.new.ensures.bytes c.explored_status.ensures;
+  answer = explored_with_status _ _ _ _ _ _ _ _ c.in_ok-explored.ensures.explored c.new.ensures.bytes c.explored_status.ensures;
   taken = rw (c.deref.ensures, c.in_ok-text.ensures) at c.in_ok-write.ensures.whole;
 }
