@@ -114,7 +114,8 @@ module _ (s : ScriptView) (may : ℕ → Bool) (r : ReportView) (lawful : IsLawf
       let sum : order.moment f i + (order.moment f c.place - order.moment f i) ≡ order.moment f c.place = omega arith in
       let at_end = drawn_at stood list (order.moment f c.place) _ (order.stands f c.place c.event closed) in
       let got =
-      got_behind (order.moment f i) (sheet_of stood list).drawn (order.moment f c.place - order.moment f i) ∙ ap (slice_get (sheet_of stood list).drawn) sum ∙ at_end.1 in
+      got_behind (order.moment f i) (sheet_of stood list).drawn (order.moment f c.place - order.moment f i)
+      ∙ ap (slice_get (sheet_of stood list).drawn) sum ∙ at_end.1 in
       closed_by stood f bar (drop (order.moment f i) (sheet_of stood list).drawn) (order.moment f c.place - order.moment f i) at_end.0 got
       (ap (λ (o : Occurrence). o.fiber) at_end.2) (c.does at_end.0.event (ap (λ (o : Occurrence). o.event) at_end.2))
     where

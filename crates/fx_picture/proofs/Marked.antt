@@ -88,6 +88,7 @@ pub is_marked : (names : List (List ℕ)) (stood : List Stood) (blocked : List B
 is_marked names stood blocked fibers list place x is =
     let stands = stands_in place (sheet_of stood list).drawn x is in (
       stands,
-      inr (inr (inr (inr (inr (inr (has_mark names stood fibers (sheet_of stood list).drawn (sheet_of stood list).rows x.row _ ((sheet_is_sound stood list).below place x is)
+      inr (inr (inr (inr (inr (inr (has_mark names stood fibers (sheet_of stood list).drawn (sheet_of stood list).rows x.row _
+          ((sheet_is_sound stood list).below place x is)
           (own_mark names stood fibers x.row (in_row x.row (sheet_of stood list).drawn) x.event stands))))))),
     )

@@ -1,5 +1,6 @@
 -- Where an event is drawn, and that no arrow stands at a quiet one.
-use Rattle.std.proofs.Common.{◌≡◌, ℕ, zero, suc, ◌<◌, true, false, not, ◌==◌, ◌&&◌, Bool, Option, Some, None, List, [], ◌∷◌, refl, sym, subst, ◌∙◌, map, inl, inr, slice_get}
+use Rattle.std.proofs.Common.{◌≡◌, ℕ, zero, suc, ◌<◌, true, false, not, ◌==◌, ◌&&◌, Bool, Option, Some, None, List, [], ◌∷◌}
+use Rattle.std.proofs.Common.{refl, sym, subst, ◌∙◌, map, inl, inr, slice_get}
 use Rattle.std.proofs.lemmas.Bool.{and_parts, not-true, cases_Bool, and_left}
 use Rattle.fx_term.specs.declared.event.Event.{Event}
 use Rattle.fx_term.specs.declared.event.Event.TheVariants as event

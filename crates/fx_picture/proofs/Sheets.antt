@@ -204,7 +204,8 @@ module _ (stood : List Stood) (above : List Drawn) (rows : ℕ) (sound : IsSound
 
 module _ (stood : List Stood) where
   -- where the code puts it
-  goes_by : (above : List Drawn) (rows : ℕ) (o : Occurrence) (os : List Occurrence) → Goes stood above rows (with_row stood above rows o os) (rows_with stood above rows o os)
+  goes_by : (above : List Drawn) (rows : ℕ) (o : Occurrence) (os : List Occurrence)
+      → Goes stood above rows (with_row stood above rows o os) (rows_with stood above rows o os)
   goes_by above rows o os = elim (cases_Bool (joins_above stood above rows o os)) [
     | inl does ↦ joined does
     | inr other ↦ rw other (alone refl)

@@ -2,7 +2,8 @@
 ghost use Rattle.std.specs.Prelude.{◌≡◌, ◌≤◌, ◌+◌, ◌++◌, length, map, OnOk, string_bytes};
 ghost use Rattle.fx_svg.specs.Content.{rendering};
 ghost use Rattle.fx_picture.specs.Legend.{view_entry, legend_y, said, mark_entry, mark_entries};
-ghost use Rattle.fx_picture.specs.Legend.{line_sample, line_entry, line_entries, marks_of_fibers, marks_of_queues, lines, fold_sample, fold_entry, held_entry, counted, legend};
+ghost use Rattle.fx_picture.specs.Legend.{line_sample, line_entry, line_entries, marks_of_fibers, marks_of_queues};
+ghost use Rattle.fx_picture.specs.Legend.{lines, fold_sample, fold_entry, held_entry, counted, legend};
 
 use crate::elements::{HALF_HEIGHT, Point, push_box, push_label, push_line};
 use crate::layout::{BASE, LEGEND_BOTTOM, ROW};

@@ -3,7 +3,8 @@
 ghost use Rattle.std.specs.Prelude.{◌≡◌, ◌≤◌, ◌<◌, ◌++◌, ◌∷◌, [], length, OnOk, IfOk, codes, string_bytes};
 ghost use Rattle.fx_report.specs.Text.{names_of};
 ghost use Rattle.fx_svg.specs.Content.{rendering};
-ghost use Rattle.fx_picture.specs.Picture.{queue_lane, queue_lanes_from, held_label, visit_line, visited, visit, visit_of, times, times_of, all_times, visits_of, visits_in};
+ghost use Rattle.fx_picture.specs.Picture.{queue_lane, queue_lanes_from, held_label, visit_line, visited, visit};
+ghost use Rattle.fx_picture.specs.Picture.{visit_of, times, times_of, all_times, visits_of, visits_in};
 
 use crate::drawn::{Drawn, place_of};
 use crate::elements::{Point, push_label, push_line};
