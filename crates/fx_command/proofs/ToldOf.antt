@@ -51,7 +51,8 @@ module _ (places : List FormPlace) where
       own (suc j) later eq =
           let r = rest j later in
           let same : suc j - 1 ≡ j = omega arith in
-          rw (eq, ne_eqb (suc j) 0 (λ none. absurd (omega arith))) (r.made, r.step, r.shows, r.stood, ap (λ (k : ℕ). stood_at list f k) same ∙ r.told_so, r.is_open, r.position)
+          let told_so = ap (λ (k : ℕ). stood_at list f k) same ∙ r.told_so in
+          rw (eq, ne_eqb (suc j) 0 (λ none. absurd (omega arith))) (r.made, r.step, r.shows, r.stood, told_so, r.is_open, r.position)
 
   pub told_of : (f : ℕ) (told : List Told) (nodes : List (Option NodeId)) (s : SoFarView) (i : ℕ) (e : Event) → slice_get (events_told f told) i ≡ Some e
       → IsToldOf places told (stood_from places nodes s told) f i e
