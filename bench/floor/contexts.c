@@ -114,12 +114,8 @@ static COLD int turn(Fiber *f, const Node *code) {
 }
 
 int main(int argc, char **argv) {
-  if (argc < 4)
-    return 2;
-  uint64_t n = strtoull(argv[2], 0, 10);
-  event_bytes = atoi(argv[3]);
-  empty_ring();
-  int is_pipe = !strcmp(argv[1], "pipe"), count = is_pipe ? 4 : 1, live = count;
+  uint64_t n;
+  int is_pipe = asks_for_pipe(argc, argv, &n), count = is_pipe ? 4 : 1, live = count;
   Node masks[] = {{FOR, 0, 1, n}, {MASK, 1, 2}, {POLL, 1, 3}, {PURE, 0}};
   Node offers[] = {{FOR, 0, 1, n}, {OFFER, 0}};
   Node takes[] = {{FOR, 0, 1, n}, {TAKE}};

@@ -108,12 +108,8 @@ ends:
 #define IS(rule) (void *)(intptr_t)(rule)
 
 int main(int argc, char **argv) {
-  if (argc < 4)
-    return 2;
-  uint64_t n = strtoull(argv[2], 0, 10);
-  event_bytes = atoi(argv[3]);
-  empty_ring();
-  int is_pipe = !strcmp(argv[1], "pipe"), count = is_pipe ? 4 : 1, live = count;
+  uint64_t n;
+  int is_pipe = asks_for_pipe(argc, argv, &n), count = is_pipe ? 4 : 1, live = count;
   Rule masks[] = {{IS(BEGINS), 0, 1, 7, n}, {IS(MASKS), 1, 2},     {IS(POLLS), 1, 3},       {IS(PURE), 0, 4},
                   {IS(POLL_ENDS), 1, 5},    {IS(MASK_ENDS), 0, 6}, {IS(TURNS), 0, 1, 7, n}, {IS(ENDS)}};
   Rule offers[] = {{IS(BEGINS), 0, 1, 3, n}, {IS(OFFERS), 0, 2}, {IS(TURNS), 0, 1, 3, n}, {IS(ENDS)}};

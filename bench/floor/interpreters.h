@@ -94,3 +94,13 @@ static inline int get(uint64_t *value) {
     head = atomic_load(&ring.head);
   }
 }
+
+/* Whether the words of a program ask for the queue, and not for masks. They say how many turns, and the bytes of an event, too. */
+static inline int asks_for_pipe(int words, char **word, uint64_t *turns) {
+  if (words < 4)
+    exit(2);
+  *turns = strtoull(word[2], 0, 10);
+  event_bytes = atoi(word[3]);
+  empty_ring();
+  return !strcmp(word[1], "pipe");
+}
