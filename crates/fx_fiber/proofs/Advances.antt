@@ -21,7 +21,7 @@ use Rattle.fx_fiber.specs.declared.machine.made.Made.TheVariants as made
 use Rattle.fx_fiber.specs.declared.machine.Machine.{Machine}
 use Rattle.fx_fiber.specs.Machine.{loop_of, unwinding, progress_of}
 use Rattle.fx_fiber.specs.Sound.{IsSoundMachine}
-use Rattle.fx_fiber.specs.Leaves.{IsLeafNode, is_canceled_node}
+use Rattle.fx_fiber.specs.Leaves.{IsLeafNode, is_canceled_node, is_silent_node}
 use Rattle.fx_fiber.specs.Places.{IsSame, IsEvaluating, IsInside, is_open_machine, must_cancel_machine}
 use Rattle.fx_fiber.specs.Makes.{Makes, MakesRule}
 use Rattle.fx_fiber.specs.Interruption.{Interrupts, IsInterrupted, ComesFirst}
@@ -40,6 +40,24 @@ inside_leaf nodes s id n b at leaf e = record {
   entered = rw (at.focus, at.node) leaf;
   canceled = canceled_at nodes s id n at ∙ sym e;
 }
+
+silent_is_leaf : (n : Node) → is_silent_node n ≡ true → IsLeafNode (Some n)
+silent_is_leaf (node.Pure a) e = tt
+silent_is_leaf (node.Raise a) e = tt
+silent_is_leaf (node.If v a b) e = tt
+silent_is_leaf (node.For i c a) e = tt
+silent_is_leaf (node.Mask p a) e = tt
+silent_is_leaf (node.Poll p a) e = tt
+silent_is_leaf _ e = cc
+
+silent_is_other : (n : Node) → is_silent_node n ≡ true → false ≡ is_canceled_node n
+silent_is_other node.Canceled e = cc
+silent_is_other _ e = refl
+
+-- a leaf whose rule is silent is another than `canceled`
+pub inside_silent : (nodes : List Node) (s : Machine) (id : NodeId) (n : Node) → IsEvaluating nodes s id n → is_silent_node n ≡ true
+    → IsInside nodes s false
+inside_silent nodes s id n at e = inside_leaf nodes s id n false at (silent_is_leaf n e) (silent_is_other n e)
 
 -- no `canceled` stands there, where this is so
 pub inside_other : (nodes : List Node) (s : Machine) (b : Bool) → IsInside nodes s b → OnTrue (not b) (IsInside nodes s false)

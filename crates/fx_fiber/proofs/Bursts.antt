@@ -24,7 +24,7 @@ use Rattle.fx_fiber.specs.Machine.{progress_of, counts_of}
 use Rattle.fx_fiber.specs.Made.{IsOfBracket}
 use Rattle.fx_fiber.specs.declared.stepped.Stepped.TheVariants.{Went}
 use Rattle.fx_fiber.specs.Places.{IsSame, IsInside, is_open_machine, must_cancel_machine}
-use Rattle.fx_fiber.specs.Interruption.{Interrupts, ComesFirst}
+use Rattle.fx_fiber.specs.Interruption.{Interrupts, ComesFirst, FindsRequest}
 use Rattle.fx_fiber.specs.Makes.{MakesIfSilent, MakesIfShown}
 use Rattle.fx_fiber.specs.Advances.{Advances, Asks}
 use Rattle.fx_fiber.specs.declared.machine.made.Made.{Made}
@@ -249,9 +249,13 @@ module _ {P S : Type 0} (theory : Theory P S) (old s : Machine) (p : P) (sh : S)
 
 -- the look that comes next found a request, which was seen
 module _ {P S : Type 0} (theory : Theory P S) (s : Machine) (k k' : ℕ) (p p' : P) (sh sh' : S) (next : LooksNext theory.code s)
-    (first : ComesFirst theory (is_open_machine s) (is_open_machine s && (s.known || false)) (Some Request) k p sh k' p' sh') where
+    (found : FindsRequest theory k p sh k' p' sh') where
+  -- so it comes before the rule of the place
+  pub request_first : ComesFirst theory (is_open_machine s) (is_open_machine s && (s.known || false)) (Some Request) k p sh k' p' sh'
+  request_first = (next.opened, rw next.opened (rw next.unknown refl), found)
+
   pub look_advances : (m : Made) (s' : Machine) → theory.facts p' ≡ theory.facts p → Interrupts theory.code s Request m s'
       → Advances theory k s p sh (made.Shows event.Seen) k' s' p' sh'
   look_advances m s' framed h =
       subst (λ (x : Made). Advances theory k s p sh x k' s' p' sh') h.shows
-      (interrupted_advances theory s s false k k' p p' sh sh' (same_here theory.code s next.inside.sound) next.inside Request m s' first framed h)
+      (interrupted_advances theory s s false k k' p p' sh sh' (same_here theory.code s next.inside.sound) next.inside Request m s' request_first framed h)

@@ -1,6 +1,7 @@
 -- The rules of a leaf.
-use Rattle.std.proofs.Common.{◌≡◌, ◌≢◌, ℕ, zero, suc, ◌<◌, ◌≤◌, Bool, true, false, Some, List, [], ◌∷◌, length, refl, sym, ◌∙◌, ap, arith}
+use Rattle.std.proofs.Common.{◌≡◌, ◌≢◌, ℕ, zero, suc, ◌-◌, ◌^◌, ◌<◌, ◌≤◌, Bool, true, false, Some, List, [], ◌∷◌, length, refl, sym, ◌∙◌, ap, arith}
 use Rattle.std.specs.Prelude.{All, not, ◌&&◌, ◌||◌, MatchBool, option_and_then}
+use Rattle.std.specs.Bool.{OnTrue}
 use Rattle.fx_term.specs.declared.node.Arg.{Arg}
 use Rattle.fx_term.specs.declared.node.Arg.TheVariants.{Number, Slot}
 use Rattle.fx_term.specs.declared.node.NodeId.{NodeId}
@@ -278,9 +279,9 @@ module _ (r : ℕ) (old new : MasksView) where
   opened_room false region fs h p = rw h p
 
   pub opened_closed : (took_off : Bool) (region : mask_region.Region) → region.0 ≡ r → MatchBool took_off (IsOpened r old new) (new ≡ old)
-      → new.regions ≡ without_region r old.regions → IsClosedBy (frame.Opened region took_off) new.regions
-  opened_closed true region e h w = tt
-  opened_closed false region e h w = rw (e, h) (sym (rw h at w))
+      → new.regions ≡ without_region r old.regions → OnTrue took_off (region.0 < 2 ^ 64 - 1) → IsClosedBy (frame.Opened region took_off) new.regions
+  opened_closed true region e h w few = few
+  opened_closed false region e h w few = rw (e, h) (sym (rw h at w))
 
 -- a fiber that stands at a poll
 module _ (nodes : List Node) (s : Machine) (id : NodeId) (p : ℕ) (part : NodeId) (at : IsEvaluating nodes s id (node.Poll p part)) where
@@ -291,16 +292,16 @@ module _ (nodes : List Node) (s : Machine) (id : NodeId) (p : ℕ) (part : NodeI
   poll_within = arg_within nodes s id (node.Poll p part) at (Slot p) poll_levels.0
 
   module _ (region : mask_region.Region) (took_off : Bool) (m : MasksView) (opens : MatchBool took_off (IsOpened region.0 s.masks m) (m ≡ s.masks)) where
-    pub poll_sound : m.regions ≡ without_region region.0 s.masks.regions
+    pub poll_sound : m.regions ≡ without_region region.0 s.masks.regions → OnTrue took_off (region.0 < 2 ^ 64 - 1)
         → IsSound nodes s.registers (frame.Opened region took_off ∷ s.frames) m s.cleanups (Eval part)
-    poll_sound w = record {
+    poll_sound w few = record {
       tree = at.sound.tree;
       bound = at.sound.bound;
       fits = at.sound.fits;
       focus_in = child nodes s id (node.Poll p part) at part _
           (child_before nodes s.registers s.frames s.masks s.cleanups s.focus id (node.Poll p part) at.focus at.node at.sound 0 0 (omega arith)) poll_levels.1;
       frames_in = (at.sound.bound, omega arith, tt, at.sound.frames_in);
-      closed = (opened_closed region.0 s.masks m took_off region refl opens w, rw (opened_again region.0 s.masks m took_off opens) at.sound.closed);
+      closed = (opened_closed region.0 s.masks m took_off region refl opens w few, rw (opened_again region.0 s.masks m took_off opens) at.sound.closed);
       room = opened_room region.0 s.masks m took_off region s.frames opens at.sound.room;
       between = tt;
     }

@@ -5,6 +5,7 @@ pub mod Nodes
 pub mod Leaves
 pub mod Results
 pub mod Loops
+pub mod TurnsOn
 pub mod Resources
 pub mod Unwindings
 pub mod Looks
@@ -19,6 +20,7 @@ pub mod QueueNumbers
 pub mod Keeping
 pub mod Reach
 pub mod Cancels
+pub mod QueueUses
 pub mod Telling
 pub mod Bursts
 pub mod Starts

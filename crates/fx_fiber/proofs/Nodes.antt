@@ -202,6 +202,15 @@ loop_number nodes d id h = by_node (slice_get nodes id.0) refl h
     by_node None e h = absurd h
     by_node (Some n) e h = get_past nodes id.0 n e
 
+-- a node at which a context is entered is no leaf
+pub entry_is_no_leaf : (id a : NodeId) (n : Node) (f : Frame) → IsEntryOf id n f a → IsLeafNode (Some n) → ⊥
+entry_is_no_leaf id a n (frame.Let x b) entry leaf = rw entry at leaf
+entry_is_no_leaf id a n (frame.Handle x b) entry leaf = rw entry at leaf
+entry_is_no_leaf id a n (frame.OnCancel b) entry leaf = rw entry at leaf
+entry_is_no_leaf id a n (frame.Acquire own) entry leaf = rw entry.4 at leaf
+entry_is_no_leaf id a n (frame.AcquireCase own) entry leaf = rw entry.8 at leaf
+entry_is_no_leaf id a n _ entry leaf = absurd entry
+
 -- the first part stands before its form
 pub first_before : (nodes : List Node) (id a : NodeId) (n : Node) (f : Frame) → ChildrenComeFirst nodes → slice_get nodes id.0 ≡ Some n
     → IsEntryOf id n f a → a.0 < id.0

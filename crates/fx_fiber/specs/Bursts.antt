@@ -107,10 +107,6 @@ module _ {P S : Type 0} (theory : Theory P S) where
   GlidesOnce left s p sh glided.Looks s' = IsSame theory.code s s' × LooksNext theory.code s'
   GlidesOnce left s p sh glided.Stops s' = IsSame theory.code s s'
 
-  -- memory is refused in such a turn: before its rule, or after it where a second one is left
-  abbrev pub GlidesShort : ℕ → Machine → P → S → Machine → Type 0
-  GlidesShort left s p sh s' = IsSame theory.code s s' ⊎ ((1 < left) × (between : Machine) × MakesNext s p sh between × IsSame theory.code between s')
-
 -- where a fiber stood as its burst began, with its port and what is shared, which stay so until a request is seen
 pub record Outset (P S : Type 0) : Type 0 where
   pub port : P

@@ -17,6 +17,7 @@ pub mod Advances
 pub mod Fiber
 pub mod Cancels
 pub mod Reach
+pub mod QueueUses
 pub mod Bare
 pub mod MakesStep
 pub mod MakesStart

@@ -1,8 +1,11 @@
 -- What a machine made: one rule of its place, or none where the fiber waits or is to start another.
-use Rattle.std.specs.Prelude.{◌≡◌, Bool, true, false, Option, Some, None, option_and_then, List}
+use Rattle.std.specs.Prelude.{◌≡◌, ℕ, ◌<◌, Bool, true, false, Option, Some, None, option_and_then, List}
+use Rattle.fx_term.specs.declared.node.NodeId.{NodeId}
 use Rattle.fx_term.specs.declared.node.Node.{Node}
 use Rattle.fx_term.specs.declared.event.Event.{Event}
+use Rattle.fx_term.specs.declared.done.Done.TheVariants.{Val}
 use Rattle.fx_term.specs.Term.{Cede}
+use Rattle.fx_frames.specs.declared.frame.Frame.TheVariants as frame
 use Rattle.fx_model.specs.Row.{Label, Silent, Shows, Learns}
 use Rattle.fx_model.specs.Step.{leaf_at, must_cancel_at, Step}
 use Rattle.fx_model.specs.declared.source.Source.{Source}
@@ -10,11 +13,17 @@ use Rattle.fx_model.specs.Waiting.{wait_at}
 use Rattle.fx_fiber.specs.MakesStep.{is_yielding}
 use Rattle.fx_fiber.specs.declared.machine.made.Made.{Made}
 use Rattle.fx_fiber.specs.declared.machine.made.Made.TheVariants as made
+use Rattle.fx_fiber.specs.declared.machine.focus.Focus.TheVariants.{Eval}
+use Rattle.fx_fiber.specs.declared.machine.node_row.NodeRow.{NodeRow}
+use Rattle.fx_fiber.specs.declared.machine.node_row.NodeRow.TheVariants as row
+use Rattle.fx_fiber.specs.declared.machine.result_row.ResultRow.{ResultRow}
+use Rattle.fx_fiber.specs.declared.machine.result_row.ResultRow.TheVariants as result
 use Rattle.fx_fiber.specs.declared.machine.Machine.{Machine}
+use Rattle.fx_fiber.specs.Leaves.{IsLeafNode, is_silent_node, is_silent_inside}
 use Rattle.fx_fiber.specs.Machine.{counts_of, progress_of}
 use Rattle.fx_fiber.specs.Sound.{IsSoundMachine}
 use Rattle.fx_fiber.specs.Made.{IsLocal, IsOfBracket}
-use Rattle.fx_fiber.specs.Places.{IsSame, StandsAtStart}
+use Rattle.fx_fiber.specs.Places.{IsSame, ReturnsInto, StandsAtStart, after_turn}
 
 -- one step of the rules, with this label
 abbrev pub Steps : List Node → Machine → Label → Machine → Type 0
@@ -49,6 +58,24 @@ MakesSilently nodes s s' = MakesRule nodes s made.Silent s'
 abbrev pub MakesIfSilent : List Node → Machine → Bool → Machine → Type 0
 MakesIfSilent nodes s true s' = MakesSilently nodes s s'
 MakesIfSilent nodes s false s' = s' ≡ s
+
+-- what the row of a node did: it entered a context, and the fiber stands at the part in it, which comes before; or it made the rule of a leaf that shows
+-- nothing; or nothing, at another leaf
+abbrev pub DoesRow : List Node → Machine → NodeId → Node → NodeRow → Machine → Type 0
+DoesRow nodes s id n (row.Entered first) s' = (IsLeafNode (Some n) → ⊥) × IsSame nodes s s' × (s'.focus ≡ Eval first) × (first.0 < id.0)
+DoesRow nodes s id n row.Made s' = (is_silent_node n ≡ true) × MakesSilently nodes s s'
+DoesRow nodes s id n row.Other s' = (is_silent_node n ≡ false) × IsLeafNode (Some n) × (s' ≡ s)
+
+-- what the row of a result did: it made a rule that shows nothing; or nothing, since the value is that of a turn of a loop, before this one; or nothing, since
+-- the rule shows something or ends the fiber or a clean-up
+abbrev pub DoesResult : List Node → Machine → ResultRow → Machine → Type 0
+DoesResult nodes s result.Made s' = (is_silent_inside s.frames ≡ true) × MakesSilently nodes s s'
+DoesResult nodes s (result.Turned id turn) s' = (s' ≡ s) × (n : ℕ) × ReturnsInto nodes s (frame.Loop id turn) (Val n)
+DoesResult nodes s result.Other s' = (is_silent_inside s.frames ≡ false) × (s' ≡ s)
+
+-- the value of a turn of a loop was dropped, before this turn, and then the next rule of the loop was made
+abbrev pub MakesTwo : List Node → Machine → NodeId → ℕ → Machine → Type 0
+MakesTwo nodes s id turn s' = MakesSilently nodes s (after_turn s id turn) × MakesSilently nodes (after_turn s id turn) s'
 
 -- a rule was made that shows this of a bracket
 abbrev pub MakesShown : List Node → Machine → Event → Machine → Type 0

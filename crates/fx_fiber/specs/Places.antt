@@ -53,6 +53,10 @@ pub record IsInside (nodes : List Node) (s : Machine) (at_canceled : Bool) : Typ
   pub entered : IsEntered nodes s.focus
   pub canceled : is_canceled_form (inner nodes s.registers s.focus) ≡ at_canceled
 
+abbrev pub without_first : List Frame → List Frame
+without_first [] = []
+without_first (f ∷ outer) = outer
+
 -- the fiber stands at this node
 pub record IsEvaluating (nodes : List Node) (s : Machine) (id : NodeId) (n : Node) : Type 0 where
   pub sound : IsSoundMachine nodes s
@@ -89,6 +93,10 @@ pub record HasTurn (nodes : List Node) (s : Machine) (id : NodeId) (turn name : 
   pub count : ℕ
   pub at : IsBeforeTurn nodes s id turn (node.For name count part)
   pub more : turn < count
+
+-- the same fiber without its innermost context, before this turn of the loop of this node
+abbrev pub after_turn : Machine → NodeId → ℕ → Machine
+after_turn s id turn = record s { frames = without_first s.frames; focus = Turn id turn }
 
 -- the loop has no turn left
 pub record IsOver (nodes : List Node) (s : Machine) : Type 0 where

@@ -18,6 +18,7 @@ mod burst;
 mod child;
 mod fork;
 pub(crate) mod glide;
+mod queue_uses;
 pub(crate) mod rules;
 mod start;
 mod step;

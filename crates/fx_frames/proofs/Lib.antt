@@ -1,1 +1,2 @@
 pub mod SameFrames
+pub mod LastFrame

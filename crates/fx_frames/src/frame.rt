@@ -1,4 +1,5 @@
 //! One context.
+ghost use Rattle.std.specs.Prelude.{◌≡◌, ℕ, ◌+◌, ◌^◌, ◌<◌};
 
 use fx_mask::Region;
 use fx_term::{Done, NodeId};
@@ -30,4 +31,21 @@ pub enum Frame {
     Opened(Region, bool),
     /// A `for` of which a turn runs: the node of the `for`, and the number of the next turn.
     Loop(NodeId, u32),
+}
+
+impl Frame {
+    ghost use Rattle.fx_term.specs.declared.node.NodeId.{NodeId};
+    ghost use Rattle.fx_frames.specs.declared.frame.Frame.TheVariants.{Loop};
+
+    /// A loop of which a turn runs goes on to the turn after the next one.
+    #[inline(always)]
+    pub(crate) fn next_turn(&mut self)
+        requires { (id : NodeId) × (turn : ℕ) × (self.old ≡ Loop id turn) × (turn + 1 < 2 ^ 32) }
+        ensures { (id : NodeId) (turn : ℕ) → self.old ≡ Loop id turn → self.new ≡ Loop id (turn + 1) }
+    {
+        let Frame::Loop(_, turn) = self else {
+            unreachable!();
+        };
+        *turn += 1;
+    }
 }

@@ -1,5 +1,5 @@
 //! The contexts that a fiber has entered.
-ghost use Rattle.std.specs.Prelude.{◌≡◌, List, [], ◌∷◌, IfOk, OnOk, OnErr, MatchOption};
+ghost use Rattle.std.specs.Prelude.{◌≡◌, ℕ, ◌+◌, ◌^◌, ◌<◌, List, [], ◌∷◌, IfOk, OnOk, OnErr, MatchOption};
 ghost use Rattle.std.specs.Bool.{Decides};
 ghost use Rattle.fx_frames.specs.Frames.{cleanups_of};
 
@@ -25,7 +25,9 @@ impl Model for Frames {
 }
 
 impl Frames {
+    ghost use Rattle.fx_term.specs.declared.node.NodeId.{NodeId};
     ghost use Rattle.fx_frames.specs.declared.frame.Frame.{Frame};
+    ghost use Rattle.fx_frames.specs.declared.frame.Frame.TheVariants.{Loop};
 
     /// No contexts. Only `push` takes memory.
     pub fn new(alloc: Global) -> Frames
@@ -90,6 +92,17 @@ impl Frames {
         let items = &mut self.items;
         let _ = items.pop();
         items.push_reserved(frame);
+    }
+
+    /// Has the innermost context, a loop of which a turn runs, go on to the turn after the next one.
+    pub fn next_turn(&mut self)
+        requires { (id : NodeId) × (turn : ℕ) × (outer : List Frame)
+            × (self.old ≡ Loop id turn ∷ outer) × (turn + 1 < 2 ^ 32) }
+        ensures { (id : NodeId) (turn : ℕ) (outer : List Frame)
+            → self.old ≡ Loop id turn ∷ outer → self.new ≡ Loop id (turn + 1) ∷ outer }
+    {
+        let last = self.items.len() - 1;
+        self.items[last].next_turn();
     }
 
     /// Gives all contexts up for their clean-ups.

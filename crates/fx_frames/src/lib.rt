@@ -21,12 +21,13 @@
 //! | `push` | that one, and all that were |
 //! | `pop` | all but the innermost |
 //! | `replace` | all but the innermost, and that one in its stead |
+//! | `next_turn` | the same, of which the innermost, a loop, has the turn after the one that it had |
 //! | `unwind` | none: its `Unwinding` has their clean-ups, of which each `next` takes the innermost |
 //!
 //! 1. A context is entered and left at the inner end alone.
 //! 2. Each clean-up comes once, from the inside out, and none is left out.
 //! 3. An `Unwinding` that has come to its end stays there.
-//! 4. `replace`, `unwind` and `next` take no memory. Where it runs out in `push`, nothing has changed.
+//! 4. `replace`, `next_turn`, `unwind` and `next` take no memory. Where it runs out in `push`, nothing has changed.
 #![tactic(auto)]
 
 mod cleanup;

@@ -4,8 +4,8 @@ use Rattle.std.proofs.lemmas.Slice.Eq.{slice_eq-Decides}
 use Rattle.std.specs.Bool.{Decides, OnTrue}
 use Rattle.std.specs.Cmp.Lexicographic.{pointwise}
 use Rattle.fx_mask.specs.View.{closings_of}
-use Rattle.fx_mask.specs.declared.masks.Member.{Member}
-use Rattle.fx_mask.specs.contracts.masks.MemberPartialEq.TheImpl.{eq-value}
+use Rattle.fx_mask.specs.declared.member.Member.{Member}
+use Rattle.fx_mask.specs.contracts.member.MemberPartialEq.TheImpl.{eq-value}
 
 member_decides : (a b : Member) → Decides (eq-value.it a b) (a ≡ b)
 member_decides a b = search rules

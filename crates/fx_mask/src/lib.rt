@@ -14,8 +14,8 @@
 //! | `reclose` | that region, and all that did | the same | one less |
 //!
 //! 1. The number of a region is that of the entries before it, so no two entries give the same.
-//!    `reclose` closes whatever region it is given: that it is one that was opened, the last one first,
-//!    is for the caller to see to.
+//!    `reclose` closes whatever region it is given, but one of the greatest number, which none has that was
+//!    opened: that it is one of these, the last one first, is for the caller to see to.
 //! 2. A region is opened only while it is the innermost: a poll opens no mask inside or outside its own.
 //! 3. Nothing opens a seal.
 //! 4. There is room for each opened region to be closed again, so `reclose` needs no memory.
@@ -23,5 +23,6 @@
 #![tactic(auto)]
 
 mod masks;
+mod member;
 
 pub use masks::{Masks, Region};

@@ -1,10 +1,11 @@
 //! The closed regions of the place where a fiber stands.
-ghost use Rattle.std.specs.Prelude.{◌≡◌, ◌≢◌, ℕ, ◌^◌, ◌<◌, List, [], ◌∷◌, IsTrue, MatchBool, OnOk, OnErr, IfOk};
+ghost use Rattle.std.specs.Prelude.{◌≡◌, ◌≢◌, ℕ, ◌-◌, ◌^◌, ◌<◌, List, [], ◌∷◌, IsTrue, MatchBool, OnOk, OnErr, IfOk};
 ghost use Rattle.std.specs.Bool.{OnTrue};
 ghost use Rattle.fx_mask.specs.Closing as closing;
 ghost use Rattle.fx_mask.specs.Closing.{Closing, without_region, is_none_closed};
 ghost use Rattle.fx_mask.specs.Masks.{closed_by, entered, IsOpened};
 
+use crate::member::Member;
 use fx_term::Memory;
 use std::alloc::Global;
 use std::marker::Model;
@@ -13,12 +14,9 @@ use std::marker::Model;
 #[derive(Clone, Copy, PartialEq, Eq, Debug)]
 pub struct Region(pub u64);
 
-/// One thing that closes a place.
-#[derive(Clone, Copy, PartialEq, Eq, Debug)]
-enum Member {
-    Region(Region),
-    Seal,
-}
+/// How many there is room for at first: as many as fill a line of a processor's cache, so that fibers that run side
+/// by side hardly write to one line.
+const ROOM: usize = 8;
 
 /// The closed regions, with the number of regions ever entered and of those that are opened.
 #[derive(Drop)]
@@ -103,7 +101,7 @@ impl Masks {
         ensures err { OnErr result (self.new ≡ self.old) }
     {
         let region = Region(self.entries);
-        self.close(Member::Region(region))?;
+        self.close(Member::region(region))?;
         self.entries += 1;
         Ok(region)
     }
@@ -113,7 +111,7 @@ impl Masks {
         ensures ok { OnOk result (self.new ≡ closed_by closing.Seal self.old) }
         ensures err { OnErr result (self.new ≡ self.old) }
     {
-        self.close(Member::Seal)
+        self.close(Member::seal())
     }
 
     /// Adds the innermost, with room left for the opened regions.
@@ -122,7 +120,9 @@ impl Masks {
         ensures ok { OnOk result (self.new ≡ closed_by (closing_of member) self.old) }
         ensures err { OnErr result (self.new ≡ self.old) }
     {
-        self.members.reserve(self.opened + 1)?;
+        if self.members.capacity() - self.members.len() <= self.opened {
+            self.members.reserve((self.opened + 1).max(ROOM))?;
+        }
         self.members.push_reserved(member);
         Ok(())
     }
@@ -143,21 +143,25 @@ impl Masks {
         ensures opened { MatchBool result (IsOpened region.0 self.old self.new)
             (self.new ≡ self.old) }
         ensures regions { self.new.regions ≡ without_region region.0 self.old.regions }
+        ensures number { OnTrue result (region.0 < 2 ^ 64 - 1) }
     {
-        if self.members.last().copied() != Some(Member::Region(region)) {
-            return false;
+        match self.members.last() {
+            Some(member) if member.is_region(region) => {}
+            _ => return false,
         }
         self.members.pop();
         self.opened += 1;
         true
     }
 
-    /// Closes a region again that was opened, as the innermost. Room for it was kept.
+    /// Closes a region again that was opened, as the innermost. Room for it was kept. None that was opened has
+    /// the greatest number.
     pub fn reclose(&mut self, region: Region)
-        requires { 0 < self.old.opened }
+        requires opened { 0 < self.old.opened }
+        requires number { region.0 < 2 ^ 64 - 1 }
         ensures { IsOpened region.0 self.new self.old }
     {
-        self.members.push_reserved(Member::Region(region));
+        self.members.push_reserved(Member::region(region));
         self.opened -= 1;
     }
 }

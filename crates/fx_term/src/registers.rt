@@ -1,5 +1,5 @@
 //! The numbers of the names in scope.
-ghost use Rattle.std.specs.Prelude.{◌≡◌, ◌<◌, Some, [], length, slice_get, IfOk, OnOk, OnErr};
+ghost use Rattle.std.specs.Prelude.{◌≡◌, ◌<◌, ◌≤◌, Some, [], length, slice_get, IfOk, OnOk, OnErr};
 ghost use Rattle.std.specs.Bool.{Decides};
 ghost use Rattle.fx_term.specs.declared.node.Arg.TheVariants.{Number};
 ghost use Rattle.fx_term.specs.Fill.{fill_arg};
@@ -15,15 +15,20 @@ use std::marker::Model;
 /// numbers of names whose scope was left.
 #[derive(Drop)]
 pub struct Registers {
+    // the numbers, and above them what was gone once, so that a name is mostly bound by writing over it
     numbers: Vec<u64>,
+    // how many there are
+    live: usize,
 }
 
 impl Model for Registers {
-    ghost use Rattle.std.specs.Prelude.{List, ℕ};
+    ghost use Rattle.std.specs.Prelude.{List, ℕ, ◌≤◌, length, take};
 
     ghost Value = { List ℕ };
 
-    ghost view = { λ r. r.numbers.items };
+    ghost view = { λ r. take r.live r.numbers.items };
+
+    ghost invariant = { λ r. r.live ≤ length r.numbers.items };
 }
 
 impl Registers {
@@ -33,6 +38,7 @@ impl Registers {
     {
         Registers {
             numbers: Vec::new(alloc),
+            live: 0,
         }
     }
 
@@ -41,7 +47,8 @@ impl Registers {
         ensures { IfOk result (λ copy. copy ≡ self.now) }
     {
         Ok(Registers {
-            numbers: Vec::from_slice(alloc, &self.numbers)?,
+            numbers: Vec::from_slice(alloc, &self.numbers[..self.live])?,
+            live: self.live,
         })
     }
 
@@ -49,7 +56,7 @@ impl Registers {
     pub fn is_same(&self, other: &Registers) -> bool
         ensures { Decides result (self.now ≡ other.now) }
     {
-        self.numbers == other.numbers
+        self.numbers[..self.live] == other.numbers[..other.live]
     }
 
     /// Gives the binder's name the number. The numbers of names above it are gone.
@@ -59,11 +66,26 @@ impl Registers {
         ensures ok { OnOk result (self.new ≡ with_number name number self.old) }
         ensures err { OnErr result (self.new ≡ self.old) }
     {
-        if let Some(slot) = name {
-            self.numbers.reserve(1)?;
-            self.numbers.truncate(slot as usize);
-            self.numbers.push_reserved(number);
+        match name {
+            Some(slot) => self.put(slot, number),
+            None => Ok(()),
         }
+    }
+
+    /// Gives the name of this slot the number, over what stood there.
+    #[inline(always)]
+    fn put(&mut self, slot: u32, number: u64) -> Result<(), Memory>
+        requires { slot ≤ length self.old }
+        ensures ok { OnOk result (self.new ≡ with_number (Some slot) number self.old) }
+        ensures err { OnErr result (self.new ≡ self.old) }
+    {
+        let place = slot as usize;
+        if place < self.numbers.len() {
+            self.numbers[place] = number;
+        } else {
+            self.numbers.push(number)?;
+        }
+        self.live = place + 1;
         Ok(())
     }
 
@@ -73,16 +95,15 @@ impl Registers {
         requires { slot < length self.old }
         ensures { self.new ≡ with_number (Some slot) number self.old }
     {
-        let below = slot as usize;
-        self.numbers.truncate(below);
-        self.numbers.push_reserved(number);
+        self.numbers[slot as usize] = number;
+        self.live = slot as usize + 1;
     }
 
     /// The number in this slot, if there is one.
     pub fn get(&self, slot: u32) -> Option<u64>
         ensures { result ≡ slice_get self.now slot }
     {
-        match self.numbers.get(slot as usize) {
+        match self.numbers[..self.live].get(slot as usize) {
             Some(number) => Some(*number),
             None => None,
         }

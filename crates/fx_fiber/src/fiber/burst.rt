@@ -3,11 +3,10 @@ ghost use Rattle.std.specs.Prelude.{◌≡◌, IfOk, OnErr};
 ghost use Rattle.fx_fiber.specs.Fiber.{IsKept, fiber_at};
 ghost use Rattle.fx_fiber.specs.Bursts.{Outset, outset_at, Bursts, BurstsShort};
 
-use crate::fiber::advance::interruption;
+use crate::clock::raise;
 use crate::fiber::body::Body;
 use crate::fiber::rules::{Reached, rules_after_look, rules_before_look};
 use crate::fiber::trace_room::have_room;
-use crate::machine::interruption::Interruption;
 use crate::port::Port;
 use fx_term::{Code, Event, Memory};
 
@@ -46,12 +45,12 @@ pub(crate) fn burst<P: Port>(
         Reached::Stops(made) => return Ok(made),
         Reached::Looks(made) => made,
     };
-    match interruption(port, &body.machine, shared, &mut body.clock, false) {
+    match port.look(shared) {
         None => match rules_after_look::<P>(body, code, made, most)? {
             Reached::Looks(made) | Reached::Stops(made) => Ok(made),
         },
-        Some(Interruption::Cancellation) => Ok(made),
-        Some(Interruption::Request) => {
+        Some(stamp) => {
+            raise(&mut body.clock, stamp);
             let _ = body.machine.seen();
             body.show(Event::Seen);
             Ok(made + 1)

@@ -1,15 +1,19 @@
 //! One turn of a burst.
-ghost use Rattle.std.specs.Prelude.{◌≡◌, ◌<◌, ◌^◌, IfOk, OnErr, MatchBool};
+ghost use Rattle.std.specs.Prelude.{◌≡◌, ℕ, ◌<◌, ◌^◌, IfOk, OnErr, MatchBool};
 ghost use Rattle.fx_fiber.specs.Sound.{IsSoundMachine};
-ghost use Rattle.fx_fiber.specs.Places.{IsSame};
-ghost use Rattle.fx_fiber.specs.Bursts.{Outset, HasLooked, MakesNext, ShowsOnce, GlidesOnce, GlidesShort};
+ghost use Rattle.fx_fiber.specs.Places.{IsSame, is_open_machine};
+ghost use Rattle.fx_fiber.specs.Bursts.{Outset, HasLooked, ComesAhead, MakesNext, ShowsOnce, GlidesOnce};
+ghost use Rattle.fx_fiber.specs.declared.machine.focus.Focus.TheVariants.{Eval, Return};
+ghost use Rattle.fx_fiber.specs.declared.fiber.ahead.Ahead.TheVariants.{Rule};
 
 use crate::fiber::ahead::{Ahead, Looked, look_ahead};
 use crate::machine::Machine;
 use crate::machine::entry::is_canceled;
 use crate::machine::focus::Focus;
+use crate::machine::node_row::NodeRow;
+use crate::machine::result_row::ResultRow;
 use crate::port::Port;
-use fx_term::{Code, Event, Memory};
+use fx_term::{Code, Done, Event, Memory, NodeId};
 
 /// What one turn of a burst did.
 #[derive(Clone, Copy)]
@@ -42,38 +46,12 @@ pub(crate) fn glide<P: Port>(
     requires looked { HasLooked P.theory.calls looked machine.old.known outset.port outset.shared }
     ensures ok { IfOk result (λ glided. GlidesOnce P.theory left
         machine.old outset.port outset.shared glided machine.new) }
-    ensures err { OnErr result (GlidesShort P.theory left
-        machine.old outset.port outset.shared machine.new) }
+    ensures same { OnErr result (IsSame P.theory.code machine.old machine.new) }
 {
     match machine.focus {
-        Focus::Eval(from) => {
-            let (id, node) = machine.enter(code, from)?;
-            if is_canceled(node) {
-                return Ok(Glided::Stops);
-            }
-            match look_ahead::<P>(machine, looked) {
-                Ahead::Rule => {
-                    if machine.silent_leaf(id, node)? {
-                        Ok(Glided::Went)
-                    } else {
-                        Ok(Glided::Stops)
-                    }
-                }
-                Ahead::Look => Ok(Glided::Looks),
-                Ahead::Cancellation => Ok(Glided::Stops),
-            }
-        }
+        Focus::Eval(from) => glide_at_node::<P>(machine, code, looked, from),
         Focus::Return(done) => match look_ahead::<P>(machine, looked) {
-            Ahead::Rule => {
-                if !machine.silent_result(done)? {
-                    return Ok(Glided::Returns);
-                }
-                if turns_on::<P>(machine, code, looked, left)? {
-                    Ok(Glided::WentTwice)
-                } else {
-                    Ok(Glided::Went)
-                }
-            }
+            Ahead::Rule => glide_result::<P>(machine, code, done, left),
             Ahead::Look => Ok(Glided::Looks),
             Ahead::Cancellation => Ok(Glided::Stops),
         },
@@ -89,35 +67,102 @@ pub(crate) fn glide<P: Port>(
     }
 }
 
-/// Makes the next rule of a loop, where that stands next and a second step is left, and answers whether it did.
+/// The same of a fiber that stands at a node, down to whose leaf contexts are entered. The machine of the outset is the one
+/// where this began.
 #[inline(always)]
-fn turns_on<P: Port>(
+fn glide_at_node<P: Port>(
     machine: &mut Machine,
     code: &Code,
     looked: Looked,
+    from: NodeId,
+) -> Result<Glided, Memory>
+    ghost outset: { Outset P P.Shared }
+    requires code { code.now.nodes ≡ P.theory.code }
+    requires same { IsSame P.theory.code outset.machine machine.old }
+    requires focus { machine.old.focus ≡ Eval from }
+    requires countable { machine.old.masks.entries < 2 ^ 63 }
+    requires looked { HasLooked P.theory.calls looked machine.old.known outset.port outset.shared }
+    ensures ok { IfOk result (λ glided. (left : ℕ) → GlidesOnce P.theory left
+        outset.machine outset.port outset.shared glided machine.new) }
+    ensures err { OnErr result (IsSame P.theory.code outset.machine machine.new) }
+{
+    let mut id = from;
+    'contexts: loop {
+        match look_ahead::<P>(machine, looked) {
+            Ahead::Rule => match machine.node_row(id, code.node(id))? {
+                NodeRow::Entered(first) => id = first,
+                NodeRow::Made => return Ok(Glided::Went),
+                NodeRow::Other => return Ok(Glided::Stops),
+            },
+            Ahead::Look | Ahead::Cancellation => {
+                return glide_at_open_node::<P>(machine, code, looked, id);
+            }
+        }
+    }
+}
+
+/// The same from an open place on, where something else comes first, unless the leaf stands in a context that closes it.
+/// A burst comes there once.
+#[inline(never)]
+fn glide_at_open_node<P: Port>(
+    machine: &mut Machine,
+    code: &Code,
+    looked: Looked,
+    from: NodeId,
+) -> Result<Glided, Memory>
+    ghost outset: { Outset P P.Shared }
+    requires code { code.now.nodes ≡ P.theory.code }
+    requires same { IsSame P.theory.code outset.machine machine.old }
+    requires focus { machine.old.focus ≡ Eval from }
+    requires countable { machine.old.masks.entries < 2 ^ 63 }
+    requires looked { HasLooked P.theory.calls looked machine.old.known outset.port outset.shared }
+    ensures ok { IfOk result (λ glided. (left : ℕ) → GlidesOnce P.theory left
+        outset.machine outset.port outset.shared glided machine.new) }
+    ensures err { OnErr result (IsSame P.theory.code outset.machine machine.new) }
+{
+    let (id, node) = machine.enter(code, from)?;
+    if is_canceled(node) {
+        return Ok(Glided::Stops);
+    }
+    match look_ahead::<P>(machine, looked) {
+        Ahead::Rule => match machine.node_row(id, node)? {
+            NodeRow::Made => Ok(Glided::Went),
+            NodeRow::Entered(_) | NodeRow::Other => Ok(Glided::Stops),
+        },
+        Ahead::Look => Ok(Glided::Looks),
+        Ahead::Cancellation => Ok(Glided::Stops),
+    }
+}
+
+/// The same of a fiber that stands with a result, where nothing comes first.
+#[inline(always)]
+fn glide_result<P: Port>(
+    machine: &mut Machine,
+    code: &Code,
+    done: Done,
     left: u32,
-) -> Result<bool, Memory>
+) -> Result<Glided, Memory>
     ghost outset: { Outset P P.Shared }
     requires code { code.now.nodes ≡ P.theory.code }
     requires sound { IsSoundMachine P.theory.code machine.old }
-    requires looked { HasLooked P.theory.calls looked machine.old.known outset.port outset.shared }
-    ensures ok { IfOk result (λ is_made. MatchBool is_made
-        ((1 < left) × MakesNext P.theory machine.old outset.port outset.shared machine.new)
-        (machine.new ≡ machine.old)) }
-    ensures err { OnErr result ((1 < left) × IsSame P.theory.code machine.old machine.new) }
+    requires focus { machine.old.focus ≡ Return done }
+    requires first { ComesAhead P.theory.calls (is_open_machine machine.old) machine.old.known
+        Rule outset.port outset.shared }
+    ensures ok { IfOk result (λ glided. GlidesOnce P.theory left
+        machine.old outset.port outset.shared glided machine.new) }
+    ensures err { OnErr result (IsSame P.theory.code machine.old machine.new) }
 {
-    let Focus::Turn(id, turn) = machine.focus else {
-        return Ok(false);
-    };
-    if left < 2 {
-        return Ok(false);
-    }
-    match look_ahead::<P>(machine, looked) {
-        Ahead::Rule => {
-            machine.turn_rule(id, turn, code.node(id))?;
-            Ok(true)
+    match machine.result_row(done)? {
+        ResultRow::Made => Ok(Glided::Went),
+        ResultRow::Turned(id, turn) => {
+            if left < 2 {
+                machine.turn_value(id, turn);
+                return Ok(Glided::Went);
+            }
+            machine.turn_goes_on(id, turn, code.node(id))?;
+            Ok(Glided::WentTwice)
         }
-        Ahead::Look | Ahead::Cancellation => Ok(false),
+        ResultRow::Other => Ok(Glided::Returns),
     }
 }
 

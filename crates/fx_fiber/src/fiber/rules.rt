@@ -44,26 +44,27 @@ fn rules<P: Port>(
     ensures id { body.new.id ≡ body.old.id }
     ensures source { body.new.source ≡ body.old.source }
 {
-    let mut made = from;
-    while made < most {
-        match glide::<P>(&mut body.machine, code, looked, most - made)? {
-            Glided::Went => made += 1,
-            Glided::WentTwice => made += 2,
+    // what is left is counted, since a test against 0 is cheaper than one against what is given
+    let mut left = most - from;
+    while left > 0 {
+        match glide::<P>(&mut body.machine, code, looked, left)? {
+            Glided::Went => left -= 1,
+            Glided::WentTwice => left -= 2,
             Glided::Returns => match bracket_rule::<P>(&mut body.machine, code, looked)? {
                 Some(event) => {
                     body.show(event);
-                    made += 1;
-                    if made < most {
+                    left -= 1;
+                    if left > 0 {
                         have_room(&mut body.trace)?;
                     }
                 }
-                None => return Ok(Reached::Stops(made)),
+                None => return Ok(Reached::Stops(most - left)),
             },
-            Glided::Looks => return Ok(Reached::Looks(made)),
-            Glided::Stops => return Ok(Reached::Stops(made)),
+            Glided::Looks => return Ok(Reached::Looks(most - left)),
+            Glided::Stops => return Ok(Reached::Stops(most - left)),
         }
     }
-    Ok(Reached::Stops(made))
+    Ok(Reached::Stops(most))
 }
 
 /// The rules after a look in vain.

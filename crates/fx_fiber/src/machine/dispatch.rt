@@ -14,6 +14,7 @@ ghost use Rattle.fx_fiber.specs.Machine.{progress_of};
 use crate::machine::Machine;
 use crate::machine::interruption::Interruption;
 use crate::machine::made::Made;
+use crate::machine::node_row::NodeRow;
 use crate::port::Port;
 use fx_frames::Frame;
 use fx_model::Source;
@@ -66,13 +67,14 @@ impl Machine {
         ensures ok { IfOk result (λ made. MakesRule nodes self.old made self.new) }
         ensures err { OnErr result (IsSame nodes self.old self.new) }
     {
-        if self.silent_leaf(id, node)? {
-            return Ok(Made::Silent);
-        }
-        match *node {
-            Node::Canceled => Ok(self.self_request()),
-            Node::Cede => Ok(self.cede()),
-            _ => unreachable!(),
+        match self.node_row(id, node)? {
+            NodeRow::Made => Ok(Made::Silent),
+            NodeRow::Entered(_) => unreachable!(),
+            NodeRow::Other => match *node {
+                Node::Canceled => Ok(self.self_request()),
+                Node::Cede => Ok(self.cede()),
+                _ => unreachable!(),
+            },
         }
     }
 

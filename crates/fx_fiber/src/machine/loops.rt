@@ -1,14 +1,14 @@
 //! The rules of `if` and `for`, one method each, named as in the table. A turn of a loop stands in a
 //! `let` without a name, so its end is made by the rules of `let`, in methods of their own.
-ghost use Rattle.std.specs.Prelude.{◌≡◌, ◌≢◌, ◌+◌, ◌^◌, ◌<◌};
+ghost use Rattle.std.specs.Prelude.{◌≡◌, ◌≢◌, ◌+◌, ◌^◌, ◌<◌, Some, slice_get};
 ghost use Rattle.fx_term.specs.declared.node.Node.TheVariants as node;
-ghost use Rattle.fx_fiber.specs.Places.{IsSame, StandsAt, HasTurn, IsOver, ReturnsInto};
-ghost use Rattle.fx_fiber.specs.Makes.{MakesSilently};
+ghost use Rattle.fx_fiber.specs.Places.{IsSame, StandsAt, HasTurn, IsOver, ReturnsInto, after_turn};
+ghost use Rattle.fx_fiber.specs.Makes.{MakesSilently, MakesTwo};
 
 use crate::machine::Machine;
 use crate::machine::focus::Focus;
 use fx_frames::Frame;
-use fx_term::{Done, Memory, NodeId};
+use fx_term::{Done, Memory, Node, NodeId};
 
 impl Machine {
     ghost use Rattle.std.specs.Prelude.{ℕ, suc, List, OnOk, OnErr, length};
@@ -85,10 +85,48 @@ impl Machine {
     pub fn turn_value(&mut self, id: NodeId, turn: u32)
         ghost nodes: { List Node }
         requires { (n : ℕ) × ReturnsInto nodes self.old (Frame.Loop id turn) (Done.Val n) }
-        ensures { MakesSilently nodes self.old self.new }
+        ensures made { MakesSilently nodes self.old self.new }
+        ensures is { self.new ≡ after_turn self.old id turn }
     {
         let _ = self.frames.pop();
         self.focus = Focus::Turn(id, turn);
+    }
+
+    /// The value of a turn is dropped, and the next rule of its loop is made: a turn, or its end. Beside the two rules one
+    /// after the other, a turn is spared the context that is left and entered again.
+    #[inline(always)]
+    pub fn turn_goes_on(&mut self, id: NodeId, turn: u32, node: &Node) -> Result<(), Memory>
+        ghost nodes: { List Node }
+        requires inside { (n : ℕ) × ReturnsInto nodes self.old (Frame.Loop id turn) (Done.Val n) }
+        requires node { slice_get nodes id.0 ≡ Some node.now }
+        ensures ok { OnOk result (MakesTwo nodes self.old id turn self.new) }
+        ensures err { OnErr result (IsSame nodes self.old self.new) }
+    {
+        let Node::For(name, count, part) = *node else {
+            unreachable!();
+        };
+        if turn < count {
+            return self.turn_turns(id, turn, name, part);
+        }
+        self.turn_value(id, turn);
+        self.loop_ends();
+        Ok(())
+    }
+
+    /// The same where the loop has this turn.
+    #[inline(always)]
+    fn turn_turns(&mut self, id: NodeId, turn: u32, name: u32, part: NodeId) -> Result<(), Memory>
+        ghost nodes: { List Node }
+        requires inside { (n : ℕ) × ReturnsInto nodes self.old (Frame.Loop id turn) (Done.Val n) }
+        requires node { (count : ℕ) × (slice_get nodes id.0 ≡ Some (node.For name count part)) × (turn < count) }
+        requires fits { turn + 1 < 2 ^ 32 }
+        ensures ok { OnOk result (MakesTwo nodes self.old id turn self.new) }
+        ensures err { OnErr result (IsSame nodes self.old self.new) }
+    {
+        self.registers.bind(Some(name), u64::from(turn))?;
+        self.frames.next_turn();
+        self.focus = Focus::Eval(part);
+        Ok(())
     }
 
     /// The error of a turn is that of the loop (the rule `let_error`).

@@ -1,6 +1,6 @@
-//! The table of the rules that show nothing, ask the port nothing and do not yield. Beside those of a bracket
-//! a burst makes these alone. They and what they call are laid into its loop by hints on inlining: a step
-//! makes them too, so LLVM alone would call each of them.
+//! Rules that show nothing, ask the port nothing and do not yield, beside the tables of nodes (`node_row`) and of
+//! results (`result_row`). Beside these and those of a bracket a burst makes none. They and what they call are laid
+//! into its loop by hints on inlining: a step makes them too, so LLVM alone would call each of them.
 ghost use Rattle.std.specs.Prelude.{◌≡◌, ◌^◌, ◌<◌, false, IfOk, OnOk, OnErr};
 ghost use Rattle.std.specs.Bool.{OnTrue};
 ghost use Rattle.fx_term.specs.declared.node.Node.TheVariants as node;
@@ -12,7 +12,7 @@ ghost use Rattle.fx_fiber.specs.Makes.{MakesSilently, MakesIfSilent};
 use crate::machine::Machine;
 use crate::machine::entry::is_canceled;
 use crate::machine::focus::Focus;
-use fx_frames::Frame;
+use crate::machine::result_row::ResultRow;
 use fx_term::{Arg, Code, Done, Memory, Node, NodeId};
 
 impl Machine {
@@ -39,46 +39,9 @@ impl Machine {
         }
     }
 
-    /// The row of a leaf, where it is silent, and whether it is.
-    #[inline(always)]
-    pub fn silent_leaf(&mut self, id: NodeId, node: &Node) -> Result<bool, Memory>
-        ghost nodes: { List Node }
-        requires at { StandsAt nodes self.old id node.now }
-        requires countable { self.old.masks.entries < 2 ^ 63 }
-        ensures silent { IfOk result (λ is_made. is_made ≡ is_silent_node node.now) }
-        ensures ok { IfOk result (λ is_made. MakesIfSilent nodes self.old is_made self.new) }
-        ensures err { OnErr result (IsSame nodes self.old self.new) }
-    {
-        match *node {
-            Node::Pure(value) => self.pure(value),
-            Node::Raise(error) => self.raise(error),
-            Node::If(value, part, other) => self.if_rule(value, part, other),
-            Node::For(..) => self.for_begins(id),
-            Node::Mask(name, part) => self.mask(name, part)?,
-            Node::Poll(name, part) => self.poll(name, part)?,
-            Node::Canceled
-            | Node::Never
-            | Node::Cede
-            | Node::Let(..)
-            | Node::Handle(..)
-            | Node::OnCancel(..)
-            | Node::Bracket(..)
-            | Node::BracketCase(..)
-            | Node::Start(..)
-            | Node::Join(..)
-            | Node::Cancel(_)
-            | Node::First(..)
-            | Node::Offer(..)
-            | Node::TryOffer(..)
-            | Node::Take(_)
-            | Node::TryTake(..) => return Ok(false),
-        }
-        Ok(true)
-    }
-
     /// The row of an `if`, by its number.
     #[inline(always)]
-    fn if_rule(&mut self, value: Arg, part: NodeId, other: NodeId)
+    pub fn if_rule(&mut self, value: Arg, part: NodeId, other: NodeId)
         ghost nodes: { List Node }
         requires at { (id : NodeId) × StandsAt nodes self.old id (node.If value part other) }
         ensures { MakesSilently nodes self.old self.new }
@@ -118,28 +81,13 @@ impl Machine {
         ensures ok { IfOk result (λ is_made. MakesIfSilent nodes self.old is_made self.new) }
         ensures err { OnErr result (IsSame nodes self.old self.new) }
     {
-        match (self.frames.last(), done) {
-            (Some(&Frame::Let(name, b)), Done::Val(n)) => self.let_value(name, b, n)?,
-            (Some(&Frame::Let(..)), Done::Err(_)) => self.let_error(),
-            (Some(&Frame::Handle(..)), Done::Val(_)) => self.handle_value(),
-            (Some(&Frame::Handle(name, b)), Done::Err(e)) => self.handle_error(name, b, e)?,
-            (Some(&Frame::OnCancel(_)), _) => self.oncancel_ends(),
-            (Some(&Frame::Masked), _) => self.masked_ends(),
-            (Some(&Frame::Opened(r, took_off)), _) => self.opened_ends(r, took_off),
-            (Some(&Frame::Loop(id, turn)), Done::Val(_)) => self.turn_value(id, turn),
-            (Some(&Frame::Loop(..)), Done::Err(_)) => self.turn_error(),
-            (
-                Some(
-                    &Frame::Acquire(_)
-                    | &Frame::Using(..)
-                    | &Frame::AcquireCase(_)
-                    | &Frame::UsingCase(..)
-                    | &Frame::Releasing(..),
-                )
-                | None,
-                _,
-            ) => return Ok(false),
+        match self.result_row(done)? {
+            ResultRow::Made => Ok(true),
+            ResultRow::Turned(id, turn) => {
+                self.turn_value(id, turn);
+                Ok(true)
+            }
+            ResultRow::Other => Ok(false),
         }
-        Ok(true)
     }
 }

@@ -1,7 +1,7 @@
 use Rattle.fx_fiber.proofs.machine.Machine.local_rule.Given as goal
 
-abbrev pub ghost-silent_leaf : goal.ghost-silent_leaf
-ghost-silent_leaf g a = g.nodes
+abbrev pub ghost-node_row : goal.ghost-node_row
+ghost-node_row g a = g.nodes
 
 abbrev pub ghost-self_request : goal.ghost-self_request
 ghost-self_request g a = g.nodes

@@ -13,7 +13,8 @@ returns-clause-ok g c =
     let id = c.requires.0 in
     let opened = c.open-took_off.ensures.opened in
     record {
-      sound = rw c.in_default.ensures.ok (poll_sound g.nodes c.args.self.now id c.args.name c.args.part stands.at _ _ _ opened c.open-took_off.ensures.regions);
+      sound = rw c.in_default.ensures.ok (poll_sound g.nodes c.args.self.now id c.args.name c.args.part stands.at _ _ _ opened c.open-took_off.ensures.regions
+          c.open-took_off.ensures.number);
       rule = (
         leaf_is_no_cede g.nodes c.args.self.now id (node.Poll c.args.name c.args.part) stands.at tt (λ e. cc),
         poll_step g.nodes c.args.self.now id c.args.name c.args.part stands.at _ _ _ opened c.number_of.ensures stands.free _ _

@@ -1,4 +1,7 @@
-use Rattle.fx_fiber.proofs.machine.Machine.silent_leaf.Given as goal
+use Rattle.fx_fiber.proofs.machine.Machine.node_row.Given as goal
+
+abbrev pub ghost-enters : goal.ghost-enters
+ghost-enters g a = g.nodes
 
 abbrev pub ghost-pure : goal.ghost-pure
 ghost-pure g a = g.nodes
