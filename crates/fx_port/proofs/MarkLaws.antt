@@ -1,13 +1,14 @@
 -- Marks, and the numbers that are marked.
 use Rattle.std.proofs.Common.{◌≡◌, ◌≢◌, ℕ, ◌+◌, ◌<◌, ◌≤◌, Bool, true, false, List, [], ◌∷◌, ◌++◌, ◌⊎◌}
-use Rattle.std.proofs.Common.{inl, inr, ⊎_elim, ◌||◌, length, max, get_or, set, take, replicate, zero, suc, refl, sym, ◌∙◌, ap, subst, arith}
-use Rattle.std.proofs.lemmas.List.{get_or-set_same, get_or-set_other}
+use Rattle.std.proofs.Common.{inl, inr, ⊎_elim, ◌||◌, ◌-◌, length, max, get_or, set, take, replicate, zero, suc, refl, sym, ◌∙◌, ap, subst, arith}
+use Rattle.std.proofs.lemmas.Bool.{cases_lt}
+use Rattle.std.proofs.lemmas.List.{get_or-set_same, get_or-set_other, ext_get_or, length-append, length-replicate, length-set, set_past}
 use mathlib.Core.Logic.{dite}
 use native.Mathlib.Decide.{ℕ_discrete}
 use Rattle.fx_term.specs.Lists.{Among}
 use Rattle.fx_term.proofs.ListLaws.{Among-append_left, Among-append_right, Among-append}
 use Rattle.fx_queue.specs.WaitRing.{Apart}
-use Rattle.fx_port.specs.Marks.{is_marked, joined_marks, AreBefore, IsEndOf, AreListed, KeepsMarks}
+use Rattle.fx_port.specs.Marks.{is_marked, lengthened, joined_marks, AreBefore, IsEndOf, AreListed, KeepsMarks}
 
 no_mark : {P : Type 0} → false ≡ true → P
 no_mark e = let z : ⊥ = cc in absurd z
@@ -226,3 +227,53 @@ joined_takes [] other f lt e = absurd (omega (arith, lt))
 joined_takes (m ∷ marks) [] f lt e = no_mark e
 joined_takes (m ∷ marks) (n ∷ other) zero lt e = ap (λ (b : Bool). m || b) e ∙ or_true m
 joined_takes (m ∷ marks) (n ∷ other) (suc f) lt e = joined_takes marks other f (omega (arith, lt)) e
+
+-- a lengthened row has the same marks
+pub long_marked : (marks : List Bool) (k f : ℕ) → is_marked (marks ++ replicate k false) f ≡ is_marked marks f
+long_marked [] k f = unmarked k f
+long_marked (m ∷ marks) k zero = refl
+long_marked (m ∷ marks) k (suc f) = long_marked marks k f
+
+pub long_end : (marks : List Bool) (n end : ℕ) → IsEndOf end marks → IsEndOf end (lengthened n marks)
+long_end marks n end h = record {
+  past = λ f e. h.past f (sym (long_marked marks (n - length marks) f) ∙ e);
+  least = λ k all. h.least k (λ f e. all f (long_marked marks (n - length marks) f ∙ e));
+}
+
+pub long_length : (marks : List Bool) (n : ℕ) → length marks ≤ n → length (lengthened n marks) ≡ n
+long_length marks n few =
+    let long = length-append marks (replicate (n - length marks) false) in
+    let rest = length-replicate (n - length marks) false in
+    omega (arith, long, rest, few)
+
+long_set : (marks rest : List Bool) (f : ℕ) → f < length marks → set (marks ++ rest) f true ≡ set marks f true ++ rest
+long_set [] rest f lt = absurd (omega (arith, lt))
+long_set (m ∷ marks) rest zero lt = refl
+long_set (m ∷ marks) rest (suc f) lt = ap (λ l. m ∷ l) (long_set marks rest f (omega (arith, lt)))
+
+-- a number of the run that may be marked has its place in the row
+pub long_mark : (n : ℕ) (marks : List Bool) (f : ℕ) → length marks ≤ n → (f < n → f < length marks)
+    → lengthened n (set marks f true) ≡ set (lengthened n marks) f true
+long_mark n marks f few room = elim (cases_lt f (length marks)) [
+  | inl lt ↦ ap (λ (k : ℕ). set marks f true ++ replicate (n - k) false) (length-set marks f true)
+      ∙ sym (long_set marks (replicate (n - length marks) false) f lt)
+  | inr le ↦ (let past : n ≤ f = elim (cases_lt f n) [ inl lt ↦ (let z = room lt in absurd (omega (arith, z, le))) | inr beyond ↦ beyond ] in
+      let long = long_length marks n few in
+      ap (lengthened n) (set_past marks f true le) ∙ sym (set_past (lengthened n marks) f true (omega (arith, past, long))))
+]
+
+pub long_none : (n k : ℕ) (marks : List Bool) → marks ≡ replicate k false → k ≤ n → lengthened n marks ≡ replicate n false
+long_none n k marks is few =
+    let long = ap length is ∙ length-replicate k false in
+    let whole = long_length marks n (omega (arith, long, few)) in
+    ext_get_or false (lengthened n marks) (replicate n false) (whole ∙ sym (length-replicate n false))
+    (λ f below. long_marked marks (n - length marks) f ∙ ap (λ l. is_marked l f) is ∙ unmarked k f ∙ sym (unmarked n f))
+
+-- a new row takes what the other one of its length has marked
+joined_none_yet : (other : List Bool) → joined_marks (replicate (length other) false) other ≡ other
+joined_none_yet [] = refl
+joined_none_yet (n ∷ other) = ap (λ l. n ∷ l) (joined_none_yet other)
+
+pub joined_new : (n : ℕ) (marks other : List Bool) → marks ≡ replicate n false → n ≡ length other → joined_marks marks other ≡ other
+joined_new n marks other is long =
+    ap (λ l. joined_marks l other) (is ∙ ap (λ (k : ℕ). replicate k false) long) ∙ joined_none_yet other

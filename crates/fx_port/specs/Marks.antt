@@ -1,5 +1,6 @@
 -- Marks of numbers, and numbers that are listed each once.
-use Rattle.std.specs.Prelude.{◌≡◌, ◌<◌, ◌≤◌, ℕ, Bool, true, false, ◌||◌, List, [], ◌∷◌, map, Option, Some, None, slice_index_or, slice_set}
+use Rattle.std.specs.Prelude.{◌≡◌, ◌<◌, ◌≤◌, ℕ, Bool, true, false, ◌||◌, ◌-◌, List, [], ◌∷◌, ◌++◌, length, map, replicate, Option, Some, None}
+use Rattle.std.specs.Prelude.{slice_index_or, slice_set}
 use Rattle.std.specs.List.{range_with_len}
 use Rattle.fx_term.specs.Bits.{has_bit}
 use Rattle.fx_term.specs.Lists.{Among}
@@ -11,6 +12,10 @@ is_marked marks f = slice_index_or marks f false
 -- the marks of so many numbers, of which each is marked that has its bit set
 abbrev pub marks_of : ℕ → List ℕ → List Bool
 marks_of n words = map (has_bit words) (range_with_len 0 n)
+
+-- the same marks as a row of so many numbers: of those past its end none is marked
+abbrev pub lengthened : ℕ → List Bool → List Bool
+lengthened n marks = marks ++ replicate (n - length marks) false
 
 -- each number that is marked comes before this one
 abbrev pub AreBefore : ℕ → List Bool → Type 0

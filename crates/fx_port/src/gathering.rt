@@ -5,7 +5,7 @@ ghost use Rattle.fx_word.specs.Words.{IsOf};
 ghost use Rattle.fx_port.specs.PortView.{IsOfRun};
 ghost use Rattle.fx_port.specs.Rows.{IsRowOf, joined_row};
 
-use crate::marks::Marks;
+use crate::noted::Noted;
 use crate::passes::Passes;
 use crate::run_brand::RunBrand;
 use crate::thread_port::ThreadPort;
@@ -20,7 +20,7 @@ pub fn gather<'a, R: Wait, N: RunBrand>(
     seat: &mut WordSeat,
     passes: &mut Passes,
     port: ThreadPort<'a, R, N>,
-) -> Marks
+) -> Noted<N>
     requires words { (words.now ≡ N.words) × IsOf seat.old N.words }
     requires queues { (queues.now ≡ N.queues) × IsRowOf N.queues passes.old }
     ensures table { IsOf seat.new N.words }

@@ -2,7 +2,8 @@
 //!
 //! A port is what its fiber has of the outside: a seat of the words, a pass of each queue, and a mark for
 //! each number that was requested from outside through it. Who holds it acts for that fiber, on whatever
-//! thread, and borrows what all fibers share. It grows with the queues, and by a bit with each number.
+//! thread, and borrows what all fibers share. It grows with the queues, and by a bit with each number below
+//! the greatest that may be requested from outside.
 //! What a worker lends to the ports of its fibers are notes: the numbers of the fibers that are to be woken,
 //! each once.
 //!
@@ -39,6 +40,7 @@ mod close;
 mod counted_pass;
 mod gathering;
 mod marks;
+mod noted;
 mod notes;
 mod open;
 mod outcome_rings;
@@ -53,6 +55,7 @@ mod waiting;
 pub use close::close_queues;
 pub use gathering::gather;
 pub use marks::Marks;
+pub use noted::Noted;
 pub use notes::Notes;
 pub use open::open_queues;
 pub use passes::Passes;

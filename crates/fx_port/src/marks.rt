@@ -1,7 +1,9 @@
 //! A row of marks.
-ghost use Rattle.std.specs.Prelude.{◌≡◌, false, true, replicate, slice_set, IfOk};
+ghost use Rattle.std.specs.Prelude.{◌≡◌, false, true, replicate, slice_set, length, IfOk};
 ghost use Rattle.fx_port.specs.Marks.{is_marked, joined_marks, IsEndOf};
 
+use crate::noted::Noted;
+use crate::run_brand::RunBrand;
 use fx_term::Memory;
 use std::alloc::Global;
 use std::marker::Model;
@@ -45,6 +47,13 @@ impl Marks {
         })
     }
 
+    /// How many numbers it has marks for.
+    pub(crate) fn numbers(&self) -> u32
+        ensures { result ≡ length self.now }
+    {
+        self.numbers
+    }
+
     /// Whether the number is marked.
     pub fn is_marked(&self, id: u32) -> bool
         ensures { result ≡ is_marked self.now id }
@@ -69,8 +78,8 @@ impl Marks {
         }
     }
 
-    /// Marks what the other row has marked, where it is below the bound.
-    pub fn join(&mut self, other: &Marks)
+    /// Marks whom a port requested from outside, where it is below the bound.
+    pub fn join<N: RunBrand>(&mut self, other: &Noted<N>)
         ensures { self.new ≡ joined_marks self.old other.now }
     {
         for id in 0..other.end() {

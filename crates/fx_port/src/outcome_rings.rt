@@ -5,7 +5,7 @@ use fx_term::Memory;
 use std::alloc::Global;
 
 /// A spot in a ring.
-#[derive(Clone, Copy)]
+#[derive(Clone, Copy, PartialEq, Eq)]
 enum Spot {
     /// Where the ring of those that wait for the outcome of this fiber begins and ends.
     Head(u32),
@@ -88,8 +88,13 @@ impl OutcomeRings {
         self.link(spot, head);
     }
 
+    /// Takes the spot out of its ring. Mostly it is alone in it: most wait for no second outcome, and one that is
+    /// woken has been taken out.
     fn take_off(&mut self, spot: Spot) {
         let Neighbours { before, after } = self.neighbours(spot);
+        if before == spot {
+            return;
+        }
         self.link(before, after);
         self.link(spot, spot);
     }

@@ -88,9 +88,19 @@ fn leave_source<R: Wait, N: RunBrand>(
     }
 }
 
-/// Wakes the fiber that was listed longest at that side of the queue of that number, once the put or get that
-/// it is woken by is made. Mostly nobody is listed, and then no call is made.
+/// Whether a fiber is listed at that side of the queue of that number. Mostly none is, and a call that can wait for
+/// a lock costs more than this look, though it takes none.
 #[inline(always)]
+pub(crate) fn is_waited_at(queues: &[FiberQueue], queue: u8, side: Side) -> bool {
+    match queues.get(queue as usize) {
+        Some(queue) => queue.has_waiter(side),
+        None => false,
+    }
+}
+
+/// Wakes the fiber that was listed longest at that side of the queue of that number, once the put or get that
+/// it is woken by is made.
+#[inline(never)]
 pub(crate) fn wake_at<R: Wait, N: RunBrand>(
     rt: &R,
     queues: &[FiberQueue],
@@ -105,7 +115,6 @@ pub(crate) fn wake_at<R: Wait, N: RunBrand>(
     }
 }
 
-#[inline(always)]
 fn wake_next<R: Wait, N: RunBrand>(rt: &R, queue: &FiberQueue, side: Side, notes: &mut Notes<N>)
     ensures { KeepsMarks notes.old notes.new }
 {

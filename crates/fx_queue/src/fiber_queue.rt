@@ -183,8 +183,14 @@ impl FiberQueue {
         self.side(side).remove(rt, fiber)
     }
 
-    /// Takes the fiber off that side that was listed there longest, if there is one.
+    /// Whether a fiber is listed at that side. Mostly none is: who asks this first makes no call that could
+    /// wait for the lock.
     #[inline(always)]
+    pub fn has_waiter(&self, side: Side) -> bool {
+        self.side(side).has_any()
+    }
+
+    /// Takes the fiber off that side that was listed there longest, if there is one.
     pub fn next_waiter<R: Wait>(&self, rt: &R, side: Side) -> Option<u32> {
         self.side(side).take_first(rt)
     }

@@ -20,6 +20,7 @@
 //! |---|---|---|
 //! | `wait` of a fiber | where it is not listed there: it is the last of the list | nothing |
 //! | `unwait` of a fiber | it is listed no more | whether it was |
+//! | `has_waiter` | nothing | whether a fiber is listed |
 //! | `next_waiter` | the first is listed no more | it, or `None` where nobody is listed |
 //!
 //! 1. The history is legal: each put found room, each get took the front, and nothing else happened.
@@ -37,7 +38,7 @@
 //!    the same fibers in the same order: so an element comes out with the stamp that it went in with.
 //! 6. Those who wait at a side stand in a ring behind a small lock, each once. That the one listed
 //!    longest is next is proved of that ring, and of the queue it is tested, since a contract says
-//!    nothing of what is behind a lock. Where nobody waits `next_waiter` takes no lock.
+//!    nothing of what is behind a lock. Where nobody waits `unwait` and `next_waiter` take no lock.
 //! 7. `new` and `close` alone take memory.
 #![tactic(auto)]
 

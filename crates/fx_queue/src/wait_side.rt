@@ -16,6 +16,9 @@ use std::sync::{Mutex, Wait};
 /// before the store, the put or get comes before the second try, which meets it, unless another fiber did.
 /// Where it comes after the store, it finds the word set, unless the fiber was taken off meanwhile: by another
 /// wake, which then is its own, or by itself as it goes on.
+///
+/// Nor is a fiber left listed that goes on. Once it has listed itself, the word is 0 only after a change that left
+/// nobody listed, and no other fiber lists it: so where it loads 0, it was taken off before.
 #[derive(Drop)]
 pub(crate) struct WaitSide {
     waiters: Mutex<Waiters>,
@@ -40,24 +43,28 @@ impl WaitSide {
         self.tell(&waiters);
     }
 
-    /// Takes the fiber off, and tells whether it was listed.
+    /// Takes the fiber off, and tells whether it was listed. Where nobody is, no lock is taken.
     pub fn remove<R: Wait>(&self, rt: &R, fiber: u32) -> bool {
+        if !self.has_any() {
+            return false;
+        }
         let mut waiters = self.waiters.lock(rt);
         let was_listed = waiters.remove(fiber);
         self.tell(&waiters);
         was_listed
     }
 
-    /// Takes off the one that was listed longest, if somebody is. Mostly nobody is, and then no call is made.
+    /// Whether somebody is listed.
     #[inline(always)]
-    pub fn take_first<R: Wait>(&self, rt: &R) -> Option<u32> {
-        if self.listed.load(Ordering::SeqCst) == 0 {
-            return None;
-        }
-        self.take_listed(rt)
+    pub fn has_any(&self) -> bool {
+        self.listed.load(Ordering::SeqCst) != 0
     }
 
-    fn take_listed<R: Wait>(&self, rt: &R) -> Option<u32> {
+    /// Takes off the one that was listed longest, if somebody is. Where nobody is, no lock is taken.
+    pub fn take_first<R: Wait>(&self, rt: &R) -> Option<u32> {
+        if !self.has_any() {
+            return None;
+        }
         let mut waiters = self.waiters.lock(rt);
         let first = waiters.take_first();
         self.tell(&waiters);

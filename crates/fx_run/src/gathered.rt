@@ -31,21 +31,26 @@ pub(crate) struct Gathered {
 }
 
 impl Gathered {
-    /// What the main fiber left.
+    /// What the main fiber left, with room for so many fibers.
     fn of_main<'a, R: Wait, N: RunBrand>(
         alloc: Global,
+        words: &Words,
         code: &Code,
         main: Fiber<ThreadPort<'a, R, N>>,
+        count: usize,
     ) -> Result<Gathered, Memory>
+        requires words { words.now ≡ N.words }
         requires code { code.now.nodes ≡ N.nodes }
         requires main { main.port.words.own.id ≡ 0 }
         ensures gathered { IfOk result (λ g. IsGathered N.nodes N.words N.queues g) }
         ensures bares { IfOk result (λ g. g.bares.items ≡ without_port N.nodes main.entry ∷ []) }
         ensures allowed { IfOk result (λ g. AreAllowed N.may g.noted) }
     {
-        let mut bares = Vec::new(alloc);
+        let mut bares = Vec::with_capacity(alloc, count)?;
+        let mut noted = Marks::new(alloc, words.fibers())?;
         let (bare, port) = main.part(code);
-        let (seat, passes, noted) = port.into_parts();
+        let (seat, passes, of_main) = port.into_parts();
+        noted.join(&of_main);
         bares.push(bare)?;
         Ok(Gathered {
             bares,
@@ -149,8 +154,9 @@ pub(crate) fn gather_all<'a, R: Wait, N: RunBrand>(
     ensures fault { IfErr result
         (λ fault. IsLostFault (map (without_port code.now.nodes) fibers.entry.items) fault) }
 {
+    let count = fibers.len();
     let (main, mut others) = main_and_others(fibers)?;
-    let mut gathered = Gathered::of_main(alloc, code, main)?;
+    let mut gathered = Gathered::of_main(alloc, words, code, main, count)?;
     gathered.take_in_all(words, queues, code, &mut others)?;
     Ok(gathered)
 }

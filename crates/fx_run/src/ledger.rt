@@ -7,7 +7,7 @@ ghost use Rattle.fx_run.specs.Ledger.{with_marks};
 ghost use Rattle.fx_run.specs.Ledger.{is_lost_in, IsFirstLost};
 
 use fx_fiber::Bare;
-use fx_port::Marks;
+use fx_port::{Noted, RunBrand};
 use fx_term::{Event, Memory, Outcome, Stamped};
 use std::alloc::Global;
 use std::marker::Model;
@@ -146,7 +146,7 @@ impl Ledger {
     }
 
     /// Those that are marked were requested from outside.
-    pub fn marks(&mut self, marks: &Marks)
+    pub fn marks<N: RunBrand>(&mut self, marks: &Noted<N>)
         ensures { self.new ≡ with_marks 0 marks.now self.old }
     {
         for id in 0..marks.end() {

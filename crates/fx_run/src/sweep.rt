@@ -75,7 +75,7 @@ fn sweep_any<P: Port + Drop>(
 {
     let mut swept = Swept {
         able: Vec::new(alloc),
-        unable: Vec::new(alloc),
+        unable: Vec::with_capacity(alloc, fibers.len())?,
     };
     for fiber in fibers {
         swept.put(code, closed, fiber)?;

@@ -10,7 +10,7 @@ ghost use Rattle.fx_run.specs.Tally.{empty_tally, with_shown, with_all_shown, wi
 use crate::flows::Flows;
 use crate::ledger::Ledger;
 use fx_fiber::Fiber;
-use fx_port::{Marks, RunBrand, ThreadPort};
+use fx_port::{Noted, RunBrand, ThreadPort};
 use fx_term::{Event, Memory, Outcome, Stamped};
 use fx_text::Script;
 use std::alloc::Global;
@@ -52,7 +52,7 @@ impl Tally {
     }
 
     /// Those that are marked were requested from outside.
-    fn marks(&mut self, marks: &Marks)
+    fn marks<N: RunBrand>(&mut self, marks: &Noted<N>)
         ensures { self.new ≡ record self.old { ledger = with_marks 0 marks.now self.old.ledger } }
     {
         self.ledger.marks(marks);

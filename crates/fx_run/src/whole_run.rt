@@ -55,7 +55,8 @@ fn notes<N: RunBrand>(alloc: Global, fibers: u32, workers: u32) -> Result<Vec<No
     Ok(shared)
 }
 
-/// Runs the script's fibers over these words and queues, until none can step, and gathers what they left.
+/// Runs the script's fibers over these words and queues, until none can step, and gathers what they left. All
+/// that may be requested from outside are below the number `named`.
 fn run_over<
     N: RunBrand + Send + Sync,
     R: Wait + Threads + Sync + RandomSource + AllocGlobal,
@@ -70,6 +71,7 @@ fn run_over<
     queues: &[FiberQueue],
     seat: WordSeat,
     passes: Passes,
+    named: u32,
 ) -> Result<Ran, RunFault>
     requires code { script.now.code.nodes ≡ N.nodes }
     requires words { (words.now ≡ N.words)
@@ -78,6 +80,7 @@ fn run_over<
     requires seat { IsOf seat N.words × (seat.view ≡ first_view N.words.fibers) }
     requires passes { AreFirst N.words.fibers N.queues passes }
     requires gate { (id : ℕ) → G.may gate.now id ≡ true → N.may id ≡ true }
+    requires named { (f : ℕ) → N.may f ≡ true → f < N.words.fibers → f < named }
     ensures gathered { IfOk result (λ ran. IsGathered N.nodes N.words N.queues ran.gathered) }
     ensures ascending { IfOk result (λ ran. AreAscending ran.gathered.bares.items) }
     ensures allowed { IfOk result (λ ran. AreAllowed N.may ran.gathered.noted) }
@@ -85,7 +88,9 @@ fn run_over<
 {
     let fibers = words.fibers();
     let sources = Sources::new(alloc, fibers)?;
-    let port: ThreadPort<R, N> = ThreadPort::new(rt, alloc, words, queues, &sources, seat, passes)?;
+    let port: ThreadPort<R, N> = ThreadPort::new(
+        rt, alloc, words, queues, &sources, seat, passes, named,
+    )?;
     let main = Fiber::new(alloc, &script.code, port)?;
     let shared = notes(alloc, fibers, workers)?;
     let ran = run_rounds(rt, alloc, script, main, shared, gate)?;
@@ -117,8 +122,9 @@ fn run_by<R: Wait + Threads + Sync + RandomSource + AllocGlobal, G: Gate + Sync>
     let capacities = capacities(alloc, &script.queues)?;
     let (words, seat) = Words::new(alloc, total)?;
     let (queues, passes) = open_queues(alloc, &capacities, total)?;
+    let named = gate.names_below().min(u64::from(total)) as u32;
     let ran = run_over::<Brand, R, G>(
-        rt, alloc, script, workers, gate, &words, &queues, seat, passes,
+        rt, alloc, script, workers, gate, &words, &queues, seat, passes, named,
     )?;
     close_run(rt, alloc, script, words, queues, ran.gathered, ran.late)
 }

@@ -47,4 +47,8 @@ impl Gate for At {
             None
         }
     }
+
+    fn names_below(&self) -> u64 {
+        u64::from(self.id) + 1
+    }
 }

@@ -17,6 +17,10 @@ impl Gate for DropsWakes {
         None
     }
 
+    fn names_below(&self) -> u64 {
+        0
+    }
+
     fn lets_wake(&self, _fiber: u32) -> bool {
         false
     }

@@ -1,5 +1,5 @@
 //! What may hold a turn, ask for a cancellation from outside, and drop a wake.
-ghost use Rattle.std.specs.Prelude.{◌≡◌, ℕ, Bool, true, false, Option, None, IfSome};
+ghost use Rattle.std.specs.Prelude.{◌≡◌, ◌<◌, ◌^◌, ℕ, Bool, true, false, Option, None, IfSome};
 
 /// It is asked before each turn of a fiber, and may hold the turn, or name a fiber that is to be canceled
 /// from outside; and before each wake, which it may drop.
@@ -14,6 +14,13 @@ pub trait Gate {
     fn turn(&self, worker: u32, fiber: u32) -> Option<u32>
         ensures may { IfSome result (λ id. may self.now id ≡ true) }
         ensures answers { answers self.now worker fiber result };
+
+    /// A number above each that it may name; 0, where it names nobody. It is asked once, before the fibers run.
+    fn names_below(&self) -> u64
+        ensures { (id : ℕ) → may self.now id ≡ true → id < 2 ^ 32 → id < result }
+    {
+        1 << 32
+    }
 
     /// Whether this fiber is woken, which was noted to be. Else it waits on, where it waits, until another
     /// wake or a sweep.
@@ -33,5 +40,9 @@ impl Gate for Free {
 
     fn turn(&self, _worker: u32, _fiber: u32) -> Option<u32> {
         None
+    }
+
+    fn names_below(&self) -> u64 {
+        0
     }
 }

@@ -54,7 +54,7 @@ impl<P: Port + Drop> Lot<P> {
             (map (λ (f : FiberView P). (P.theory.facts f.port).number) fibers.items)) }
     {
         let Lot { bays } = self;
-        let mut all = Vec::new(alloc);
+        let mut all = Vec::with_capacity(alloc, bays.len())?;
         let mut next = 0u64;
         for bay in bays {
             let Bay { is_woken: _, fiber } = bay.into_inner();

@@ -50,7 +50,8 @@ pub fn work<R: Wait + RandomSource + AllocGlobal, P: Port, G: Gate>(
     end
 }
 
-/// Takes a fiber, lets it have its turns, and lays it down, again and again.
+/// Takes a fiber, lets it have its turns, and lays it down, again and again. The one that comes next does not go
+/// through the deque where that is empty.
 fn serve<R: Wait, P: Port, G: Gate>(
     rt: &R,
     cx: &mut Context<'_>,
@@ -66,8 +67,9 @@ fn serve<R: Wait, P: Port, G: Gate>(
     requires total { P.theory.total ≤ lot.now }
     requires gate { (id : ℕ) → G.may gate.now id ≡ true → P.theory.may id ≡ true }
 {
+    let mut next = None;
     for _ in rt.forever() {
-        let Some(mut fiber) = hand.wait_next(rt, all) else {
+        let Some(mut fiber) = taken(rt, hand, all, next) else {
             return WorkerEnd::Done;
         };
         let answer = match turns(
@@ -79,22 +81,42 @@ fn serve<R: Wait, P: Port, G: Gate>(
                 return WorkerEnd::Memory(Some(fiber), Some(woken));
             }
         };
-        if let Err(end) = placed(rt, hand, all, lot, fiber, answer) {
-            all.goes_idle();
-            return end;
-        }
+        next = match placed(rt, hand, all, lot, fiber, answer) {
+            Ok(None) if hand.is_empty() => woken(rt, gate, lot, shared),
+            Ok(next) => next,
+            Err(end) => {
+                all.goes_idle();
+                return end;
+            }
+        };
         if let Err(fiber) = wakes(rt, gate, hand, lot, shared) {
             all.goes_idle();
-            return WorkerEnd::Memory(None, Some(fiber));
+            return WorkerEnd::Memory(next, Some(fiber));
         }
         hand.share(all);
     }
     unreachable!()
 }
 
+/// The fiber that comes next, or one out of a deque. It waits until there is one, or no worker may have one.
+#[inline(always)]
+fn taken<R: Wait, P: Port>(
+    rt: &R,
+    hand: &mut Hand<P>,
+    all: &Work<P>,
+    next: Option<Fiber<P>>,
+) -> Option<Fiber<P>> {
+    match next {
+        Some(fiber) => Some(fiber),
+        None => hand.wait_next(rt, all),
+    }
+}
+
 /// Lets the fiber have its turn, and the next ones for as long as it yields and its worker has no other:
 /// it would come next. Answers what the last turn came to; or want of memory, with the fiber that was woken
 /// after a turn and cannot be pushed.
+// (laid into the loop of a worker, so that no fiber is handed on by its address)
+#[inline(always)]
 fn turns<R: Wait, P: Port, G: Gate>(
     rt: &R,
     cx: &mut Context<'_>,
@@ -137,8 +159,8 @@ fn shown_since<P: Port>(events: usize, fiber: &Fiber<P>) -> Shown {
     }
 }
 
-/// Lays a fiber where it belongs after its turn, and a child that it started into the deque before it. What
-/// the lot gives back is able to go on.
+/// Lays a fiber where it belongs after its turn, and a child that it started before it. What the lot gives back is
+/// able to go on. Answers who comes next, where the deque was empty and that is known.
 fn placed<R: Wait, P: Port>(
     rt: &R,
     hand: &mut Hand<P>,
@@ -146,7 +168,7 @@ fn placed<R: Wait, P: Port>(
     lot: &Lot<P>,
     fiber: Fiber<P>,
     answer: Poll<Turned<P>>,
-) -> Result<(), WorkerEnd<P>>
+) -> Result<Option<Fiber<P>>, WorkerEnd<P>>
     requires { P.theory.total ≤ lot.now }
 {
     let fiber = match answer {
@@ -154,34 +176,56 @@ fn placed<R: Wait, P: Port>(
         Poll::Ready(Turned::Ended) => {
             hand.pauses(all);
             let Some(fiber) = lot.settle(rt, fiber) else {
-                return Ok(());
+                return Ok(None);
             };
             fiber
         }
-        Poll::Ready(Turned::Child(child)) => {
-            if let Err(child) = hand.push(child) {
-                return Err(WorkerEnd::Memory(Some(fiber), Some(child)));
-            }
-            fiber
-        }
+        Poll::Ready(Turned::Child(child)) => return started(hand, fiber, child),
         Poll::Pending => {
             if fiber.source().is_none() {
                 fiber
             } else {
                 hand.pauses(all);
                 let Some(fiber) = lot.park(rt, fiber) else {
-                    return Ok(());
+                    return Ok(None);
                 };
                 fiber
             }
         }
     };
-    hand.push(fiber)
-        .map_err(|fiber| WorkerEnd::Memory(Some(fiber), None))
+    if hand.is_empty() {
+        return Ok(Some(fiber));
+    }
+    match hand.push(fiber) {
+        Ok(()) => Ok(None),
+        Err(fiber) => Err(WorkerEnd::Memory(Some(fiber), None)),
+    }
+}
+
+/// Lays a child down that was started, and behind it the fiber that started it.
+fn started<P: Port>(
+    hand: &mut Hand<P>,
+    fiber: Fiber<P>,
+    child: Fiber<P>,
+) -> Result<Option<Fiber<P>>, WorkerEnd<P>> {
+    let next = if hand.is_empty() {
+        Some(child)
+    } else {
+        if let Err(child) = hand.push(child) {
+            return Err(WorkerEnd::Memory(Some(fiber), Some(child)));
+        }
+        None
+    };
+    match hand.push(fiber) {
+        Ok(()) => Ok(next),
+        Err(fiber) => Err(WorkerEnd::Memory(Some(fiber), next)),
+    }
 }
 
 /// Takes the fibers out that are noted to be woken, and pushes those that the gate lets wake. One that
 /// cannot be pushed for want of memory comes back.
+// (as `turns` is)
+#[inline(always)]
 fn wakes<R: Wait, P: Port, G: Gate>(
     rt: &R,
     gate: &G,
@@ -192,13 +236,30 @@ fn wakes<R: Wait, P: Port, G: Gate>(
     requires { P.theory.total ≤ lot.now }
 {
     for _ in rt.forever() {
-        let Some(id) = P::woken(shared) else {
+        let Some(fiber) = woken(rt, gate, lot, shared) else {
             return Ok(());
         };
+        hand.push(fiber)?;
+    }
+    unreachable!()
+}
+
+/// Takes the next fiber out that is noted to be woken and that the gate lets wake.
+#[inline(always)]
+fn woken<R: Wait, P: Port, G: Gate>(
+    rt: &R,
+    gate: &G,
+    lot: &Lot<P>,
+    shared: &mut P::Shared,
+) -> Option<Fiber<P>>
+    requires { P.theory.total ≤ lot.now }
+{
+    for _ in rt.forever() {
+        let id = P::woken(shared)?;
         if gate.lets_wake(id)
             && let Some(fiber) = lot.wake(rt, id)
         {
-            hand.push(fiber)?;
+            return Some(fiber);
         }
     }
     unreachable!()

@@ -122,7 +122,8 @@ fn play_as<N: RunBrand + Send + Sync, R: Threads + Wait + Sync>(
         seat,
         passes,
     } = opened;
-    let port = ThreadPort::<R, N>::new(rt, alloc, &words, &queues, &sources, seat, passes)?;
+    let fibers = words.fibers();
+    let port = ThreadPort::<R, N>::new(rt, alloc, &words, &queues, &sources, seat, passes, fibers)?;
     play_over(rt, alloc, code, port, mine, theirs, plan)
 }
 

@@ -111,7 +111,10 @@ fn made_as<N: RunBrand, R: Wait + RandomSource + AllocGlobal>(
             if let FiberCall::Port = of {
                 trial.refuser.go_on();
             }
-            let port = ThreadPort::<R, N>::new(rt, alloc, &words, &queues, &sources, seat, passes);
+            let fibers = words.fibers();
+            let port = ThreadPort::<R, N>::new(
+                rt, alloc, &words, &queues, &sources, seat, passes, fibers,
+            );
             trial.refuser.hold();
             match port {
                 Ok(port) => come_of(rt, alloc, given, port, &mut notes, of, trial),

@@ -89,11 +89,11 @@ fn compares(alloc: Global, given: &Given, text: &str, refuser: &Refuser) -> Answ
 
 /// What the picture of the report answers, which is to be the one that ample memory gives.
 fn draws(alloc: Global, given: &Given, refuser: &Refuser) -> Answer {
-    let Ok(whole) = format_picture(alloc, &given.script, &given.report, &[], &[]) else {
+    let Ok(whole) = format_picture(alloc, &given.script, &given.report, &[], &[], &[]) else {
         return UNSET;
     };
     refuser.go_on();
-    let drawn = format_picture(alloc, &given.script, &given.report, &[], &[]);
+    let drawn = format_picture(alloc, &given.script, &given.report, &[], &[], &[]);
     refuser.hold();
     match drawn {
         Ok(text) => whole_where(text.as_bytes() == whole.as_bytes()),

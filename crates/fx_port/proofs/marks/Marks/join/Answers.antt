@@ -5,10 +5,10 @@ use Rattle.fx_port.proofs.marks.Marks.join.Goals.{then-is_marked, else-is_marked
 use Rattle.fx_port.proofs.marks.Marks.join.Goals as goal
 
 pub loop-id-init : goal.loop-id-init
-loop-id-init c = sym (joined_none c.args.self.now)
+loop-id-init g c = sym (joined_none c.args.self.now)
 
 pub loop-id-preserved : goal.loop-id-preserved
-loop-id-preserved c =
+loop-id-preserved g c =
     let marks = c.args.self.now in
     let other = c.args.other.now in
     let k = c.loop-id.id in
@@ -20,7 +20,7 @@ loop-id-preserved c =
     ]
 
 pub returns : goal.returns
-returns c =
+returns g c =
     let marks = c.args.self.now in
     let other = c.args.other.now in
     let end = c.loop-id-test.false in

@@ -1,5 +1,4 @@
-use Rattle.std.proofs.Common.{◌≡◌, ◌∙◌, ℕ, [], false, replicate, sym, ap, subst}
-use Rattle.fx_word.specs.Words.{WordsId}
+use Rattle.std.proofs.Common.{◌≡◌, [], sym, subst}
 use Rattle.fx_port.specs.PortView.{PortView, IsOfRun, first_port}
 use Rattle.fx_port.specs.ThreadCalls.{ThreadAgrees}
 use Rattle.fx_port.proofs.FirstLaws.{first_puts, first_agrees}
@@ -8,7 +7,7 @@ use Rattle.fx_port.proofs.thread_port.ThreadPort.new.Goals as goal
 
 pub invariant_of-result : goal.invariant_of-result
 invariant_of-result g c =
-    let marks = c.in_ok-noted.ensures ∙ ap (λ (n : ℕ). replicate n false) (c.fibers.ensures ∙ ap (λ (w : WordsId). w.fibers) c.requires.words.0) in
+    let marks = c.in_ok-noted.ensures in
     let made : first_port g.N.RunBrand.words.fibers c.args.passes
     ≡ record { words = c.args.seat.view; passes = c.args.passes; noted = c.in_ok-noted.noted } =
     λ i. record { words = sym c.requires.seat.1 i; passes = c.args.passes; noted = sym marks i } in
@@ -25,7 +24,7 @@ returns-clause-puts g c = rw c.in_ok-own.ensures.ok (first_puts _ _ c.args.passe
 
 pub returns-clause-fresh : goal.returns-clause-fresh
 returns-clause-fresh g c =
-    let marks = c.in_ok-noted.ensures ∙ ap (λ (n : ℕ). replicate n false) (c.fibers.ensures ∙ ap (λ (w : WordsId). w.fibers) c.requires.words.0) in
+    let marks = c.in_ok-noted.ensures in
     let made : first_port g.N.RunBrand.words.fibers c.args.passes
     ≡ record { words = c.args.seat.view; passes = c.args.passes; noted = c.in_ok-noted.noted } =
     λ i. record { words = sym c.requires.seat.1 i; passes = c.args.passes; noted = sym marks i } in

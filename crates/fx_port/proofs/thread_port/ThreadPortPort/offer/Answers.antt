@@ -22,8 +22,8 @@ invariant_of-self g c =
     rw (c.deref_mut-in-Done.ensures.value, c.deref_mut.ensures.value)
     ((inv.0, inv.1, inv.2, put_one _ _ _ p inv.3 c.args.queue c.args.value _ c.offer.new.self did))
 
-pub returns-in-Done-clause-facts : goal.returns-in-Done-clause-facts
-returns-in-Done-clause-facts g c =
+pub returns-after-is_waited_at-clause-facts : goal.returns-after-is_waited_at-clause-facts
+returns-after-is_waited_at-clause-facts g c =
     let own = c.self.inside.own.value in
     let p : PortView = record { words = c.self.inside.seat.view; passes = own.passes; noted = own.noted } in
     let did = rw c.deref_mut.ensures.value at c.in-Done.ensures in
@@ -31,8 +31,8 @@ returns-in-Done-clause-facts g c =
     rw c.deref_mut-in-Done.ensures.value ((λ i. record (facts_of g.N.RunBrand.nodes p) { puts = counted i })
     ∙ ap (λ (u : PortView). record (facts_of g.N.RunBrand.nodes u) { puts = suc (puts_in u.passes) }) c.self.view_is)
 
-pub returns-in-Done-clause-deed : goal.returns-in-Done-clause-deed
-returns-in-Done-clause-deed g c =
+pub returns-after-is_waited_at-clause-deed : goal.returns-after-is_waited_at-clause-deed
+returns-after-is_waited_at-clause-deed g c =
     let own = c.self.inside.own.value in
     let p : PortView = record { words = c.self.inside.seat.view; passes = own.passes; noted = own.noted } in
     let did = rw c.deref_mut.ensures.value at c.in-Done.ensures in

@@ -11,7 +11,7 @@ returns-then-id-fibers-clause-deed g c =
     let own = c.self.inside.own.value in
     let p : PortView = record { words = c.self.inside.seat.view; passes = own.passes; noted = own.noted } in
     let words = ap (λ (s : Seated). s.view) c.request.ensures in
-    let fibers = c.fibers.ensures ∙ ap (λ (w : WordsId). w.fibers) c.self.invariant.0 in
+    let fibers = (rw c.deref.ensures at c.fibers.ensures) ∙ ap (λ (w : WordsId). w.fibers) c.self.invariant.0 in
     let marks = c.self.invariant.3.marks in
     let below = c.if-id-fibers.true in
     let marked = rw c.deref_mut.ensures.value at c.mark.ensures in

@@ -11,7 +11,7 @@ pub returns-then-id-fibers-clause-deed : goal.returns-then-id-fibers-clause-deed
 returns-then-id-fibers-clause-deed g c =
     let own = c.self.inside.own.value in
     let p : PortView = record { words = c.self.inside.seat.view; passes = own.passes; noted = own.noted } in
-    let fibers = c.fibers.ensures ∙ ap (λ (w : WordsId). w.fibers) c.self.invariant.0 in
+    let fibers = (rw c.deref.ensures at c.fibers.ensures) ∙ ap (λ (w : WordsId). w.fibers) c.self.invariant.0 in
     let marks = c.self.invariant.3.marks in
     let below = c.if-id-fibers.true in
     by_deed p _ _ _ (Requested c.args.id) c.args.stamp c.self.view_is (ap (seated own.passes own.noted) c.request.ensures)
@@ -21,7 +21,7 @@ pub returns-else-id-fibers-clause-deed : goal.returns-else-id-fibers-clause-deed
 returns-else-id-fibers-clause-deed g c =
     let own = c.self.inside.own.value in
     let p : PortView = record { words = c.self.inside.seat.view; passes = own.passes; noted = own.noted } in
-    let fibers = c.fibers.ensures ∙ ap (λ (w : WordsId). w.fibers) c.self.invariant.0 in
+    let fibers = (rw c.deref.ensures at c.fibers.ensures) ∙ ap (λ (w : WordsId). w.fibers) c.self.invariant.0 in
     let marks = c.self.invariant.3.marks in
     let beyond = c.if-id-fibers.false in
     subst (λ (u : PortView). (ds : List StampedDeed) → ThreadAgrees u ds → ThreadAgrees u (ds ++ stamped_deed (Requested c.args.id) c.args.stamp ∷ []))

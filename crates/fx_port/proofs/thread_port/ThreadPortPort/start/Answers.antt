@@ -1,5 +1,5 @@
-use Rattle.std.proofs.Common.{◌≡◌, ◌∙◌, [], arith, ℕ, ◌+◌, ◌≤◌, false, replicate, sym, ap, subst}
-use Rattle.fx_word.specs.Words.{Seated, WordsId}
+use Rattle.std.proofs.Common.{◌≡◌, ◌∙◌, [], arith, ℕ, ◌+◌, ◌≤◌, sym, ap, subst}
+use Rattle.fx_word.specs.Words.{Seated}
 use Rattle.fx_fiber.specs.Deed.{Started}
 use Rattle.fx_fiber.specs.PortFacts.{first_facts}
 use Rattle.fx_port.specs.PortView.{PortView, IsOfRun, kept_port, given_port, facts_of}
@@ -24,7 +24,7 @@ invariant_of-result g c =
     let p : PortView = record { words = c.self.inside.seat.view; passes = own.passes; noted = own.noted } in
     let of_given = rw c.deref_mut.ensures.value at c.in_ok-passes.ensures.given in
     let words = ap (λ (s : Seated). s.view) c.split-seat.ensures.given in
-    let marks = c.in_ok-noted.ensures ∙ ap (λ (n : ℕ). replicate n false) (c.fibers.ensures ∙ ap (λ (w : WordsId). w.fibers) c.self.invariant.0) in
+    let marks = c.in_ok-noted.ensures in
     let made : given_port g.N.RunBrand.words.fibers c.args.begin.now p
     ≡ record { words = c.split-seat.result.view; passes = c.in_ok-passes.passes; noted = c.in_ok-noted.noted } =
     λ i. record { words = sym words i; passes = sym of_given i; noted = sym marks i } in
@@ -32,7 +32,7 @@ invariant_of-result g c =
     let is = range.number ∙ sym (ap (λ (u : PortView). u.words.own.next) c.self.view_is) in
     let inside = subst (λ (n : ℕ). c.args.begin.now.end ≤ n) (sym (ap (λ (u : PortView). u.words.own.end) c.self.view_is)) range.within in
     let inv = c.self.invariant in
-    rw (c.deref_mut-2.ensures.value, c.in_ok-own.ensures.ok) ((
+    rw (c.deref_mut-2.ensures.value, c.in_ok-own.ensures.ok, c.deref-4.ensures, c.deref-5.ensures) ((
       inv.0,
       inv.1,
       ap (λ (s : Seated). s.table) c.split-seat.ensures.given ∙ inv.2,
@@ -84,7 +84,7 @@ returns-clause-child_fresh g c =
     let p : PortView = record { words = c.self.inside.seat.view; passes = own.passes; noted = own.noted } in
     let of_given = rw c.deref_mut.ensures.value at c.in_ok-passes.ensures.given in
     let words = ap (λ (s : Seated). s.view) c.split-seat.ensures.given in
-    let marks = c.in_ok-noted.ensures ∙ ap (λ (n : ℕ). replicate n false) (c.fibers.ensures ∙ ap (λ (w : WordsId). w.fibers) c.self.invariant.0) in
+    let marks = c.in_ok-noted.ensures in
     let made : given_port g.N.RunBrand.words.fibers c.args.begin.now p
     ≡ record { words = c.split-seat.result.view; passes = c.in_ok-passes.passes; noted = c.in_ok-noted.noted } =
     λ i. record { words = sym words i; passes = sym of_given i; noted = sym marks i } in

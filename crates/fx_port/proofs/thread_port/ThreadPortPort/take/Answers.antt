@@ -15,16 +15,16 @@ invariant_of-self g c =
     rw (c.deref_mut-in-Some.ensures.value, c.deref_mut.ensures.value)
     ((inv.0, inv.1, inv.2, got_one _ _ _ p inv.3 c.args.queue c.in-Some.element.0 c.in-Some.element.1 c.take.new.self took))
 
-pub returns-in-Some-clause-facts : goal.returns-in-Some-clause-facts
-returns-in-Some-clause-facts g c =
+pub returns-after-is_waited_at-clause-facts : goal.returns-after-is_waited_at-clause-facts
+returns-after-is_waited_at-clause-facts g c =
     let own = c.self.inside.own.value in
     let p : PortView = record { words = c.self.inside.seat.view; passes = own.passes; noted = own.noted } in
     let took = rw c.deref_mut.ensures.value at c.in-Some.ensures in
     let counted = count_got _ _ _ _ _ took in
     rw c.deref_mut-in-Some.ensures.value ((λ i. record (facts_of g.N.RunBrand.nodes p) { puts = counted i }) ∙ ap (facts_of g.N.RunBrand.nodes) c.self.view_is)
 
-pub returns-in-Some-clause-deed : goal.returns-in-Some-clause-deed
-returns-in-Some-clause-deed g c =
+pub returns-after-is_waited_at-clause-deed : goal.returns-after-is_waited_at-clause-deed
+returns-after-is_waited_at-clause-deed g c =
     let own = c.self.inside.own.value in
     let p : PortView = record { words = c.self.inside.seat.view; passes = own.passes; noted = own.noted } in
     let took = rw c.deref_mut.ensures.value at c.in-Some.ensures in
