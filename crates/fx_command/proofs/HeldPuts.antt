@@ -71,6 +71,10 @@ module _ (q : ℕ) (s : SoFarView) (within : q < length s.queues) where
   still_within (Request f) = within
   still_within (Passed x) = within
 
+pub within_all : (q : ℕ) (s : SoFarView) (told : List Told) → q < length s.queues → q < length (shown_by_all s told).queues
+within_all q s [] within = within
+within_all q s (t ∷ told) within = within_all q (shown_after s t) told (still_within q s within t)
+
 pub in_order : (q : ℕ) (s : SoFarView) (told : List Told) → q < length s.queues
     → held_in s.queues q ++ puts_told q s told ≡ causes_told q s told ++ held_told q s told
 in_order q s [] within = append-nil (held_in s.queues q)

@@ -7,7 +7,7 @@ use Rattle.fx_plain.specs.declared.told.Told.TheVariants.{Step, Request, Passed}
 use Rattle.fx_command.specs.SoFar.{SoFarView, next_of, nothing_shown}
 use Rattle.fx_command.specs.StoodEvents.{shown_when, shown_after}
 
-none_of : (n f : ℕ) → slice_index_or (replicate n zero) f zero ≡ zero
+pub none_of : (n f : ℕ) → slice_index_or (replicate n zero) f zero ≡ zero
 none_of zero f = refl
 none_of (suc n) zero = refl
 none_of (suc n) (suc f) = none_of n f

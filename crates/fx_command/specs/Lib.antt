@@ -13,8 +13,11 @@ pub mod Fetched
 pub mod Passed
 pub mod SoFar
 pub mod StoodEvents
+pub mod HandlesTold
 pub mod TakesInOrder
+pub mod CausesTold
 pub mod IsToldOf
+pub mod SolePuts
 pub mod Pictured
 pub mod Placed
 pub mod ToldText

@@ -33,6 +33,8 @@ use Rattle.fx_command.specs.declared.command_fault.CommandFault.{CommandFault}
 use Rattle.fx_command.specs.declared.command_fault.CommandFault.TheVariants.{Refused, Unreadable, Memory, Write, Run}
 use Rattle.fx_command.specs.Passed.{replay_words}
 use Rattle.fx_command.specs.StoodEvents.{stood_events}
+use Rattle.fx_command.specs.SolePuts.{stood_of_run}
+use Rattle.fx_command.specs.HandlesTold.{named_told}
 use Rattle.fx_command.specs.Pictured.{IsPictured}
 use Rattle.fx_places.specs.declared.place.FormPlace.{FormPlace}
 use Rattle.fx_places.specs.Places.{positions_of}
@@ -85,13 +87,13 @@ pub data IsPerformed (source : List ℕ) (m : Meaning) (picks : List Pick) (expe
   pictured : {r : ReportView} {blocked : List Blocked} {passed : Option PassedOver} {nodes : List Node} {places : List FormPlace} {told : List Told}
       {words text : List ℕ} {status : ℕ} → root_term nodes ≡ m.term → IsReplayWithBlocked nodes (script_of m) picks r blocked
       → TellsPassed (script_of m) picks passed → ArePlacesOrNone source nodes places → TellsRun nodes (script_of m) picks told
-      → IsPictured (queue_names m) (stood_events places (total (script_of m)) (length m.queues) told) r blocked
+      → IsPictured (queue_names m) (stood_events places (total (script_of m)) (length m.queues) told) r (named_told source places told) blocked
       (replay_words (queue_names m) passed (positions_of places) blocked) words status text
       → IsPerformed source m picks expected Picture words status text
   picture_ran : {workers : ℕ} {r : ReportView} {blocked : List Blocked} {nodes : List Node} {places : List FormPlace} {words text : List ℕ} {status : ℕ}
       → 1 ≤ workers → workers ≤ most_workers → root_term nodes ≡ m.term → IsLawfulHalt nodes (script_of m) nobody r blocked
       → ArePlacesOrNone source nodes places
-      → IsPictured (queue_names m) [] r blocked (blocked_text (queue_names m) (positions_of places) blocked) words status text
+      → IsPictured (queue_names m) (stood_of_run r.fibers) r [] blocked (blocked_text (queue_names m) (positions_of places) blocked) words status text
       → IsPerformed source m picks expected (command.PictureRun workers) words status text
   explored : {search : Search} {e : Explored} → IsExplored (setting (script_of m) search.target) search.most e
       → IsPerformed source m picks expected (command.Explore search) [] (explored_status e) (explored_text (queue_names m) e)

@@ -1,5 +1,6 @@
 -- What a run has shown so far, as it is told: how many events each fiber, and whose puts each queue holds.
-use Rattle.std.specs.Prelude.{ℕ, suc, Option, Some, None, List, [], ◌∷◌, ◌++◌, length, drop, replicate, slice_set, slice_index_or}
+use Rattle.std.specs.Prelude.{ℕ, suc, ◌-◌, ◌==◌, if◌then◌else◌, Option, Some, None, option_and_then, List, [], ◌∷◌, ◌++◌, length, drop, replicate}
+use Rattle.std.specs.Prelude.{slice_set, slice_index_or}
 use Rattle.fx_term.specs.declared.event.Event.{Event}
 use Rattle.fx_term.specs.declared.event.Event.TheVariants as event
 use Rattle.fx_picture.specs.declared.stood.EventAt.{EventAt}
@@ -29,6 +30,17 @@ front_of (x ∷ xs) = Some x
 abbrev pub cause_by : List (List EventAt) → Event → Option EventAt
 cause_by queues (event.Got q v) = front_of (held_in queues q)
 cause_by queues _ = None
+
+-- the last event that fiber f has shown, if it has shown one
+abbrev pub last_of : List ℕ → ℕ → Option EventAt
+last_of shown f =
+    if slice_index_or shown f 0 == 0 then None
+    else Some (record { fiber = f; place = slice_index_or shown f 0 - 1 })
+
+-- the event that causes this one, of a step that learned of this fiber's end, if it learned of one: what a `first` has found is the last event of that fiber
+abbrev pub cause_when : SoFarView → Option ℕ → Event → Option EventAt
+cause_when s learned (event.First side) = option_and_then (last_of s.shown) learned
+cause_when s learned e = cause_by s.queues e
 
 -- the queues after this event, which is that one of the run
 abbrev pub queues_after : EventAt → Event → List (List EventAt) → List (List EventAt)

@@ -8,7 +8,7 @@ use Rattle.fx_plain.specs.declared.told.MadeStep.{MadeStep}
 use Rattle.fx_plain.specs.declared.told.Told.{Told}
 use Rattle.fx_plain.specs.declared.told.Told.TheVariants.{Step, Request, Passed}
 use Rattle.fx_picture.specs.declared.stood.Stood.{Stood}
-use Rattle.fx_command.specs.SoFar.{SoFarView, nothing_shown, cause_by, count_by, with_event}
+use Rattle.fx_command.specs.SoFar.{SoFarView, nothing_shown, cause_when, count_by, with_event}
 use Rattle.fx_command.specs.ToldText.{node_of, stood_after, place_of}
 
 abbrev pub position_of : Option FormPlace → Option Position
@@ -23,7 +23,7 @@ stood_when place s made (Some e) = record {
   fiber = made.fiber;
   position = position_of place;
   is_open = made.is_open;
-  cause = cause_by s.queues e;
+  cause = cause_when s made.learned e;
   held = count_by (with_event s made.fiber e).queues e;
 } ∷ []
 

@@ -1,10 +1,10 @@
 //! Laws that tie the words of the program to one another, and to runs. A function here does nothing: its contract is the
 //! law.
-ghost use Rattle.std.specs.Prelude.{◌≡◌, ◌≤◌, ◌<◌, ℕ, List, Option, Some, All, length, slice_get};
+ghost use Rattle.std.specs.Prelude.{◌≡◌, ◌≤◌, ◌<◌, ◌∷◌, ◌++◌, ℕ, Bool, true, List, Option, Some, All, is_some, length, slice_get};
 ghost use Rattle.fx_term.specs.declared.event.Event.{Event};
 ghost use Rattle.fx_term.specs.declared.event.Event.TheVariants as event;
 ghost use Rattle.fx_term.specs.declared.node.Node.{Node};
-ghost use Rattle.fx_term.specs.Script.{ScriptView};
+ghost use Rattle.fx_term.specs.Script.{ScriptView, total};
 ghost use Rattle.fx_term.specs.Lists.{Among};
 ghost use Rattle.fx_text.specs.declared.pick.Pick.{Pick};
 ghost use Rattle.fx_text.specs.Limits.{most_picks};
@@ -21,15 +21,30 @@ ghost use Rattle.fx_findings.specs.Printed.{TellsSo, HasSmallNumber};
 ghost use Rattle.fx_findings.specs.Text.{picks_text};
 ghost use Rattle.fx_command.specs.declared.call.Command.TheVariants as command;
 ghost use Rattle.fx_command.specs.declared.call.Search.{Search};
+ghost use Rattle.fx_plain.specs.declared.told.MadeStep.{MadeStep};
 ghost use Rattle.fx_plain.specs.declared.told.Told.{Told};
+ghost use Rattle.fx_plain.specs.declared.told.Told.TheVariants.{Step};
 ghost use Rattle.fx_plain.specs.Chosen.{IsReplay};
 ghost use Rattle.fx_plain.specs.ToldRun.{TellsRun};
+ghost use Rattle.fx_places.specs.declared.form.Form.TheVariants as form;
 ghost use Rattle.fx_places.specs.declared.place.FormPlace.{FormPlace};
+ghost use Rattle.fx_model.specs.Causes.{Needs, LeavesQueue};
 ghost use Rattle.fx_model.specs.Report.{ReportView, trace_in};
+ghost use Rattle.fx_model.specs.LawfulReport.{IsLawfulReport};
+ghost use Rattle.fx_model.specs.ReportStamps.{IsStampedReport};
+ghost use Rattle.fx_command.specs.HandlesTold.{named_told, IsNamedBy};
 ghost use Rattle.fx_command.specs.StoodEvents.{stood_events};
+ghost use Rattle.fx_command.specs.ToldText.{place_of};
 ghost use Rattle.fx_command.specs.IsToldOf.{IsToldOf};
+ghost use Rattle.fx_picture.specs.declared.layout.TheConstants.{MOST_EVENTS};
 ghost use Rattle.fx_picture.specs.declared.stood.EventAt.{EventAt};
+ghost use Rattle.fx_picture.specs.Handles.{name_of};
+ghost use Rattle.fx_picture.specs.DrawsEach.{DrawsEach};
+ghost use Rattle.fx_picture.specs.DrawsOnly.{DrawsOnly};
+ghost use Rattle.fx_picture.specs.IsDrawn.{Tells};
 ghost use Rattle.fx_command.specs.SoFar.{nothing_shown, cause_by};
+ghost use Rattle.fx_command.specs.SolePuts.{puts_in, sole_put, stood_of_run};
+ghost use Rattle.fx_command.specs.CausesTold.{TellsCauses};
 ghost use Rattle.fx_command.specs.TakesInOrder.{puts_told, causes_told, shown_by_all, TakesInOrder};
 ghost use Rattle.fx_command.specs.CommandAnswer.{IsCommandAnswer};
 
@@ -64,6 +79,79 @@ pub fn told_gets_take_puts_in_order()
         → cause_by (shown_by_all (nothing_shown fibers queues) before).queues (event.Got q v) ≡ Some x
         → slice_get (puts_told q (nothing_shown fibers queues) before)
         (length (causes_told q (nothing_shown fibers queues) before)) ≡ Some x }
+{}
+
+/// What a replay tells of each `first` as its cause is the end on which that stands, by runs and histories that make the report
+/// lawful with its stamps: that of the fiber of which its step has learned. So its arrow is in the picture, as
+/// `causes_are_drawn` of `fx_picture` says.
+pub fn told_firsts_stand_on_ends()
+    ensures { (nodes : List Node) (s : ScriptView) (ps : List Pick) (told : List Told) (r : ReportView) → TellsRun nodes s ps told
+        → IsReplay s ps r → (report : IsStampedReport s (λ f. true) r)
+        × ((places : List FormPlace) (fibers queues f i side : ℕ) → total s ≤ fibers
+        → slice_get (trace_in r f) i ≡ Some (event.First side)
+        → (g : ℕ) × (j : ℕ) × Needs (trace_in r) report.stamped.lawful.runs.labels
+        (LeavesQueue s (λ f. true) r report.stamped.lawful) f i g j
+        × Tells (stood_events places fibers queues told) f i g j) }
+{}
+
+/// What a replay tells of each get as its cause is the put on which that stands, by runs and histories that make the report
+/// lawful with its stamps: that of the element that it took. So its arrow is in the picture, as `causes_are_drawn` of
+/// `fx_picture` says.
+pub fn told_gets_stand_on_puts()
+    ensures { (nodes : List Node) (s : ScriptView) (ps : List Pick) (told : List Told) (r : ReportView) → TellsRun nodes s ps told
+        → IsReplay s ps r → (report : IsStampedReport s (λ f. true) r)
+        × ((places : List FormPlace) (fibers queues f i q v : ℕ) → total s ≤ fibers → length s.capacities ≤ queues
+        → slice_get (trace_in r f) i ≡ Some (event.Got q v)
+        → (g : ℕ) × (j : ℕ) × Needs (trace_in r) report.stamped.lawful.runs.labels
+        (LeavesQueue s (λ f. true) r report.stamped.lawful) f i g j
+        × Tells (stood_events places fibers queues told) f i g j) }
+{}
+
+/// All causes that a replay tells are so by the same runs and histories: an event stands on each that is told of it, and to each
+/// get the put of what it took is told, and to each `first` the end that it learnt of; there is one of each.
+pub fn told_causes_are_needed()
+    ensures { (nodes : List Node) (s : ScriptView) (ps : List Pick) (told : List Told) (r : ReportView) → TellsRun nodes s ps told
+        → IsReplay s ps r → (report : IsStampedReport s (λ f. true) r)
+        × ((places : List FormPlace) (fibers queues : ℕ) → total s ≤ fibers → length s.capacities ≤ queues
+        → TellsCauses s r report (stood_events places fibers queues told)) }
+{}
+
+/// So the picture of a replay leaves out no cause and has no other arrows: by runs and histories that make the report lawful with
+/// its stamps, there is an arrow to each event from each on which that stands, where the list is an order in which causes come
+/// first, as that by stamps is if none is the greatest number; and to none from another one, but for requests.
+pub fn replays_are_drawn_with_their_causes()
+    ensures { (nodes : List Node) (s : ScriptView) (ps : List Pick) (told : List Told) (r : ReportView) → TellsRun nodes s ps told
+        → IsReplay s ps r → (report : IsStampedReport s (λ f. true) r)
+        × ((places : List FormPlace) (fibers queues : ℕ) → total s ≤ fibers → length s.capacities ≤ queues
+        → DrawsEach s (λ f. true) r report.stamped.lawful (stood_events places fibers queues told)
+        × DrawsOnly s (λ f. true) r report.stamped.lawful (stood_events places fibers queues told)) }
+{}
+
+/// What is told as the cause of an event of a run on threads, is one on which that stands, by any runs and histories
+/// that make the report lawful: the put of the element that a get took. And it is told of each get whose value was put
+/// into its queue once in the whole report, unless that has more puts than a picture can have events. So the picture of the run
+/// has no other arrows than from causes and from requests.
+pub fn told_sole_puts_are_taken()
+    ensures taken { (s : ScriptView) (may : ℕ → Bool) (r : ReportView) (lawful : IsLawfulReport s may r) (f i g j : ℕ)
+        → Tells (stood_of_run r.fibers) f i g j
+        → Needs (trace_in r) lawful.runs.labels (LeavesQueue s may r lawful) f i g j }
+    ensures each { (s : ScriptView) (may : ℕ → Bool) (r : ReportView) (f i q v : ℕ) (put : EventAt)
+        → IsLawfulReport s may r → length (puts_in r.fibers) ≤ MOST_EVENTS
+        → slice_get (trace_in r f) i ≡ Some (event.Got q v) → sole_put q v (puts_in r.fibers) ≡ Some put
+        → Tells (stood_of_run r.fibers) f i put.fiber put.place }
+    ensures drawn { (s : ScriptView) (may : ℕ → Bool) (r : ReportView) (lawful : IsLawfulReport s may r)
+        → DrawsOnly s may r lawful (stood_of_run r.fibers) }
+{}
+
+/// A name that a fiber has in the picture of a replay is the one that the text has at the place of a step that starts the fiber:
+/// so a name of a `start`, as `handle_of` of `fx_places` says. And each fiber that is started at such a place has one.
+pub fn names_are_those_of_starts()
+    ensures found { (source : List ℕ) (places : List FormPlace) (told : List Told) (g : ℕ) (name : List ℕ)
+        → name_of (named_told source places told) g ≡ Some name → IsNamedBy source places told g name }
+    ensures each { (source : List ℕ) (places : List FormPlace) (before after : List Told) (made : MadeStep)
+        (place : FormPlace) (g : ℕ)
+        → made.event ≡ Some (event.Start g) → place_of places made.node ≡ Some place → place.form ≡ form.Start
+        → is_some (name_of (named_told source places (before ++ Step made ∷ after)) g) ≡ true }
 {}
 
 /// What is told of event i of a fiber in a replay, for its picture, is where the fiber stood at the step that showed the

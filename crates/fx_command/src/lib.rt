@@ -14,7 +14,8 @@
 //!    writes what it has found, or of that the first report that is not expected. `placed` finds where the nodes of
 //!    the script stand in its text, for those words and for the steps; `told_text` writes the steps, `stood` knows at
 //!    which node each fiber stood last, `so_far` whose puts each queue holds, and `stood_events` what is told of each
-//!    event, for `pictured`, which draws runs.
+//!    event of a replay, for `pictured`, which draws runs. `sole_puts` finds what the report of a run on threads tells
+//!    by itself: which put a get took an element of, where its value was put there once.
 //! 5. `stream` is what is written to: a writer, of which contracts know whether it has refused a write.
 //! 6. `command` goes through these in that order, gives the status, and says on standard error those
 //!    words, or why nothing was printed.
@@ -35,6 +36,7 @@ mod command_fault;
 mod excerpt;
 mod explain;
 pub mod files;
+mod handles;
 mod held_puts;
 mod help;
 pub mod laws;
@@ -49,6 +51,7 @@ mod printable;
 mod schedule_words;
 mod script_words;
 mod so_far;
+mod sole_puts;
 mod states;
 mod stood;
 mod stood_events;

@@ -4,18 +4,21 @@ ghost use Rattle.fx_text.specs.View.{meaning};
 ghost use Rattle.fx_text.specs.declared.pick.Pick as pick;
 ghost use Rattle.fx_command.specs.declared.call.Command.TheVariants as command;
 ghost use Rattle.fx_report.specs.Text.{queue_names};
+ghost use Rattle.fx_picture.specs.Handles.{view_handles};
 ghost use Rattle.fx_picture.specs.IsPicture.{IsPicture, IsTooLarge};
 ghost use Rattle.fx_text.specs.Grammar.{IsScript};
 ghost use Rattle.fx_command.specs.Pictured.{IsPictured};
 ghost use Rattle.fx_command.specs.Performed.{Performs};
 
 use crate::command_fault::CommandFault;
+use crate::handles::handles_of;
 use crate::perform::{Performed, format_blocked, format_words};
 use crate::placed::{places_in, places_of_blocked};
+use crate::sole_puts::stood_of_run;
 use crate::stood_events::stood_events;
 use crate::stream::Stream;
 use fx_model::Report;
-use fx_picture::{PictureFault, Stood, format_picture};
+use fx_picture::{Handle, PictureFault, Stood, format_picture};
 use fx_plain::{replay_to_halt, tell_run};
 use fx_report::{Blocked, FAULT, status_after};
 use fx_run::run_to_halt;
@@ -44,34 +47,37 @@ fn text_of(
     script: &Script,
     stood: &[Stood],
     report: &Report,
+    handles: &[Handle],
     blocked: &[Blocked],
 ) -> Result<Option<String>, AllocError>
     ensures drawn { IfOk result (λ made. IfSome made (λ text.
-        IsPicture (queue_names (meaning script.now)) stood.now report.now blocked.now (string_bytes text))) }
+        IsPicture (queue_names (meaning script.now)) stood.now report.now (view_handles handles.now) blocked.now
+        (string_bytes text))) }
     ensures refused { IfOk result
         (λ made. IfNone made (IsTooLarge (queue_names (meaning script.now)) report.now)) }
 {
-    match format_picture(alloc, script, report, stood, blocked) {
+    match format_picture(alloc, script, report, stood, handles, blocked) {
         Ok(text) => Ok(Some(text)),
         Err(PictureFault::TooLarge) => Ok(None),
         Err(PictureFault::Memory) => Err(AllocError),
     }
 }
 
-/// The picture of a report, in whose run fibers stood there, with these words for people.
+/// The picture of a report, in whose run fibers stood there and are called so, with these words for people.
 fn drawn_of(
     alloc: Global,
     script: &Script,
     stood: &[Stood],
     report: &Report,
+    handles: &[Handle],
     blocked: &[Blocked],
     words: String,
 ) -> Result<Pictured, AllocError>
     ensures { IfOk result (λ made. IsPictured (queue_names (meaning script.now)) stood.now report.now
-        blocked.now (string_bytes words) (string_bytes made.words) made.status
+        (view_handles handles.now) blocked.now (string_bytes words) (string_bytes made.words) made.status
         (string_bytes made.text)) }
 {
-    match text_of(alloc, script, stood, report, blocked)? {
+    match text_of(alloc, script, stood, report, handles, blocked)? {
         Some(text) => Ok(Pictured {
             text,
             words,
@@ -85,7 +91,7 @@ fn drawn_of(
     }
 }
 
-/// Draws the run that the picks choose, with where its fibers stood.
+/// Draws the run that the picks choose, with where its fibers stood and what the text calls them.
 pub(crate) fn picture<'a, W: Write>(
     alloc: Global,
     script: &Script,
@@ -103,11 +109,13 @@ pub(crate) fn picture<'a, W: Write>(
     let words = format_words(alloc, script, &places, &replayed)?;
     let told = tell_run(alloc, script, picks)?;
     let stood = stood_events(alloc, script, &places, &told)?;
+    let handles = handles_of(alloc, source, &places, &told)?;
     let drawn = drawn_of(
         alloc,
         script,
         &stood,
         &replayed.halt.report,
+        &handles,
         &replayed.halt.blocked,
         words,
     )?;
@@ -118,7 +126,7 @@ pub(crate) fn picture<'a, W: Write>(
     })
 }
 
-/// Runs the script's fibers by so many workers, and draws the run.
+/// Runs the script's fibers by so many workers, and draws the run, with what its report says of the causes of gets.
 pub(crate) fn picture_run<'a, R: Wait + Threads + Sync + RandomSource + AllocGlobal, W: Write>(
     rt: &R,
     alloc: Global,
@@ -135,7 +143,8 @@ pub(crate) fn picture_run<'a, R: Wait + Threads + Sync + RandomSource + AllocGlo
     let ran = run_to_halt(rt, alloc, script, workers, &Free)?;
     let places = places_of_blocked(alloc, script, source, &ran.blocked)?;
     let words = format_blocked(alloc, script, &places, &ran.blocked)?;
-    let drawn = drawn_of(alloc, script, &[], &ran.report, &ran.blocked, words)?;
+    let stood = stood_of_run(alloc, &ran.report)?;
+    let drawn = drawn_of(alloc, script, &stood, &ran.report, &[], &ran.blocked, words)?;
     out.write(&drawn.text)?;
     Ok(Performed {
         status: drawn.status,

@@ -1,6 +1,7 @@
 //! What a run has shown so far, as it is told.
 ghost use Rattle.std.specs.Prelude.{◌≡◌, ◌<◌, ◌^◌, [], OnOk, IfOk, length, replicate, slice_index_or};
-ghost use Rattle.fx_command.specs.SoFar.{nothing_shown, next_of, held_in, front_of, cause_by, queues_after, count_by, with_event};
+ghost use Rattle.fx_command.specs.SoFar.{nothing_shown, next_of, held_in, front_of, last_of, cause_when, queues_after};
+ghost use Rattle.fx_command.specs.SoFar.{count_by, with_event};
 
 use crate::held_puts::HeldPuts;
 use fx_picture::EventAt;
@@ -72,12 +73,28 @@ impl SoFar {
         }
     }
 
-    /// The event that causes this one, if it is a get.
-    pub fn cause(&self, event: Event) -> Option<EventAt>
-        ensures { result ≡ cause_by self.now.queues event }
+    /// The last event that the fiber has shown, if it has shown one.
+    fn last(&self, fiber: u32) -> Option<EventAt>
+        ensures { result ≡ last_of self.now.shown fiber }
+    {
+        let shown = self.shown.get(fiber as usize).copied().unwrap_or(0);
+        if shown == 0 {
+            return None;
+        }
+        Some(EventAt {
+            fiber,
+            place: shown - 1,
+        })
+    }
+
+    /// The event that causes this one, if it is a get, or the first of two fibers, of which the step has learned that this
+    /// one has ended.
+    pub fn cause(&self, learned: Option<u32>, event: Event) -> Option<EventAt>
+        ensures { result ≡ cause_when self.now learned event }
     {
         match event {
             Event::Got(queue, _) => self.front(queue),
+            Event::First(_) => self.last(learned?),
             _ => None,
         }
     }

@@ -37,7 +37,7 @@ fn push_step(
 {
     match made.event {
         Some(event) => {
-            let cause = so_far.cause(event);
+            let cause = so_far.cause(made.learned, event);
             so_far.note(made.fiber, event)?;
             list.push(Stood {
                 fiber: made.fiber,

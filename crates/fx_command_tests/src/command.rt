@@ -14,6 +14,7 @@ use std::thread::Threads;
 mod heard;
 mod inputs;
 mod limits;
+mod pictures;
 mod streams;
 
 /// What a test has of the machine: all that a run of the program needs, and the end at a failure.

@@ -3,6 +3,7 @@ use Rattle.std.proofs.Common.{◌≡◌, ℕ, zero, suc, ◌+◌, ◌<◌, Optio
 use Rattle.fx_model.specs.Report.{FiberReportView}
 use Rattle.fx_order.specs.declared.occurrence.Occurrence.{Occurrence}
 use Rattle.fx_report.specs.declared.blocked.Blocked.{Blocked}
+use Rattle.fx_picture.specs.Handles.{Named}
 use Rattle.fx_svg.specs.Content.{Content}
 use Rattle.fx_picture.specs.declared.cause.Cause.{Cause}
 use Rattle.fx_picture.specs.declared.drawn.Drawn.{Drawn}
@@ -56,10 +57,10 @@ module _ (stood : List Stood) (fibers : List FiberReportView) where
       let next : place + suc k ≡ suc place + k = omega arith in
       inr (has_from list ys (suc place) k y e is (subst (λ (n : ℕ). Has (arrows_to fibers (told_of y) y (take n list)) e) next has))
 
-  pub none_missing : (names : List (List ℕ)) (blocked : List Blocked) (list : List Occurrence) (above below : ℕ) (first second : Drawn)
+  pub none_missing : (names : List (List ℕ)) (handles : List Named) (blocked : List Blocked) (list : List Occurrence) (above below : ℕ) (first second : Drawn)
       (cause : Cause) → above < below → slice_get (sheet_of stood list).drawn above ≡ Some first → slice_get (sheet_of stood list).drawn below ≡ Some second
-      → cause_in stood first.event second.event ≡ Some cause → Has (picture names stood blocked fibers list) (arrow fibers first second cause)
-  none_missing names blocked list above below first second cause lt is_first is_second stands =
+      → cause_in stood first.event second.event ≡ Some cause → Has (picture names stood handles blocked fibers list) (arrow fibers first second cause)
+  none_missing names handles blocked list above below first second cause lt is_first is_second stands =
       let drawn = (sheet_of stood list).drawn in
       let zero_below : below ≡ 0 + below = omega arith in
       let one = has_to second (take below drawn) above first cause (above_place drawn above below first lt is_first) stands in

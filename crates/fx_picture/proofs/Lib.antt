@@ -9,7 +9,9 @@ pub mod TooLarge
 pub mod WellFormed
 pub mod ArrowsDrawn
 pub mod NamedEnds
+pub mod OneEnd
 pub mod CausesDrawn
+pub mod ArrowsStand
 pub mod Releases
 pub mod BarsClosed
 pub mod Masked

@@ -8,6 +8,7 @@ use Rattle.std.proofs.lemmas.List.Sorted.{IsPermutation-middle, IsPermutation-ap
 use Rattle.fx_model.specs.Report.{FiberReportView}
 use Rattle.fx_order.specs.declared.occurrence.Occurrence.{Occurrence}
 use Rattle.fx_report.specs.declared.blocked.Blocked.{Blocked}
+use Rattle.fx_picture.specs.Handles.{Named}
 use Rattle.fx_svg.specs.Content.{Content}
 use Rattle.fx_picture.specs.declared.drawn.Drawn.{Drawn}
 use Rattle.fx_picture.specs.declared.stood.Stood.{Stood}
@@ -80,12 +81,12 @@ module _ (names : List (List ℕ)) (stood : List Stood) (fibers : List FiberRepo
     | inr other ↦ inl (has_mark list rows row e (omega arith) has)
   ]
 
-pub is_marked : (names : List (List ℕ)) (stood : List Stood) (blocked : List Blocked) (fibers : List FiberReportView)
+pub is_marked : (names : List (List ℕ)) (stood : List Stood) (handles : List Named) (blocked : List Blocked) (fibers : List FiberReportView)
     (list : List Occurrence) (place : ℕ) (x : Drawn)
     → slice_get (sheet_of stood list).drawn place ≡ Some x
-    → Contains (in_row x.row (sheet_of stood list).drawn) x.event × Has (picture names stood blocked fibers list)
+    → Contains (in_row x.row (sheet_of stood list).drawn) x.event × Has (picture names stood handles blocked fibers list)
     (mark_of names stood fibers x.row (in_row x.row (sheet_of stood list).drawn))
-is_marked names stood blocked fibers list place x is =
+is_marked names stood handles blocked fibers list place x is =
     let stands = stands_in place (sheet_of stood list).drawn x is in (
       stands,
       inr (inr (inr (inr (inr (inr (has_mark names stood fibers (sheet_of stood list).drawn (sheet_of stood list).rows x.row _

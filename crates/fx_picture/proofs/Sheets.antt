@@ -1,7 +1,7 @@
 -- Which events share a row.
-use Rattle.std.proofs.Common.{◌≡◌, ℕ, zero, suc, ◌+◌, ◌<◌, ◌≤◌, ◌⊎◌, true, false, Some, List, [], ◌∷◌, ◌++◌, ◌&&◌, ◌==◌}
-use Rattle.std.proofs.Common.{refl, sym, ap, subst, ◌∙◌, length, map, arith, inl, inr, slice_get, append_assoc}
-use Rattle.std.specs.Prelude.{nat_lt, nat_le}
+use Rattle.std.proofs.Common.{◌≡◌, ℕ, zero, suc, ◌<◌, ◌≤◌, ◌⊎◌, Bool, true, false, Some, List, [], ◌∷◌, ◌++◌, ◌&&◌, ◌==◌}
+use Rattle.std.proofs.Common.{◌-◌, refl, sym, ap, subst, ◌∙◌, length, length-drop, drop, map, arith, inl, inr, slice_get, append_assoc}
+use Rattle.std.specs.Prelude.{min, nat_lt, nat_le}
 use Rattle.std.proofs.lemmas.Bool.{cases_Bool, cases_order, eqb-true, eqb-false, and_parts, ltb-true, both_ways}
 use Rattle.std.proofs.lemmas.List.{map-append}
 use Rattle.std.proofs.lemmas.Option.{slice_get_within}
@@ -10,9 +10,46 @@ use Rattle.fx_picture.specs.declared.drawn.Drawn.{Drawn}
 use Rattle.fx_picture.specs.declared.stood.Stood.{Stood}
 use Rattle.fx_picture.specs.declared.tail.Tail.{Tail}
 use Rattle.fx_picture.specs.declared.tail.TheConstants.{LEAST_RUN}
-use Rattle.fx_picture.specs.Folds.{is_quiet, next_tail, tail_from, no_tail, tail_of, run_below}
+use Rattle.fx_picture.specs.Folds.{is_quiet, quiet_at, tail_by, next_tail, tail_from, no_tail, tail_of, run_below}
 use Rattle.fx_picture.specs.Folds.{joins_above, with_row, rows_with, sheet_from, sheet_of, event_of}
 use Rattle.fx_picture.specs.IsFolded.{SharesRow, IsRun}
+
+-- a run is no shorter with what goes on with it
+pub run_grows : (stood : List Stood) (f n : ℕ) (os : List Occurrence) → n ≤ run_below stood f n os
+run_grows stood f n [] = omega arith
+run_grows stood f n (o ∷ os) = elim (cases_Bool (o.fiber == f)) [
+  | inl here ↦ elim (cases_Bool (is_quiet stood o)) [
+    | inl quiet ↦ rw (here, quiet) (let more = run_grows stood f (suc n) os in omega arith)
+    | inr loud ↦ rw (here, loud) (omega arith)
+  ]
+  | inr other ↦ rw other (run_grows stood f n os)
+]
+
+-- what stands last in a lane, where each event is marked as it is
+marked_from : (stood : List Stood) (f : ℕ) (t : Tail) (xs : List Drawn) → tail_by f t xs (map (quiet_at stood) xs) ≡ tail_from stood f t xs
+marked_from stood f t [] = refl
+marked_from stood f t (x ∷ xs) = marked_from stood f (next_tail stood f t x) xs
+
+pub tail_marked : (stood : List Stood) (f : ℕ) (xs : List Drawn) (quiet : List Bool) → quiet ≡ map (quiet_at stood) xs
+    → tail_by f no_tail xs quiet ≡ tail_of stood f xs
+tail_marked stood f xs quiet each = rw each (marked_from stood f no_tail xs)
+
+pub marked_next : (stood : List Stood) (xs : List Drawn) (x : Drawn) (quiet : List Bool) → quiet ≡ map (quiet_at stood) xs
+    → quiet ++ quiet_at stood x ∷ [] ≡ map (quiet_at stood) (xs ++ x ∷ [])
+marked_next stood xs x quiet each = ap (λ (l : List Bool). l ++ quiet_at stood x ∷ []) each ∙ sym (map-append (quiet_at stood) xs (x ∷ []))
+
+-- below the last of them nothing comes
+pub tail_ends : (f : ℕ) (t : Tail) (xs : List Drawn) (quiet : List Bool) (n : ℕ) → n ≡ min (length xs) (length quiet)
+    → tail_by f t (drop n xs) (drop n quiet) ≡ t
+tail_ends f t xs quiet n end =
+    let events : length (drop n xs) ≡ length xs - n = length-drop n xs in
+    let marks : length (drop n quiet) ≡ length quiet - n = length-drop n quiet in
+    none_left (drop n xs) (drop n quiet) (omega arith)
+  where
+    none_left : (ys : List Drawn) (qs : List Bool) → min (length ys) (length qs) ≡ 0 → tail_by f t ys qs ≡ t
+    none_left [] qs none = refl
+    none_left (y ∷ ys) [] none = refl
+    none_left (y ∷ ys) (q ∷ qs) none = absurd (omega arith)
 
 -- what is one of these or the last
 of_pushed : {A : Type 0} (xs : List A) (n : A) (i : ℕ) (x : A) → slice_get (xs ++ n ∷ []) i ≡ Some x
@@ -214,7 +251,7 @@ module _ (stood : List Stood) where
       joined : joins_above stood above rows o os ≡ true → Goes stood above rows (with_row stood above rows o os) (rows_with stood above rows o os)
       joined j =
           let tail = tail_of stood o.fiber above in
-          let both = and_parts (is_quiet stood o && nat_lt 0 tail.run) (nat_le LEAST_RUN (tail.run + run_below stood o.fiber 1 os)) j in
+          let both = and_parts (is_quiet stood o && nat_lt 0 tail.run) (nat_le LEAST_RUN (run_below stood o.fiber (suc tail.run) os)) j in
           let parts = and_parts (is_quiet stood o) (nat_lt 0 tail.run) both.0 in
           let lt : 0 < tail.run = ltb-true 0 tail.run parts.1 in
           elim (last_of stood o.fiber no_tail above lt) [

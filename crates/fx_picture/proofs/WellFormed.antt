@@ -6,6 +6,7 @@ use Rattle.fx_model.specs.declared.source.Source.{Source}
 use Rattle.fx_model.specs.Report.{FiberReportView}
 use Rattle.fx_order.specs.declared.occurrence.Occurrence.{Occurrence}
 use Rattle.fx_report.specs.declared.blocked.Blocked.{Blocked}
+use Rattle.fx_picture.specs.Handles.{Named}
 use Rattle.fx_svg.specs.declared.tag.Tag.TheVariants as tag
 use Rattle.fx_svg.specs.Content.{Content, nothing, both}
 use Rattle.fx_svg.specs.WellFormed.{has_distinct_keys, is_well_formed}
@@ -38,12 +39,12 @@ foot_is : (names : List (List ℕ)) (rows lane : ℕ) (x : FiberReportView) (sou
 foot_is names rows lane x None = refl
 foot_is names rows lane x (Some source) = refl
 
-lanes : (names : List (List ℕ)) (rows : ℕ) (blocked : List Blocked) (lane : ℕ) (xs : List FiberReportView)
-    → has_distinct_keys (lanes_from names rows blocked lane xs) ≡ true
-lanes names rows blocked lane [] = refl
-lanes names rows blocked lane (x ∷ xs) =
-    all_true _ _ (all_true _ _ (again_is lane (fiber_words x) (rows / AGAIN)) (foot_is names rows lane x (wait_of blocked x.id)))
-    (lanes names rows blocked (suc lane) xs)
+lanes : (names : List (List ℕ)) (rows : ℕ) (handles : List Named) (blocked : List Blocked) (lane : ℕ) (xs : List FiberReportView)
+    → has_distinct_keys (lanes_from names rows handles blocked lane xs) ≡ true
+lanes names rows handles blocked lane [] = refl
+lanes names rows handles blocked lane (x ∷ xs) =
+    all_true _ _ (all_true _ _ (again_is lane (fiber_words handles x) (rows / AGAIN)) (foot_is names rows lane x (wait_of blocked x.id)))
+    (lanes names rows handles blocked (suc lane) xs)
 
 queue_lanes : (rows lane : ℕ) (names : List (List ℕ)) → has_distinct_keys (queue_lanes_from rows lane names) ≡ true
 queue_lanes rows lane [] = refl
@@ -118,17 +119,18 @@ marks : (names : List (List ℕ)) (stood : List Stood) (fibers : List FiberRepor
 marks names stood fibers list zero = refl
 marks names stood fibers list (suc row) = all_true _ _ (marks names stood fibers list row) (mark_is names stood fibers row (in_row row list))
 
-pub is_document : (names : List (List ℕ)) (stood : List Stood) (blocked : List Blocked) (fibers : List FiberReportView) (list : List Occurrence)
-    → is_well_formed (picture_text names stood blocked fibers list) ≡ true
+pub is_document : (names : List (List ℕ)) (stood : List Stood) (handles : List Named) (blocked : List Blocked) (fibers : List FiberReportView)
+    (list : List Occurrence)
+    → is_well_formed (picture_text names stood handles blocked fibers list) ≡ true
 unfolding picture_text
-is_document names stood blocked fibers list =
+is_document names stood handles blocked fibers list =
     let drawn = (sheet_of stood list).drawn in
     let rows = (sheet_of stood list).rows in
-    let ground = all_true _ _ (lanes names rows blocked 0 fibers)
+    let ground = all_true _ _ (lanes names rows handles blocked 0 fibers)
     (all_true _ _ (queue_lanes rows (length fibers) names) (bars stood fibers rows drawn)) in
     let figures = all_true _ _ (visits stood fibers (length names) drawn rows)
     (all_true _ _ (all_arrows stood fibers drawn 0 drawn) (marks names stood fibers drawn rows)) in
     well_formed tag.Svg (size (length fibers + length names) rows)
     (both (head (length fibers) (length drawn))
-    (both legend (both (ground_of names stood blocked fibers (sheet_of stood list)) (figures_of names stood fibers (sheet_of stood list)))))
+    (both legend (both (ground_of names stood handles blocked fibers (sheet_of stood list)) (figures_of names stood fibers (sheet_of stood list)))))
     (all_true _ _ ground figures)

@@ -1,5 +1,6 @@
 -- Which events of a report stand on which, as far as the events say it, or it is told.
 use Rattle.std.specs.Prelude.{ℕ, ◌==◌, Bool, true, false, ◌&&◌, ◌||◌, Option, Some, None, List, codes, if◌then◌else◌}
+use Rattle.std.specs.List.{list_any}
 use Rattle.fx_term.specs.declared.event.Event.{Event}
 use Rattle.fx_term.specs.declared.event.Event.TheVariants as event
 use Rattle.fx_order.specs.declared.occurrence.Occurrence.{Occurrence}
@@ -32,6 +33,10 @@ is_got_of q v _ = false
 abbrev pub is_at : Occurrence → Option EventAt → Bool
 is_at x None = false
 is_at x (Some at) = (at.fiber == x.fiber) && (at.place == x.place)
+
+-- some event is told to have this one as its cause
+abbrev pub has_caused : List Stood → Occurrence → Bool
+has_caused stood x = list_any (λ (s : Stood). is_at x s.cause) stood
 
 -- what this event of x is to y, where this is told to have caused y: the start of y's fiber, of which y is the first event; an end, which y tells, or which it
 -- is told to have found; a request for y's fiber, which sees one; or the put of what it takes, as it is told

@@ -5,6 +5,7 @@ use Rattle.fx_term.specs.declared.event.Event.TheVariants as event
 use Rattle.fx_model.specs.Report.{ReportView}
 use Rattle.fx_order.specs.declared.occurrence.Occurrence.{Occurrence}
 use Rattle.fx_report.specs.declared.blocked.Blocked.{Blocked}
+use Rattle.fx_picture.specs.Handles.{Named}
 use Rattle.fx_picture.specs.declared.cause.Cause.{Cause}
 use Rattle.fx_picture.specs.declared.drawn.Drawn.{Drawn}
 use Rattle.fx_picture.specs.declared.stood.Stood.{Stood}
@@ -28,17 +29,19 @@ pub record IsEventOf (f i : ℕ) (x : Occurrence) : Type 0 where
   pub place : x.place ≡ i
 
 -- the picture of the list has an arrow from event j of fiber g down to event i of fiber f
-pub record IsDrawn (names : List (List ℕ)) (stood : List Stood) (blocked : List Blocked) (r : ReportView) (list : List Occurrence) (f i g j : ℕ) : Type 0 where
+pub record IsDrawn (names : List (List ℕ)) (stood : List Stood) (handles : List Named) (blocked : List Blocked)
+    (r : ReportView) (list : List Occurrence) (f i g j : ℕ) : Type 0 where
   pub from : Drawn
   pub to : Drawn
   pub cause : Cause
   pub begins : IsEventOf g j from.event
   pub ends : IsEventOf f i to.event
   pub goes_down : from.row < to.row
-  pub has : Has (picture names stood blocked r.fibers list) (arrow r.fibers from to cause)
+  pub has : Has (picture names stood handles blocked r.fibers list) (arrow r.fibers from to cause)
 
 -- one from some event
-pub record HasArrow (names : List (List ℕ)) (stood : List Stood) (blocked : List Blocked) (r : ReportView) (list : List Occurrence) (f i : ℕ) : Type 0 where
+pub record HasArrow (names : List (List ℕ)) (stood : List Stood) (handles : List Named) (blocked : List Blocked)
+    (r : ReportView) (list : List Occurrence) (f i : ℕ) : Type 0 where
   pub by : ℕ
   pub place : ℕ
-  pub drawn : IsDrawn names stood blocked r list f i by place
+  pub drawn : IsDrawn names stood handles blocked r list f i by place

@@ -5,6 +5,7 @@ use Rattle.fx_model.specs.declared.source.Source.TheVariants.{Nothing, Outcome, 
 use Rattle.fx_model.specs.Report.{FiberReportView}
 use Rattle.fx_order.specs.declared.occurrence.Occurrence.{Occurrence}
 use Rattle.fx_report.specs.declared.blocked.Blocked.{Blocked}
+use Rattle.fx_picture.specs.Handles.{Named, name_of, name_words}
 use Rattle.fx_picture.specs.declared.stood.Stood.{Stood}
 use Rattle.fx_picture.specs.Stood.{stood_at, stood_words}
 use Rattle.fx_report.specs.Text.{number, queue_name, event_text}
@@ -22,8 +23,9 @@ line_words names stood (o ∷ os) = codes "\n" ++ mark_words names stood o ++ li
 abbrev pub fold_words : List (List ℕ) → List Stood → List Occurrence → List ℕ
 fold_words names stood list = decimal (length list) ++ codes " events:" ++ line_words names stood list
 
-abbrev pub fiber_words : FiberReportView → List ℕ
-fiber_words x = codes "fiber " ++ decimal x.id
+-- the number of a fiber, and what it is called
+abbrev pub fiber_words : List Named → FiberReportView → List ℕ
+fiber_words handles x = codes "fiber " ++ decimal x.id ++ name_words (name_of handles x.id)
 
 -- what fiber f waits for, where these are blocked
 abbrev pub wait_of : List Blocked → ℕ → Option Source

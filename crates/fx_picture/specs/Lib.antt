@@ -4,6 +4,7 @@ pub mod Bars
 pub mod Visits
 pub mod Layout
 pub mod Stood
+pub mod Handles
 pub mod Labels
 pub mod Look
 pub mod Elements
@@ -11,6 +12,8 @@ pub mod Legend
 pub mod Picture
 pub mod Has
 pub mod IsDrawn
+pub mod DrawsEach
+pub mod DrawsOnly
 pub mod IsFolded
 pub mod IsPicture
 pub mod IsClosed

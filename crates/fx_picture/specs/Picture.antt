@@ -5,6 +5,7 @@ use Rattle.fx_model.specs.declared.source.Source.{Source}
 use Rattle.fx_model.specs.Report.{FiberReportView}
 use Rattle.fx_order.specs.declared.occurrence.Occurrence.{Occurrence}
 use Rattle.fx_report.specs.declared.blocked.Blocked.{Blocked}
+use Rattle.fx_picture.specs.Handles.{Named}
 use Rattle.fx_report.specs.Text.{state_text}
 use Rattle.fx_svg.specs.declared.tag.Tag.TheVariants as tag
 use Rattle.fx_svg.specs.declared.key.Key.TheVariants as key
@@ -59,20 +60,20 @@ foot names rows lane x None = state_label lane (row_y rows + BELOW) x
 foot names rows lane x (Some source) = wait_labels names rows lane source
 
 -- the lane of a fiber, with its name and how it is at the end above it
-abbrev pub lane_content : List (List ℕ) → ℕ → ℕ → List Blocked → FiberReportView → Content
-lane_content names rows lane blocked x =
+abbrev pub lane_content : List (List ℕ) → ℕ → ℕ → List Named → List Blocked → FiberReportView → Content
+lane_content names rows lane handles blocked x =
     both (upright (codes "lane") rows lane)
-    (both (lane_names lane rows (fiber_words x))
+    (both (lane_names lane rows (fiber_words handles x))
     (both (state_label lane NEXT_ABOVE x) (foot names rows lane x (wait_of blocked x.id))))
 
 -- that of a queue of this name
 abbrev pub queue_lane : ℕ → ℕ → List ℕ → Content
 queue_lane rows lane name = both (upright (codes "queue") rows lane) (lane_names lane rows (codes "queue " ++ name))
 
-module _ (names : List (List ℕ)) (rows : ℕ) (blocked : List Blocked) where
+module _ (names : List (List ℕ)) (rows : ℕ) (handles : List Named) (blocked : List Blocked) where
   abbrev pub lanes_from : ℕ → List FiberReportView → Content
   lanes_from lane [] = nothing
-  lanes_from lane (x ∷ xs) = both (lane_content names rows lane blocked x) (lanes_from (suc lane) xs)
+  lanes_from lane (x ∷ xs) = both (lane_content names rows lane handles blocked x) (lanes_from (suc lane) xs)
 
 abbrev pub queue_lanes_from : ℕ → ℕ → List (List ℕ) → Content
 queue_lanes_from rows lane [] = nothing
@@ -242,9 +243,9 @@ size lanes rows =
     ∷ number_of key.Height (height rows) ∷ []
 
 -- the lanes of fibers and queues, and the bars beside them
-abbrev pub ground_of : List (List ℕ) → List Stood → List Blocked → List FiberReportView → SheetView → Content
-ground_of names stood blocked fibers sheet =
-    both (lanes_from names sheet.rows blocked 0 fibers)
+abbrev pub ground_of : List (List ℕ) → List Stood → List Named → List Blocked → List FiberReportView → SheetView → Content
+ground_of names stood handles blocked fibers sheet =
+    both (lanes_from names sheet.rows handles blocked 0 fibers)
     (both (queue_lanes_from sheet.rows (length fibers) names) (bars_from stood fibers sheet.rows sheet.drawn))
 
 -- what happens on them
@@ -253,16 +254,17 @@ figures_of names stood fibers sheet =
     both (visits_in stood fibers (length names) sheet.drawn sheet.rows)
     (both (arrows_from stood fibers sheet.drawn 0 sheet.drawn) (marks_in names stood fibers sheet.drawn sheet.rows))
 
--- the picture of these fibers with these events, where the script's queues have these names, fibers stood there and blocked ones wait for this
-abbrev pub drawing : List (List ℕ) → List Stood → List Blocked → List FiberReportView → SheetView → Content
-drawing names stood blocked fibers sheet = element tag.Svg (size (length fibers + length names) sheet.rows)
+-- the picture of these fibers with these events, where the script's queues have these names, fibers stood there and are called so, and blocked ones wait for
+-- this
+abbrev pub drawing : List (List ℕ) → List Stood → List Named → List Blocked → List FiberReportView → SheetView → Content
+drawing names stood handles blocked fibers sheet = element tag.Svg (size (length fibers + length names) sheet.rows)
     (both (head (length fibers) (length sheet.drawn))
-    (both legend (both (ground_of names stood blocked fibers sheet) (figures_of names stood fibers sheet))))
+    (both legend (both (ground_of names stood handles blocked fibers sheet) (figures_of names stood fibers sheet))))
 
 -- with these events from top to bottom
-abbrev pub picture : List (List ℕ) → List Stood → List Blocked → List FiberReportView → List Occurrence → Content
-picture names stood blocked fibers list = drawing names stood blocked fibers (sheet_of stood list)
+abbrev pub picture : List (List ℕ) → List Stood → List Named → List Blocked → List FiberReportView → List Occurrence → Content
+picture names stood handles blocked fibers list = drawing names stood handles blocked fibers (sheet_of stood list)
 
 -- its text
-unfoldable pub picture_text : List (List ℕ) → List Stood → List Blocked → List FiberReportView → List Occurrence → List ℕ
-picture_text names stood blocked fibers list = rendering (picture names stood blocked fibers list)
+unfoldable pub picture_text : List (List ℕ) → List Stood → List Named → List Blocked → List FiberReportView → List Occurrence → List ℕ
+picture_text names stood handles blocked fibers list = rendering (picture names stood handles blocked fibers list)

@@ -1,8 +1,9 @@
 //! Which events stand on which.
 ghost use Rattle.std.specs.Prelude.{◌≡◌};
-ghost use Rattle.fx_picture.specs.Causes.{is_told_by, is_seen, is_first, is_got_of, is_at, cause_of, cause_class};
+ghost use Rattle.fx_picture.specs.Causes.{is_told_by, is_seen, is_first, is_got_of, is_at, has_caused};
+ghost use Rattle.fx_picture.specs.Causes.{cause_of, cause_class};
 
-use crate::stood::EventAt;
+use crate::stood::{EventAt, Stood};
 use fx_order::Occurrence;
 use fx_term::Event;
 
@@ -59,6 +60,13 @@ fn is_at(it: Occurrence, told: Option<EventAt>) -> bool
         Some(at) => at.fiber == it.fiber && at.place == it.place,
         None => false,
     }
+}
+
+/// Whether some event is told to have that one as its cause.
+pub(crate) fn has_caused(stood: &[Stood], it: Occurrence) -> bool
+    ensures { result ≡ has_caused stood.now it }
+{
+    stood.iter().any(|entry| is_at(it, entry.cause))
 }
 
 /// What the first is to the second, if that stands on it. This event, if one, is told to have caused the second.

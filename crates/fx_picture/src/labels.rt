@@ -1,8 +1,11 @@
 //! The words of a picture.
 ghost use Rattle.std.specs.Prelude.{◌≡◌, ◌++◌, ◌∷◌, [], OnOk, IfOk, string_bytes};
 ghost use Rattle.fx_report.specs.Text.{names_of, outcome_text, queue_name, event_text, state_text, number, end_text};
-ghost use Rattle.fx_picture.specs.Labels.{mark_words, line_words, fold_words, fiber_words, wait_of, wait_words, count_words};
+ghost use Rattle.fx_picture.specs.Labels.{mark_words, line_words, fold_words, fiber_words};
+ghost use Rattle.fx_picture.specs.Handles.{view_handles, name_of, name_words};
+ghost use Rattle.fx_picture.specs.Labels.{wait_of, wait_words, count_words};
 
+use crate::handle::{Handle, name_of};
 use crate::stood::{Stood, push_stood};
 use fx_model::{FiberReport, Source, State};
 use fx_order::Occurrence;
@@ -185,12 +188,32 @@ pub(crate) fn end_words(alloc: Global, fiber: &FiberReport) -> Result<String, Al
     Ok(text)
 }
 
-/// What a fiber is called.
-pub(crate) fn fiber_words(alloc: Global, fiber: &FiberReport) -> Result<String, AllocError>
-    ensures { IfOk result (λ text. string_bytes text ≡ fiber_words fiber.now) }
+/// Appends a space and what a fiber is called, if it is.
+fn push_name(text: &mut String, handles: &[Handle], fiber: u32) -> Result<(), AllocError>
+    ensures { OnOk result (string_bytes text.new
+        ≡ string_bytes text.old ++ name_words (name_of (view_handles handles.now) fiber)) }
+{
+    match name_of(handles, fiber) {
+        Some(name) => {
+            text.push(' ')?;
+            text.push_str(name)
+        }
+        None => Ok(()),
+    }
+}
+
+/// The number of a fiber, and what it is called.
+pub(crate) fn fiber_words(
+    alloc: Global,
+    handles: &[Handle],
+    fiber: &FiberReport,
+) -> Result<String, AllocError>
+    ensures { IfOk result (λ text. string_bytes text ≡ fiber_words (view_handles handles.now) fiber.now) }
 {
     let id = fiber.id;
-    format!(in alloc; "fiber {id}")
+    let mut text = format!(in alloc; "fiber {id}")?;
+    push_name(&mut text, handles, id)?;
+    Ok(text)
 }
 
 /// What the fiber of that number waits for, where these are blocked.

@@ -5,9 +5,11 @@ ghost use Rattle.fx_svg.specs.Content.{rendering};
 ghost use Rattle.fx_picture.specs.Layout.{lane_x};
 ghost use Rattle.fx_picture.specs.Labels.{fiber_words, wait_of};
 ghost use Rattle.fx_picture.specs.Elements.{label};
+ghost use Rattle.fx_picture.specs.Handles.{view_handles};
 ghost use Rattle.fx_picture.specs.Picture.{upright, names_again, lane_names, state_label, wait_labels, foot, lane_content, lanes_from};
 
 use crate::elements::{Point, push_label, push_line};
+use crate::handle::Handle;
 use crate::labels::{end_words, fiber_words, wait_of, wait_words};
 use crate::layout::{
     ABOVE, AGAIN, BANDS, BELOW, BOTTOM, MOST_EVENTS, MOST_LANES, NEXT_ABOVE, NEXT_BELOW, TOP,
@@ -93,19 +95,20 @@ fn push_state(
     push_label(text, end_class(fiber.state), Point { x, y }, &words)
 }
 
-/// Appends what a fiber is called.
+/// Appends the number of a fiber and what it is called.
 fn push_name(
     alloc: Global,
     text: &mut String,
+    handles: &[Handle],
     lane: usize,
     rows: u32,
     fiber: &FiberReport,
 ) -> Result<(), AllocError>
     requires { lane ≤ MOST_LANES }
     ensures { OnOk result (string_bytes text.new ≡ string_bytes text.old
-        ++ rendering (lane_names lane rows (fiber_words fiber.now))) }
+        ++ rendering (lane_names lane rows (fiber_words (view_handles handles.now) fiber.now))) }
 {
-    let words = fiber_words(alloc, fiber)?;
+    let words = fiber_words(alloc, handles, fiber)?;
     push_names(text, lane, rows, &words)
 }
 
@@ -173,6 +176,7 @@ fn push_lane(
     alloc: Global,
     text: &mut String,
     queues: &[QueueDecl],
+    handles: &[Handle],
     blocked: &[Blocked],
     rows: u32,
     lane: usize,
@@ -180,10 +184,10 @@ fn push_lane(
 ) -> Result<(), AllocError>
     requires { lane ≤ MOST_LANES }
     ensures { OnOk result (string_bytes text.new ≡ string_bytes text.old
-        ++ rendering (lane_content (names_of queues.now) rows lane blocked.now fiber.now)) }
+        ++ rendering (lane_content (names_of queues.now) rows lane (view_handles handles.now) blocked.now fiber.now)) }
 {
     push_upright(text, "lane", rows, lane)?;
-    push_name(alloc, text, lane, rows, fiber)?;
+    push_name(alloc, text, handles, lane, rows, fiber)?;
     push_state(alloc, text, lane, NEXT_ABOVE, fiber)?;
     push_foot(alloc, text, queues, blocked, rows, lane, fiber)
 }
@@ -193,18 +197,19 @@ pub(crate) fn push_lanes(
     alloc: Global,
     text: &mut String,
     queues: &[QueueDecl],
+    handles: &[Handle],
     blocked: &[Blocked],
     rows: u32,
     fibers: &[FiberReport],
 ) -> Result<(), AllocError>
     requires { length fibers.now ≤ MOST_EVENTS }
     ensures { OnOk result (string_bytes text.new ≡ string_bytes text.old
-        ++ rendering (lanes_from (names_of queues.now) rows blocked.now 0 fibers.now)) }
+        ++ rendering (lanes_from (names_of queues.now) rows (view_handles handles.now) blocked.now 0 fibers.now)) }
 {
     let mut lane = 0;
     let mut rest = fibers;
     while let Some((fiber, more)) = rest.split_first() {
-        push_lane(alloc, text, queues, blocked, rows, lane, fiber)?;
+        push_lane(alloc, text, queues, handles, blocked, rows, lane, fiber)?;
         lane += 1;
         rest = more;
     }

@@ -7,7 +7,7 @@ use fx_model::FiberReport;
 /// The middle of the first lane, and from one to the next. The legend stands left of them.
 pub(crate) const FIRST_LANE: u64 = 260;
 
-pub(crate) const LANE: u64 = 96;
+pub(crate) const LANE: u64 = 112;
 
 /// The middle of the first row, and from one to the next.
 pub(crate) const FIRST_ROW: u64 = 64;

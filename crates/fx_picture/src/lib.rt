@@ -2,7 +2,7 @@
 //!
 //! | what is drawn | how |
 //! |---|---|
-//! | a fiber | a lane from top to bottom, with its number and how it is at the end above, and what it waits for below |
+//! | a fiber | a lane from top to bottom, with its number, its name and its end above, and what it waits for below |
 //! | a queue | a lane right of these |
 //! | an event | a mark in its fiber's lane, with the line of its trace as a title, and what is told of it |
 //! | a long run of events at queues and of resources | one mark, with how many they are, and their lines as a title |
@@ -40,6 +40,7 @@ mod cause;
 mod drawn;
 mod elements;
 mod fault;
+mod handle;
 mod labels;
 mod lanes;
 pub mod laws;
@@ -56,6 +57,7 @@ mod visit;
 
 pub use cause::Cause;
 pub use fault::PictureFault;
+pub use handle::Handle;
 pub use layout::MOST_EVENTS;
 pub use picture::format_picture;
 pub use stood::{EventAt, Stood};

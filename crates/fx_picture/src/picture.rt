@@ -7,12 +7,14 @@ ghost use Rattle.fx_svg.specs.declared.tag.Tag.TheVariants.{Svg};
 ghost use Rattle.fx_order.specs.Occurrences.{occurrences};
 ghost use Rattle.fx_picture.specs.declared.fault.PictureFault.TheVariants.{TooLarge};
 ghost use Rattle.fx_picture.specs.Folds.{view_sheet};
+ghost use Rattle.fx_picture.specs.Handles.{view_handles};
 ghost use Rattle.fx_picture.specs.Picture.{arrow_head, size, head, ground_of, figures_of, drawing, picture_text};
 ghost use Rattle.fx_picture.specs.IsPicture.{IsPicture, IsTooLarge};
 
 use crate::arrows::push_arrows;
 use crate::bars::push_bars;
 use crate::fault::PictureFault;
+use crate::handle::Handle;
 use crate::labels::count_words;
 use crate::lanes::push_lanes;
 use crate::layout::{MOST_EVENTS, MOST_LANES, height, lane_x};
@@ -132,6 +134,7 @@ fn push_ground(
     text: &mut String,
     queues: &[QueueDecl],
     stood: &[Stood],
+    handles: &[Handle],
     blocked: &[Blocked],
     fibers: &[FiberReport],
     sheet: &Sheet,
@@ -139,9 +142,9 @@ fn push_ground(
     requires fibers { length fibers.now ≤ MOST_EVENTS }
     requires queues { length queues.now ≤ MOST_EVENTS }
     ensures { OnOk result (string_bytes text.new ≡ string_bytes text.old ++ rendering
-        (ground_of (names_of queues.now) stood.now blocked.now fibers.now (view_sheet sheet.now))) }
+        (ground_of (names_of queues.now) stood.now (view_handles handles.now) blocked.now fibers.now (view_sheet sheet.now))) }
 {
-    push_lanes(alloc, text, queues, blocked, sheet.rows, fibers)?;
+    push_lanes(alloc, text, queues, handles, blocked, sheet.rows, fibers)?;
     push_queue_lanes(alloc, text, sheet.rows, fibers.len(), queues)?;
     push_bars(alloc, text, stood, fibers, sheet.rows, &sheet.drawn)
 }
@@ -180,6 +183,7 @@ fn push_drawing(
     text: &mut String,
     queues: &[QueueDecl],
     stood: &[Stood],
+    handles: &[Handle],
     blocked: &[Blocked],
     fibers: &[FiberReport],
     sheet: &Sheet,
@@ -188,12 +192,12 @@ fn push_drawing(
     requires queues { length queues.now ≤ MOST_EVENTS }
     requires events { length sheet.now.drawn.items ≤ MOST_EVENTS }
     ensures { OnOk result (string_bytes text.new ≡ string_bytes text.old ++ rendering
-        (drawing (names_of queues.now) stood.now blocked.now fibers.now (view_sheet sheet.now))) }
+        (drawing (names_of queues.now) stood.now (view_handles handles.now) blocked.now fibers.now (view_sheet sheet.now))) }
 {
     push_start(text, fibers.len() + queues.len(), sheet.rows)?;
     push_head(alloc, text, fibers.len(), sheet.drawn.len())?;
     push_legend(text)?;
-    push_ground(alloc, text, queues, stood, blocked, fibers, sheet)?;
+    push_ground(alloc, text, queues, stood, handles, blocked, fibers, sheet)?;
     push_figures(alloc, text, queues, stood, fibers, sheet)?;
     push_end_tag(text, Tag::Svg)
 }
@@ -204,6 +208,7 @@ fn push_picture(
     text: &mut String,
     queues: &[QueueDecl],
     stood: &[Stood],
+    handles: &[Handle],
     blocked: &[Blocked],
     fibers: &[FiberReport],
     list: &[Occurrence],
@@ -212,10 +217,10 @@ fn push_picture(
     requires events { length list.now ≤ MOST_EVENTS }
     requires queues { length queues.now ≤ MOST_EVENTS }
     ensures { OnOk result (string_bytes text.new ≡ string_bytes text.old
-        ++ picture_text (names_of queues.now) stood.now blocked.now fibers.now list.now) }
+        ++ picture_text (names_of queues.now) stood.now (view_handles handles.now) blocked.now fibers.now list.now) }
 {
     let sheet = sheet_of(alloc, stood, list)?;
-    push_drawing(alloc, text, queues, stood, blocked, fibers, &sheet)
+    push_drawing(alloc, text, queues, stood, handles, blocked, fibers, &sheet)
 }
 
 /// The text of the picture with these events.
@@ -224,6 +229,7 @@ fn draw(
     script: &Script,
     report: &Report,
     stood: &[Stood],
+    handles: &[Handle],
     blocked: &[Blocked],
     list: &[Occurrence],
 ) -> Result<String, AllocError>
@@ -231,7 +237,8 @@ fn draw(
     requires events { length list.now ≤ MOST_EVENTS }
     requires queues { length script.now.queues.items ≤ MOST_EVENTS }
     ensures { IfOk result (λ text. string_bytes text
-        ≡ picture_text (queue_names (meaning script.now)) stood.now blocked.now report.now.fibers list.now) }
+        ≡ picture_text (queue_names (meaning script.now)) stood.now (view_handles handles.now) blocked.now
+        report.now.fibers list.now) }
 {
     let mut text = String::new(alloc);
     push_picture(
@@ -239,6 +246,7 @@ fn draw(
         &mut text,
         &script.queues,
         stood,
+        handles,
         blocked,
         &report.fibers,
         list,
@@ -246,17 +254,18 @@ fn draw(
     Ok(text)
 }
 
-/// The picture of a report, of which these fibers are blocked, and of whose run this is told. It fails only where memory runs out, or where it would be too
-/// large.
+/// The picture of a report, of whose run this is told, whose script calls fibers so, and of which these fibers are blocked.
+/// It fails only where memory runs out, or where it would be too large.
 pub fn format_picture(
     alloc: Global,
     script: &Script,
     report: &Report,
     stood: &[Stood],
+    handles: &[Handle],
     blocked: &[Blocked],
 ) -> Result<String, PictureFault>
     ensures picture { IfOk result (λ text. IsPicture (queue_names (meaning script.now)) stood.now report.now
-        blocked.now (string_bytes text)) }
+        (view_handles handles.now) blocked.now (string_bytes text)) }
     ensures fault { IfErr result (λ fault. fault ≡ TooLarge
         → IsTooLarge (queue_names (meaning script.now)) report.now) }
 {
@@ -270,6 +279,6 @@ pub fn format_picture(
     if list.len() > MOST_EVENTS {
         return Err(PictureFault::TooLarge);
     }
-    let text = draw(alloc, script, report, stood, blocked, &list)?;
+    let text = draw(alloc, script, report, stood, handles, blocked, &list)?;
     Ok(text)
 }

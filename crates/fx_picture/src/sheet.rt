@@ -5,7 +5,7 @@ ghost use Rattle.fx_picture.specs.Folds.{view_sheet, sheet_of, in_row};
 use crate::drawn::Drawn;
 use crate::layout::MOST_EVENTS;
 use crate::stood::Stood;
-use crate::tail::Tail;
+use crate::tail::{Tail, is_quiet};
 use fx_order::Occurrence;
 use std::alloc::{AllocError, Global};
 
@@ -17,6 +17,7 @@ pub(crate) struct Sheet {
 }
 
 /// Gives each of these events a row of its own, or that of the one above it in its lane, where both are of one long run.
+#[tactic(auto, using(crate::proofs::Sheets::tail_marked, crate::proofs::Sheets::marked_next))]
 pub(crate) fn sheet_of(
     alloc: Global,
     stood: &[Stood],
@@ -27,13 +28,15 @@ pub(crate) fn sheet_of(
     ensures each { IfOk result (λ sheet. length sheet.drawn.items ≡ length list.now) }
 {
     let mut drawn = Vec::new(alloc);
+    let mut quiet = Vec::new(alloc);
     let mut rows = 0;
     let mut rest = list;
     while let Some((it, more)) = rest.split_first() {
-        let tail = Tail::of(stood, it.fiber, &drawn);
+        let tail = Tail::of(it.fiber, &drawn, &quiet);
         let joins = tail.takes(stood, *it, more);
         let row = if joins { tail.row } else { rows };
         drawn.push(Drawn { row, event: *it })?;
+        quiet.push(is_quiet(stood, *it))?;
         rows = if joins { rows } else { rows + 1 };
         rest = more;
     }

@@ -1,2 +1,4 @@
 pub mod PositionLaws
 pub mod WalkLaws
+mod HandleLaws
+mod Words

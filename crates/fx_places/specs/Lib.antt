@@ -3,3 +3,4 @@ pub mod Form
 pub mod Makes
 pub mod Places
 pub mod Walk
+pub mod Handle

@@ -19,6 +19,7 @@
 
 mod form;
 mod group;
+mod handle;
 pub mod laws;
 mod makes;
 mod place;
@@ -27,4 +28,5 @@ mod walk;
 mod word;
 
 pub use form::Form;
+pub use handle::handle_of;
 pub use place::{FormPlace, PlaceFault, places, positions};

@@ -21,7 +21,7 @@ fn is_letter_or_digit(b: u8) -> bool
     (b'a' <= b && b <= b'z') || is_digit(b)
 }
 
-fn after_spaces(bytes: &[u8]) -> &[u8]
+pub(crate) fn after_spaces(bytes: &[u8]) -> &[u8]
     ensures { result.now ≡ after_spaces bytes.now }
 {
     let mut rest = bytes;
@@ -34,7 +34,7 @@ fn after_spaces(bytes: &[u8]) -> &[u8]
     rest
 }
 
-fn word_len(bytes: &[u8]) -> usize
+pub(crate) fn word_len(bytes: &[u8]) -> usize
     ensures len { result ≡ prefix_len is_letter_or_digit bytes.now }
     ensures within { result ≤ length bytes.now }
 {

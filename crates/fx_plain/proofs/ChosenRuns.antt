@@ -1,5 +1,5 @@
 -- The run that picks choose is one of the whole machine, at whose end no fiber can step.
-use Rattle.std.proofs.Common.{true, List, refl}
+use Rattle.std.proofs.Common.{◌≡◌, ℕ, true, List, refl}
 use Rattle.fx_term.specs.Forms.{IsCore}
 use Rattle.fx_term.specs.Script.{ScriptView}
 use Rattle.fx_model.specs.Report.{ReportView}
@@ -14,9 +14,11 @@ use Rattle.fx_model.specs.ReportStamps.{stamp_in, IsStampedReport}
 use Rattle.fx_plain.specs.StampedList.{IsStampedInOneList}
 use Rattle.fx_plain.specs.Chosen.{IsChosen, IsReplay}
 use Rattle.fx_plain.specs.Chosen as chosen
+use Rattle.fx_plain.specs.ToldQueues.{queue_moves}
+use Rattle.fx_plain.proofs.FamilyKept.{labels_of}
 use Rattle.fx_plain.proofs.LawfulRuns.{settled_is_lawful, settled_keeps_promises}
 use Rattle.fx_plain.proofs.RunOrder.{settled_is_in_order}
-use Rattle.fx_plain.proofs.MachineStampsRuns.{settled_is_stamped, settled_is_lawful_with_stamps}
+use Rattle.fx_plain.proofs.MachineStampsRuns.{settled_is_stamped, settled_is_lawful_with_stamps, settled_labels, settled_histories}
 
 pub chosen_leads : (s : ScriptView) {ps : List Pick} {m last : WholeMachine} {vs : List Move} → IsChosen s ps m vs last → WholeMachineLeads s m vs last
 chosen_leads s (chosen.step {m' = m'} c rest) = (m', c.steps, chosen_leads s rest)
@@ -56,3 +58,13 @@ replay_is_lawful_with_stamps s ps r h = settled_is_lawful_with_stamps s r (repla
 
 pub replay_is_stamped_report : (s : ScriptView) (ps : List Pick) (r : ReportView) → IsReplay s ps r → IsStampedReport s (λ f. true) r
 replay_is_stamped_report s ps r h = record { one_each = (replay_is_stamped s ps r h).one_each; stamped = replay_is_lawful_with_stamps s ps r h }
+
+pub replay_labels : (s : ScriptView) (ps : List Pick) (r : ReportView) (h : IsReplay s ps r)
+    → (replay_is_stamped_report s ps r h).stamped.lawful.runs.labels ≡ labels_of h.last
+unfolding replay_is_stamped_report replay_is_lawful_with_stamps replay_settles
+replay_labels s ps r h = settled_labels s r (replay_settles s ps r h)
+
+pub replay_histories : (s : ScriptView) (ps : List Pick) (r : ReportView) (h : IsReplay s ps r) (q : ℕ)
+    → ((replay_is_stamped_report s ps r h).stamped.lawful.histories q).history ≡ queue_moves q h.moves
+unfolding replay_is_stamped_report replay_is_lawful_with_stamps replay_settles
+replay_histories s ps r h q = settled_histories s r (replay_settles s ps r h) q

@@ -136,7 +136,7 @@ has_within test f a (suc n) le lt = elim (cases_eq a f) [
     other ne false = refl
 
 -- a queue without capacity stays empty
-without_capacity : (st : QueueState) (h : List QueueEvent) (last : QueueState) → st.items ≡ [] → replayed_from 0 (Some st) h ≡ Some last → last.items ≡ []
+pub without_capacity : (st : QueueState) (h : List QueueEvent) (last : QueueState) → st.items ≡ [] → replayed_from 0 (Some st) h ≡ Some last → last.items ≡ []
 without_capacity st [] last e r = ap (λ (t : QueueState). t.items) (sym (same_Some st last r)) ∙ e
 without_capacity st (Put f n ∷ h) last e r = absurd (none-some last (sym (rw (le-ltb (length st.items) 0 (omega arith)) (stays_none 0 h)) ∙ r))
 without_capacity st (Got f n ∷ h) last e r =

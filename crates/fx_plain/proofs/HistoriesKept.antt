@@ -69,7 +69,7 @@ own_get : (f n : ℕ) (b : Bool) (xs : List QueueEvent) → cut f xs ≡ xs
 own_get f n true xs e = rw (same_number f) (ap (λ (ys : List QueueEvent). Got f n ∷ ys) e)
 own_get f n false xs e = e
 
-cut_own : (q f : ℕ) (es : List Event) → cut f (queue_events q f es) ≡ queue_events q f es
+pub cut_own : (q f : ℕ) (es : List Event) → cut f (queue_events q f es) ≡ queue_events q f es
 cut_own q f [] = refl
 cut_own q f (event.Put r n ∷ es) = own_put f n (r == q) (queue_events q f es) (cut_own q f es)
 cut_own q f (event.Got r n ∷ es) = own_get f n (r == q) (queue_events q f es) (cut_own q f es)
@@ -83,7 +83,7 @@ other_get : (f g n : ℕ) (b : Bool) (xs : List QueueEvent) → (f ≡ g → ⊥
 other_get f g n true xs ne e = rw (ne_eqb f g ne) e
 other_get f g n false xs ne e = e
 
-cut_other : (q f g : ℕ) (es : List Event) → (f ≡ g → ⊥) → cut g (queue_events q f es) ≡ []
+pub cut_other : (q f g : ℕ) (es : List Event) → (f ≡ g → ⊥) → cut g (queue_events q f es) ≡ []
 cut_other q f g [] ne = refl
 cut_other q f g (event.Put r n ∷ es) ne = other_put f g n (r == q) (queue_events q f es) ne (cut_other q f g es ne)
 cut_other q f g (event.Got r n ∷ es) ne = other_get f g n (r == q) (queue_events q f es) ne (cut_other q f g es ne)

@@ -59,8 +59,12 @@ pub mod NamedQueues
 pub mod PassedNames
 pub mod OneTelling
 pub mod MovePicks
+mod LearnedSteps
 pub mod ToldSteps
 pub mod Standing
 pub mod Waits
 pub mod ToldWays
 pub mod ToldRuns
+mod LabelsGoOn
+pub mod ToldCauses
+pub mod ToldQueues

@@ -1,10 +1,12 @@
 -- The stamps of a run of the whole machine, and of its report, are those of the definition.
-use Rattle.std.proofs.Common.{◌≡◌, ℕ, Bool, true, false, Option, Some, None, Contains, List, [], ◌∷◌, length, refl, sym, ◌∙◌, ap, subst, ◌<◌, ◌⊎◌, inl, inr}
+use Rattle.std.proofs.Common.{◌≡◌, ℕ, Bool, true, false, Option, Some, None, Contains, List, [], ◌∷◌, ◌++◌, length, refl, sym, ◌∙◌, ap, subst}
+use Rattle.std.proofs.Common.{append-nil, append_assoc, ◌<◌, ◌⊎◌, inl, inr}
 use Rattle.std.specs.Prelude.{slice_get, take}
 use mathlib.Core.Path.{fun_ext}
 use Rattle.fx_term.specs.declared.event.Event.{Event}
 use Rattle.fx_term.specs.declared.event.Event.TheVariants as event
-use Rattle.fx_term.specs.Queue.{QueueState}
+use Rattle.fx_term.specs.declared.queue_event.QueueEvent.{QueueEvent}
+use Rattle.fx_term.specs.Queue.{QueueState, queue_events}
 use Rattle.fx_term.specs.Script.{ScriptView, total}
 use Rattle.fx_model.specs.Row.{Label}
 use Rattle.fx_model.specs.Run.{events}
@@ -19,10 +21,11 @@ use Rattle.fx_plain.specs.WholeMachine.{opening, IsSettled, FiberSteps, requeste
 use Rattle.fx_plain.specs.SettledRun.{report_of_fiber, IsReportOf, HasSettledRun}
 use Rattle.fx_model.specs.ReportStamps.{stamps_of_report, stamp_in}
 use Rattle.fx_plain.specs.StampedList.{IsStampedInOneList}
+use Rattle.fx_plain.specs.ToldQueues.{queue_moves}
 use Rattle.fx_report.proofs.Keys.{passing_contained}
 use Rattle.fx_plain.proofs.FamilyKept.{labels_of_fiber, labels_of}
-use Rattle.fx_plain.proofs.HistoriesKept.{histories_grow}
-use Rattle.fx_plain.proofs.LawfulRuns.{after_step, moved_keeps, trace_same, labels_told, queues_told}
+use Rattle.fx_plain.proofs.HistoriesKept.{opening_has_no_history, histories_grow}
+use Rattle.fx_plain.proofs.LawfulRuns.{after_step, moved_keeps, trace_same, labels_told, queues_told, histories_told}
 use Rattle.fx_plain.proofs.CausesKept.{trace_of, order_has_moments}
 use Rattle.fx_plain.proofs.RunOrder.{KeptInOrder, opening_in_order, moved_in_order, request_in_order, lawful, report_in_order, report_is_in_order}
 use Rattle.fx_plain.proofs.MachineStampsGrow.{AreGreatest}
@@ -36,32 +39,73 @@ record KeptStamped (s : ScriptView) (m : WholeMachine) : Type 0 where
 opening_stamped : (s : ScriptView) → KeptStamped s (opening s)
 opening_stamped s = record { in_order = opening_in_order s; stamps = opening_has_stamps s (opening_in_order s).order.moment }
 
-step_stamped : (s : ScriptView) (m : WholeMachine) (f : ℕ) (l : Label) (m' : WholeMachine) → FiberSteps s m f l m' → KeptStamped s m → KeptStamped s m'
-step_stamped s m f l m' st k = rw st.after (record { in_order = moved_in_order s m f l m' st k.in_order; stamps = stamps })
+-- what a machine keeps to which these moves lead, with histories that go on from those before as the moves do
+record GoesOnStamped (s : ScriptView) (m : WholeMachine) (k : KeptStamped s m) (moves : List Move) (last : WholeMachine) : Type 0 where
+  pub kept : KeptStamped s last
+  pub histories : (q : ℕ) → kept.in_order.kept.histories.history q ≡ k.in_order.kept.histories.history q ++ queue_moves q moves
+
+step_stamped : (s : ScriptView) (m : WholeMachine) (f : ℕ) (l : Label) (m' : WholeMachine) → FiberSteps s m f l m' → (k : KeptStamped s m)
+    → GoesOnStamped s m k (Steps f l ∷ []) m'
+step_stamped s m f l m' st k = rw st.after (record {
+  kept = record { in_order = moved_in_order s m f l m' st k.in_order; stamps = stamps };
+  histories = λ q. longer q ∙ ap (λ (h : List QueueEvent). k.in_order.kept.histories.history q ++ h) (sym (append-nil (queue_events q f (events (l ∷ [])))));
+})
   where
+    longer : (q : ℕ) → (moved_keeps s m f l m' st k.in_order.kept).histories.history q
+        ≡ k.in_order.kept.histories.history q ++ queue_events q f (events (l ∷ []))
+    longer =
+        let kept = k.in_order.kept in
+        histories_grow s m f st.fiber st.counts st.progress st.started kept.ranges kept.histories l st.step st.answered
+
     stamps : HasStamps s (after_step st) (moved_in_order s m f l m' st k.in_order).kept.histories (moved_in_order s m f l m' st k.in_order).order.moment
     stamps =
         let kept = k.in_order.kept in
         let histories = (moved_keeps s m f l m' st kept).histories in
-        let longer = histories_grow s m f st.fiber st.counts st.progress st.started kept.ranges kept.histories l st.step st.answered in
         subst (HasStamps s (after_step st) histories)
         (sym (order_has_moments s m f st.fiber st.counts st.progress st.started kept.ranges kept.histories l st.step histories longer kept.so kept.requests
         st.answered k.in_order.order))
         (stamps_kept s m f st.fiber st.counts st.progress st.started kept.ranges kept.histories l st.step histories longer kept.so kept.family st.answered
         k.in_order.order k.stamps)
 
-request_stamped : (s : ScriptView) (m : WholeMachine) (f : ℕ) → f < total s → KeptStamped s m → KeptStamped s (requested_from_outside f m)
+request_stamped : (s : ScriptView) (m : WholeMachine) (f : ℕ) → f < total s → (k : KeptStamped s m)
+    → GoesOnStamped s m k (Requests f ∷ []) (requested_from_outside f m)
 request_stamped s m f lt k = record {
-  in_order = request_in_order s m f lt k.in_order;
-  stamps =
-      request_keeps_stamps s m f k.in_order.kept.histories (request_in_order s m f lt k.in_order).kept.histories k.in_order.order.moment (λ q. refl) k.stamps;
+  kept = record {
+    in_order = request_in_order s m f lt k.in_order;
+    stamps =
+        request_keeps_stamps s m f k.in_order.kept.histories (request_in_order s m f lt k.in_order).kept.histories k.in_order.order.moment (λ q. refl) k.stamps;
+  };
+  histories = λ q. sym (append-nil (k.in_order.kept.histories.history q));
 }
 
-leads_stamped : (s : ScriptView) (m : WholeMachine) (vs : List Move) (last : WholeMachine) → WholeMachineLeads s m vs last → KeptStamped s m
-    → KeptStamped s last
-leads_stamped s m [] last r k = rw r k
-leads_stamped s m (Steps f l ∷ vs) last r k = leads_stamped s r.0 vs last r.2 (step_stamped s m f l r.0 r.1 k)
-leads_stamped s m (Requests f ∷ vs) last r k = leads_stamped s r.0 vs last r.2 (rw r.1.1 (request_stamped s m f r.1.0 k))
+-- the moves after the first one
+with_first : (s : ScriptView) (m next last : WholeMachine) (k : KeptStamped s m) (v : Move) (vs : List Move) (one : GoesOnStamped s m k (v ∷ []) next)
+    → GoesOnStamped s next one.kept vs last → GoesOnStamped s m k (v ∷ vs) last
+with_first s m next last k v vs one rest = record {
+  kept = rest.kept;
+  histories = λ q.
+      rest.histories q ∙ ap (λ (h : List QueueEvent). h ++ queue_moves q vs) (one.histories q)
+      ∙ append_assoc (k.in_order.kept.histories.history q) (queue_moves q (v ∷ [])) (queue_moves q vs)
+      ∙ ap (λ (h : List QueueEvent). k.in_order.kept.histories.history q ++ h) (sym (moves_after q v vs));
+}
+  where
+    moves_after : (q : ℕ) (v : Move) (vs : List Move) → queue_moves q (v ∷ vs) ≡ queue_moves q (v ∷ []) ++ queue_moves q vs
+    moves_after q (Steps f l) vs = ap (λ (h : List QueueEvent). h ++ queue_moves q vs) (sym (append-nil (queue_events q f (events (l ∷ [])))))
+    moves_after q (Requests f) vs = refl
+
+leads_stamped : (s : ScriptView) (m : WholeMachine) (vs : List Move) (last : WholeMachine) → WholeMachineLeads s m vs last → (k : KeptStamped s m)
+    → GoesOnStamped s m k vs last
+leads_stamped s m [] last r k = rw r (record { kept = k; histories = λ q. sym (append-nil (k.in_order.kept.histories.history q)) })
+leads_stamped s m (Steps f l ∷ vs) last r k =
+    let one = step_stamped s m f l r.0 r.1 k in with_first s m r.0 last k (Steps f l) vs one (leads_stamped s r.0 vs last r.2 one.kept)
+leads_stamped s m (Requests f ∷ vs) last r k =
+    let one : GoesOnStamped s m k (Requests f ∷ []) r.0 = rw r.1.1 (request_stamped s m f r.1.0 k) in
+    with_first s m r.0 last k (Requests f) vs one (leads_stamped s r.0 vs last r.2 one.kept)
+
+-- what the last machine of a run keeps
+run_stamped : (s : ScriptView) (moves : List Move) (last : WholeMachine) → WholeMachineLeads s (opening s) moves last
+    → GoesOnStamped s (opening s) (opening_stamped s) moves last
+run_stamped s moves last run = leads_stamped s (opening s) moves last run (opening_stamped s)
 
 module _ (s : ScriptView) (m : WholeMachine) (k : KeptStamped s m) where
   -- however it is told what the queues are left as and who was requested from outside
@@ -156,8 +200,7 @@ module _ (s : ScriptView) (m : WholeMachine) (r : ReportView) (rep : IsReportOf 
 
 -- the report of a run at whose end no fiber can step has stamps of the definition, and those of the requests seen are the greatest so far
 pub settled_is_stamped : (s : ScriptView) (r : ReportView) → HasSettledRun s r → IsStampedInOneList s (λ f. true) r
-settled_is_stamped s r h =
-    report_is_stamped s h.last r h.report (leads_stamped s (opening s) h.moves h.last h.run (opening_stamped s)) h.settled
+settled_is_stamped s r h = report_is_stamped s h.last r h.report (run_stamped s h.moves h.last h.run).kept h.settled
 
 -- so it is lawful with them, and they give one order in which causes come first
 pub settled_is_lawful_with_stamps : (s : ScriptView) (r : ReportView) → HasSettledRun s r → IsLawfulWithStamps s (λ f. true) r (stamp_in r)
@@ -173,3 +216,18 @@ settled_is_lawful_with_stamps s r h = by_stamps (settled_is_stamped s r h)
           λ below. ordered_by_stamps s (λ f. true) r h.in_list.in_order.lawful
           (record { began = h.began; stamp = stamp_in r; cause = h.cause; are = h.are }) below;
     }
+
+-- the labels by which it is so are those of the last machine
+pub settled_labels : (s : ScriptView) (r : ReportView) (h : HasSettledRun s r)
+    → (settled_is_lawful_with_stamps s r h).lawful.runs.labels ≡ labels_of h.last
+unfolding settled_is_lawful_with_stamps settled_is_stamped report_is_stamped report_is_in_order lawful
+settled_labels s r h = labels_told s h.last r h.report (run_stamped s h.moves h.last h.run).kept.in_order.kept h.settled
+
+-- and the histories are what its moves do to the queues
+pub settled_histories : (s : ScriptView) (r : ReportView) (h : HasSettledRun s r) (q : ℕ)
+    → ((settled_is_lawful_with_stamps s r h).lawful.histories q).history ≡ queue_moves q h.moves
+unfolding settled_is_lawful_with_stamps settled_is_stamped report_is_stamped report_is_in_order lawful opening_stamped
+settled_histories s r h q =
+    let run = run_stamped s h.moves h.last h.run in
+    histories_told s h.last r h.report run.kept.in_order.kept h.settled q ∙ run.histories q
+    ∙ ap (λ (past : List QueueEvent). past ++ queue_moves q h.moves) (opening_has_no_history s q)

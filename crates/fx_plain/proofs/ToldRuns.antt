@@ -33,6 +33,15 @@ use Rattle.fx_plain.proofs.NamedQueues.{AreNamed, step_named, run_named}
 use Rattle.fx_plain.proofs.OneRun.{one_run}
 use Rattle.fx_plain.proofs.PassedNames.{why_named}
 
+-- of what is told first, and then of the rest
+pub events_told-append : (g : ℕ) (first rest : List Told) → events_told g (first ++ rest) ≡ events_told g first ++ events_told g rest
+events_told-append g [] rest = refl
+events_told-append g (Step made ∷ first) rest =
+    ap (λ (es : List Event). (if made.fiber == g then one_shown made.event else []) ++ es) (events_told-append g first rest)
+    ∙ sym (append_assoc (if made.fiber == g then one_shown made.event else []) (events_told g first) (events_told g rest))
+events_told-append g (Request f ∷ first) rest = events_told-append g first rest
+events_told-append g (Passed x ∷ first) rest = events_told-append g first rest
+
 module _ (nodes : List Node) (s : ScriptView) where
   -- the picks are those of the moves
   picks_are : (place : ℕ) {ps : List Pick} {m last : WholeMachine} {vs : List Move} (c : IsChosen s ps m vs last) (told : List Told)
@@ -60,14 +69,14 @@ module _ (nodes : List Node) (s : ScriptView) where
         report = subst (λ (m : WholeMachine). IsReportOf s m r) (sym same.1) h.report;
       }
 
-  one_shows : (l : Label) → one_shown (shown_by l) ≡ events (l ∷ [])
+  pub one_shows : (l : Label) → one_shown (shown_by l) ≡ events (l ∷ [])
   one_shows Silent = refl
   one_shows (Shows e) = refl
   one_shows (Learns f o e) = refl
   one_shows (Starts f b) = refl
 
   -- a step makes the events of its fiber more by what it shows, and those of no other
-  events_more : (m : WholeMachine) (f : ℕ) (l : Label) (m' : WholeMachine) → FiberSteps s m f l m' → IsKept s m → (g : ℕ)
+  pub events_more : (m : WholeMachine) (f : ℕ) (l : Label) (m' : WholeMachine) → FiberSteps s m f l m' → IsKept s m → (g : ℕ)
       → events (labels_of m' g) ≡ events (labels_of m g) ++ (if f == g then one_shown (shown_by l) else [])
   events_more m f l m' st k g =
       let grow = events_grow s m f st.fiber st.counts st.progress st.started k.ranges k.histories l st.step in

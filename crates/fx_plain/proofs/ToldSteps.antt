@@ -1,6 +1,6 @@
 -- What is told of a step, from how its fiber stands before and what its trace has after it.
 use Rattle.std.proofs.Common.{◌≡◌, ℕ, true, false, Option, Some, None, option_map, List, [], ◌∷◌, ◌++◌, length, refl, sym, ◌∙◌, ap, subst}
-use Rattle.std.specs.Prelude.{is_some, MatchOption, slice_get}
+use Rattle.std.specs.Prelude.{is_some, MatchOption, option_and_then, slice_get}
 use Rattle.std.proofs.lemmas.Option.{none-some, same_Some}
 use Rattle.fx_term.specs.declared.node.Node.{Node}
 use Rattle.fx_term.specs.declared.node.NodeId.{NodeId}
@@ -9,6 +9,8 @@ use Rattle.fx_term.specs.Script.{ScriptView}
 use Rattle.fx_term.specs.Term.{Term}
 use Rattle.fx_model.specs.Row.{Label, Silent, Shows, Learns, Starts}
 use Rattle.fx_model.specs.Run.{events}
+use Rattle.fx_model.specs.Waiting.{wait_at}
+use Rattle.fx_model.specs.declared.source.Source.{Source}
 use Rattle.fx_model.specs.Step.{Progress, Runs, Unwinds, CleansUp, HasEnded, has_ended, leaf_at}
 use Rattle.fx_model.proofs.Runs.{events_append}
 use Rattle.fx_fiber.specs.Fiber.{progress}
@@ -31,11 +33,12 @@ use Rattle.fx_plain.specs.World.{HeldFiber, held_of}
 use Rattle.fx_plain.specs.PlainMachine.{held, StandsForRun, Tries, steps, waits, IsTaken}
 use Rattle.fx_plain.specs.TakenPick.{Takes}
 use Rattle.fx_plain.specs.TakenPick as takes
-use Rattle.fx_plain.specs.ToldRun.{shown_by, is_open_of, leaf_of, TellsStep}
-use Rattle.fx_plain.specs.ToldWay.{shown_at, IsBeforeStep, IsBeforeStepAt, TriesAndTells, IsTakenAndTold}
+use Rattle.fx_plain.specs.ToldRun.{shown_by, learned_by, is_open_of, leaf_of, TellsStep}
+use Rattle.fx_plain.specs.ToldWay.{shown_at, learned_of, made_step, IsBeforeStep, IsBeforeStepAt, TriesAndTells, IsTakenAndTold}
 use Rattle.fx_plain.specs.ToldWay as way
 use Rattle.fx_plain.proofs.PlainMachineSteps.{at_number, held_at}
 use Rattle.fx_plain.proofs.WholeMachineSteps.{still_itself}
+use Rattle.fx_plain.proofs.LearnedSteps.{step_learns}
 
 -- what comes after a list
 after_all : {X : Type 0} (xs ys : List X) → slice_get (xs ++ ys) (length xs) ≡ slice_get ys 0
@@ -81,7 +84,7 @@ module _ {J : Type 0} (nodes : List Node) (s : ScriptView) where
       (made : ChosenStep s m f l m') (so' : StandsForRun nodes s p' m') where
     -- what is told of the step
     pub step_told : (before : BeforeStep) (told : MadeStep) → IsBeforeStepAt nodes (at_number nodes p f) before
-        → told ≡ record { fiber = f; node = before.node; is_open = before.is_open; event = shown_at (at_number nodes p' f) before.shown }
+        → told ≡ made_step f before (shown_at (at_number nodes p' f) before.shown)
         → TellsStep nodes m f l told
     step_told before told at is = by_parts (is_held p m f made.steps.fiber so made.steps.started)
         (is_held p' m' f (stepped made.steps.fiber l made.steps.counts made.steps.progress) so'
@@ -105,7 +108,12 @@ module _ {J : Type 0} (nodes : List Node) (s : ScriptView) where
             ap (λ (z : Option (StartedView J)). shown_at z before.shown) v'.at ∙ ap (λ (es : List Event). slice_get es before.shown) traces'
             ∙ ap (λ (es : List Event). slice_get es before.shown) (events_append y.labels (l ∷ []))
             ∙ ap (slice_get (events y.labels ++ events (l ∷ []))) shown ∙ after_all (events y.labels) (events (l ∷ [])) ∙ one_event l in
-            rw is (record { fiber = refl; node = node; is_open = is_open; event = event })
+            let waits : before.waits ≡ option_and_then wait_at (leaf_at y.progress) =
+            here.waits ∙ ap (λ (q : Progress). option_and_then wait_at (leaf_at q)) progress_is in
+            let learned : learned_of before.waits (shown_at (at_number nodes p' f) before.shown) ≡ learned_by l =
+            ap (λ (w : Option Source). learned_of w (shown_at (at_number nodes p' f) before.shown)) waits
+            ∙ ap (learned_of (option_and_then wait_at (leaf_at y.progress))) event ∙ step_learns made.steps.step in
+            rw is (record { fiber = refl; node = node; is_open = is_open; event = event; learned = learned })
 
 noted : (o : Option Why) → is_some o ≡ true → o ≡ None → ⊥
 noted None e is = cc
@@ -119,7 +127,7 @@ module _ {J : Type 0} (nodes : List Node) (s : ScriptView) (p p' : PlainMachine 
   tried_and_waits (waits cannot so' fewer is) e = way.waits cannot so' fewer
 
   pub tried_and_steps : (before : BeforeStep) (told : MadeStep) → IsBeforeStepAt nodes (at_number nodes p f) before
-      → told ≡ record { fiber = f; node = before.node; is_open = before.is_open; event = shown_at (at_number nodes p' f) before.shown }
+      → told ≡ made_step f before (shown_at (at_number nodes p' f) before.shown)
       → Tries nodes s m f p p' → is_some (option_map why.Waits (awaited (class_at p'.world.classes f))) ≡ false
       → TriesAndTells nodes s m f p p' (Some told)
   tried_and_steps before told at is (steps {l = l} {m' = m'} made so' none) e =
@@ -129,7 +137,7 @@ module _ {J : Type 0} (nodes : List Node) (s : ScriptView) (p p' : PlainMachine 
 
   -- a pick that makes a step
   pub taken_and_steps : (place : ℕ) (before : BeforeStep) (told : MadeStep) → IsBeforeStepAt nodes (at_number nodes p f) before
-      → told ≡ record { fiber = f; node = before.node; is_open = before.is_open; event = shown_at (at_number nodes p' f) before.shown }
+      → told ≡ made_step f before (shown_at (at_number nodes p' f) before.shown)
       → IsTaken nodes s m (pick.Step f) None p' → IsTakenAndTold nodes s m place (pick.Step f) (Step told) p'
   taken_and_steps place before told at is t = by_way t.takes t.stands
     where

@@ -21,6 +21,8 @@ pub mod TakenPick
 pub mod MovePicks
 pub mod PlainMachine
 pub mod ToldRun
+pub mod ToldCauses
+pub mod ToldQueues
 pub mod Standing
 pub mod ToldWay
 pub mod TextReplay

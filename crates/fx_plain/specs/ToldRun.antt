@@ -44,6 +44,11 @@ shown_by (Shows e) = Some e
 shown_by (Learns f o e) = Some e
 shown_by (Starts f b) = Some (event.Start f)
 
+-- the fiber of whose end a step learns, by its label
+abbrev pub learned_by : Label → Option ℕ
+learned_by (Learns f o e) = Some f
+learned_by _ = None
+
 -- whether the place is open where a fiber stands, so that a request is seen there; and the leaf
 abbrev pub is_open_of : Option StartedFiber → Bool
 is_open_of None = false
@@ -53,13 +58,14 @@ abbrev pub leaf_of : Option StartedFiber → Option Term
 leaf_of None = None
 leaf_of (Some x) = leaf_at x.progress
 
--- a step of fiber f with this label: whose it is, at which node of the code it stood, with some numbers for its names, whether that place was open, and what
--- the step shows
+-- a step of fiber f with this label: whose it is, at which node of the code it stood, with some numbers for its names, whether that place was open, what the
+-- step shows, and of whose end it learns
 pub record TellsStep (nodes : List Node) (m : WholeMachine) (f : ℕ) (l : Label) (told : MadeStep) : Type 0 where
   pub fiber : told.fiber ≡ f
   pub node : MatchOption told.node (HasNoNode (leaf_of (m.fibers f))) (λ id. (numbers : List ℕ) × IsPlaceOf nodes numbers (leaf_of (m.fibers f)) id)
   pub is_open : told.is_open ≡ is_open_of (m.fibers f)
   pub event : told.event ≡ shown_by l
+  pub learned : told.learned ≡ learned_by l
 
 -- a pick that is passed over: its place, what it is, and a reason that is so where it stands
 pub record TellsSkipped (s : ScriptView) (x : Skipped) (told : PassedPick) : Type 0 where

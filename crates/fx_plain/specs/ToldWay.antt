@@ -1,10 +1,15 @@
 -- What is told on the way of the run that picks choose, a pick or a step at a time.
-use Rattle.std.specs.Prelude.{◌≡◌, ℕ, ◌+◌, ◌<◌, false, Option, Some, None, MatchOption, List, [], ◌∷◌, ◌++◌, length, slice_get}
+use Rattle.std.specs.Prelude.{◌≡◌, ℕ, ◌+◌, ◌<◌, ◌==◌, false, if◌then◌else◌, Option, Some, None, MatchOption, option_and_then, List, [], ◌∷◌, ◌++◌, length}
+use Rattle.std.specs.Prelude.{slice_get}
 use Rattle.fx_term.specs.declared.node.Node.{Node}
 use Rattle.fx_term.specs.declared.event.Event.{Event}
+use Rattle.fx_term.specs.declared.event.Event.TheVariants as event
 use Rattle.fx_term.specs.Script.{ScriptView}
 use Rattle.fx_model.specs.Row.{Label}
 use Rattle.fx_model.specs.Step.{leaf_at}
+use Rattle.fx_model.specs.Waiting.{wait_at}
+use Rattle.fx_model.specs.declared.source.Source.{Source}
+use Rattle.fx_model.specs.declared.source.Source.TheVariants.{Either}
 use Rattle.fx_fiber.specs.Fiber.{progress}
 use Rattle.fx_fiber.specs.NodePlaces.{is_open_at, IsPlaceOf, HasNoNode}
 use Rattle.fx_text.specs.declared.pick.Pick.{Pick}
@@ -35,18 +40,35 @@ abbrev pub with_step : Option MadeStep → List Told → List Told
 with_step None told = told
 with_step (Some made) told = told ++ Step made ∷ []
 
--- how many events a fiber has shown before a step, and where it stands
+-- how many events a fiber has shown before a step, where it stands, and what it waits for there, if it can
 pub record IsBeforeStep {J : Type 0} (nodes : List Node) (x : StartedView J) (before : BeforeStep) : Type 0 where
   pub shown : before.shown ≡ length x.fiber.trace
   pub node : MatchOption before.node (HasNoNode (leaf_at (progress nodes x.fiber))) (IsPlaceOf nodes x.fiber.registers (leaf_at (progress nodes x.fiber)))
   pub is_open : before.is_open ≡ is_open_at (progress nodes x.fiber)
+  pub waits : before.waits ≡ option_and_then wait_at (leaf_at (progress nodes x.fiber))
 
 -- the event at this place of a fiber's trace, if it has started
 abbrev pub shown_at : {J : Type 0} → Option (StartedView J) → ℕ → Option Event
 shown_at None place = None
 shown_at (Some x) place = slice_get x.fiber.trace place
 
--- the same of one that has started
+-- of two fibers that are waited for, the one that was found to have ended, as a `first` says: the left one, or the right one
+abbrev pub found_of : Option Source → ℕ → Option ℕ
+found_of (Some (Either f g)) side = Some (if side == 0 then f else g)
+found_of _ side = None
+
+-- the fiber of whose end a step learns that shows this, where its fiber waited for that
+abbrev pub learned_of : Option Source → Option Event → Option ℕ
+learned_of waits (Some (event.Joined f o)) = Some f
+learned_of waits (Some (event.Awaited f)) = Some f
+learned_of waits (Some (event.First side)) = found_of waits side
+learned_of waits _ = None
+
+-- what is told of a step of fiber f, which stood so before it, and which shows this
+abbrev pub made_step : ℕ → BeforeStep → Option Event → MadeStep
+made_step f before e = record { fiber = f; node = before.node; is_open = before.is_open; event = e; learned = learned_of before.waits e }
+
+-- how a fiber stood before a step, if it has started
 abbrev pub IsBeforeStepAt : {J : Type 0} → List Node → Option (StartedView J) → BeforeStep → Type 0
 IsBeforeStepAt nodes None before = Unit {0}
 IsBeforeStepAt nodes (Some x) before = IsBeforeStep nodes x before

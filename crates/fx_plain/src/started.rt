@@ -12,18 +12,20 @@ ghost use Rattle.fx_plain.specs.ToldWay.{IsBeforeStep};
 use crate::plain_port::PlainPort;
 use crate::plain_world::PlainWorld;
 use fx_fiber::{Fiber, FiberReport, State, Stepped};
+use fx_model::Source;
 use fx_report::{Wait, state_at_halt};
 use fx_term::{Code, CodeBrand, Event, Memory, NodeId, Stamped};
 use std::marker::Model;
 use std::snapshot::Snapshot;
 
-/// How many events a fiber has shown before a step, and where it stands: at which node, and whether a look comes
-/// first there.
+/// How many events a fiber has shown before a step, and where it stands: at which node, whether a look comes
+/// first there, and what it waits for there, if it can.
 #[derive(Clone, Copy)]
 pub(crate) struct BeforeStep {
     pub shown: usize,
     pub node: Option<NodeId>,
     pub is_open: bool,
+    pub waits: Option<Source>,
 }
 
 /// What is kept of a fiber that has ended. What it was is known to proofs alone.
@@ -129,11 +131,13 @@ impl<J: CodeBrand> Started<J> {
                 shown,
                 node: fiber.node(code),
                 is_open: fiber.is_open(code),
+                waits: fiber.waits_for(code),
             },
             Stage::Over(_) => BeforeStep {
                 shown,
                 node: None,
                 is_open: false,
+                waits: None,
             },
         }
     }

@@ -14,6 +14,8 @@ pub struct MadeStep {
     pub is_open: bool,
     /// What the step showed, if it did.
     pub event: Option<Event>,
+    /// The fiber of whose end the step learned, if it did.
+    pub learned: Option<u32>,
 }
 
 /// What a run has made next, or which pick of the schedule it has passed over.

@@ -172,12 +172,13 @@ fibers picture F [SCHEDULE]
 Makes the run that fibers replay F [SCHEDULE] makes, and draws it in place of a
 report: one text in SVG, which a browser shows.
 
-Each fiber has a lane, with how it is at the end above it, and below it what it
-waits for, if it is blocked. Each queue has one, too. Time goes down: the events
-of all fibers stand in the one order of their stamps, in which each comes below
-those that it stands on. Arrows go from a start to the first event of its fiber,
-from an end to who learns of it, and from a request to who sees it. Bars show
-how long a fiber lives, where its clean-ups run, and what it holds. Where the
+Each fiber has a lane, with the name of its handle and how it is at the end
+above it, and below it what it waits for, if it is blocked. Each queue has one,
+too. Time goes down: the events of all fibers stand in the one order of their
+stamps, in which each comes below those that it stands on. Arrows go from a
+start to the first event of its fiber, from an end to who learns of it, from a
+request to who sees it, and from a put to who takes its element. Bars show how
+long a fiber lives, where its clean-ups run, and what it holds. Where the
 pointer rests on a mark, its line of fibers trace is shown, with the line and
 the column of its form, and closed where no request would be seen. Eight events
 or more of a fiber, one after the other, at queues and of resources, have one
@@ -194,8 +195,10 @@ const PICTURE_RUN: &str = "\
 fibers picture-run F WORKERS
 
 Runs the fibers as fibers run F WORKERS does, and draws the run as fibers
-picture does, but for where forms stand. Of two events of which neither stands
-on the other the order does not say which came first.
+picture does, but for where forms stand, names of handles, and arrows to who
+found the first of two. An arrow from a put to who took its element is there
+where that value was put into that queue only once in the run. Of two events of
+which neither stands on the other the order does not say which came first.
 
     $ echo '(main (start h (pure 1) (cancel h)))' > script
     $ fibers picture-run script 4 | tail -1

@@ -1,5 +1,5 @@
 //! Laws of the runs of the whole machine and of their reports.
-ghost use Rattle.std.specs.Prelude.{◌≡◌, ℕ, ◌+◌, ◌≤◌, Bool, true, Option, None, List};
+ghost use Rattle.std.specs.Prelude.{◌≡◌, ℕ, ◌+◌, ◌≤◌, ◌∷◌, ◌++◌, Bool, true, Option, Some, None, List};
 ghost use Rattle.fx_term.specs.Forms.{IsCore};
 ghost use Rattle.fx_term.specs.Script.{ScriptView};
 ghost use Rattle.fx_model.specs.Row.{Label, Starts};
@@ -13,14 +13,18 @@ ghost use Rattle.fx_model.specs.Stamps.{IsLawfulWithStamps};
 ghost use Rattle.fx_text.specs.declared.pick.Pick.{Pick};
 ghost use Rattle.fx_plain.specs.WholeMachine.{WholeMachine, Move, opening, can_step_in, FiberSteps, IsWholeMachineRun, steps_in, FindsItsNumber};
 ghost use Rattle.fx_plain.specs.SettledRun.{HasSettledRun};
-ghost use Rattle.fx_model.specs.ReportStamps.{stamp_in};
+ghost use Rattle.fx_model.specs.ReportStamps.{stamp_in, IsStampedReport};
 ghost use Rattle.fx_plain.specs.StampedList.{IsStampedInOneList};
 ghost use Rattle.fx_plain.specs.Chosen.{IsChosen, IsReplay};
 ghost use Rattle.fx_plain.specs.declared.passed.PassedOver.{PassedOver};
 ghost use Rattle.fx_plain.specs.PassedPicks.{TellsPassed};
 ghost use Rattle.fx_plain.specs.MovePicks.{picks_of};
+ghost use Rattle.fx_plain.specs.declared.told.MadeStep.{MadeStep};
 ghost use Rattle.fx_plain.specs.declared.told.Told.{Told};
+ghost use Rattle.fx_plain.specs.declared.told.Told.TheVariants.{Step};
 ghost use Rattle.fx_plain.specs.ToldRun.{TellsRun, picks_told, events_told};
+ghost use Rattle.fx_plain.specs.ToldCauses.{LearnsLastEnd};
+ghost use Rattle.fx_plain.specs.ToldQueues.{queue_told};
 ghost use Rattle.fx_term.specs.declared.node.Node.{Node};
 
 /// The report of a run of the whole machine is lawful, whoever chose its steps, where at its end no fiber
@@ -153,6 +157,25 @@ pub fn told_steps_choose_their_run()
 pub fn told_steps_of_a_fiber_are_its_trace()
     ensures { (nodes : List Node) (s : ScriptView) (ps : List Pick) (told : List Told) (r : ReportView)
         → TellsRun nodes s ps told → IsReplay s ps r → (f : ℕ) → events_told f told ≡ trace_in r f }
+{}
+
+/// Of whose end a step is told to have learned, that is the fiber on whose end the event of the step stands, by runs that make
+/// the report lawful with its stamps; and the end is the last event that is told of it before the step.
+pub fn told_steps_learn_of_ends()
+    ensures { (nodes : List Node) (s : ScriptView) (ps : List Pick) (told : List Told) (r : ReportView)
+        → TellsRun nodes s ps told → IsReplay s ps r
+        → (report : IsStampedReport s (λ f. true) r)
+        × ((before after : List Told) (made : MadeStep) (g : ℕ) → told ≡ before ++ Step made ∷ after → made.learned ≡ Some g
+        → LearnsLastEnd (trace_in r) report.stamped.lawful.runs.labels before made g) }
+{}
+
+/// What is told of the puts into a queue and of the gets from there is the history of that queue, by histories that make the
+/// report lawful with its stamps.
+pub fn told_steps_are_histories()
+    ensures { (nodes : List Node) (s : ScriptView) (ps : List Pick) (told : List Told) (r : ReportView)
+        → TellsRun nodes s ps told → IsReplay s ps r
+        → (report : IsStampedReport s (λ f. true) r)
+        × ((q : ℕ) → (report.stamped.lawful.histories q).history ≡ queue_told q told) }
 {}
 
 /// A run of the whole machine has no more steps of fibers than the work of the script's term and two.

@@ -6,12 +6,13 @@ ghost use Rattle.fx_text.specs.declared.pick.Pick.TheVariants as pick;
 ghost use Rattle.fx_plain.specs.WholeMachine.{WholeMachine};
 ghost use Rattle.fx_plain.specs.World.{is_ready_in};
 ghost use Rattle.fx_plain.specs.PlainMachine.{StandsForRun, StandsForSome, Halts};
-ghost use Rattle.fx_plain.specs.ToldWay.{with_step, shown_at, IsBeforeStepAt, TriesAndTells, IsTakenAndTold, IsToldWay};
+ghost use Rattle.fx_plain.specs.ToldWay.{with_step, shown_at, found_of, learned_of, made_step, IsBeforeStepAt, TriesAndTells, IsTakenAndTold, IsToldWay};
 
 use super::PlainMachine;
 use crate::passed::PassedPick;
 use crate::started::{BeforeStep, Started};
 use crate::told::{MadeStep, Told};
+use fx_model::Source;
 use fx_term::{Code, CodeBrand, Event, Memory};
 use fx_text::Pick;
 
@@ -26,6 +27,7 @@ fn before_step_at<J: CodeBrand>(code: &Code, place: &Option<Started<J>>) -> Befo
             shown: 0,
             node: None,
             is_open: false,
+            waits: None,
         },
     }
 }
@@ -35,6 +37,27 @@ fn event_of<J: CodeBrand>(place: &Option<Started<J>>, shown: usize) -> Option<Ev
     ensures { result ≡ shown_at place.now shown }
 {
     place.as_ref()?.event(shown)
+}
+
+/// The fiber that was found to have ended: of two that were waited for the left one, or the right one.
+fn found(waits: Option<Source>, side: u8) -> Option<u32>
+    ensures { result ≡ found_of waits side }
+{
+    match waits {
+        Some(Source::Either(left, right)) => Some(if side == 0 { left } else { right }),
+        _ => None,
+    }
+}
+
+/// The fiber of whose end a step learns that shows this event, where that was waited for before it.
+fn learned(waits: Option<Source>, event: Option<Event>) -> Option<u32>
+    ensures { result ≡ learned_of waits event }
+{
+    match event {
+        Some(Event::Joined(fiber, _)) | Some(Event::Awaited(fiber)) => Some(fiber),
+        Some(Event::First(side)) => found(waits, side),
+        _ => None,
+    }
 }
 
 /// Appends a step, if one was made.
@@ -59,6 +82,7 @@ impl<J: CodeBrand> PlainMachine<J> {
                 shown: 0,
                 node: None,
                 is_open: false,
+                waits: None,
             },
         }
     }
@@ -72,18 +96,16 @@ impl<J: CodeBrand> PlainMachine<J> {
 
     /// What is told of a step of this fiber, which stood so before it.
     fn told(&self, fiber: u32, before: BeforeStep) -> MadeStep
-        ensures { result ≡ record {
-          fiber = fiber;
-          node = before.node;
-          is_open = before.is_open;
-          event = shown_at (slice_index_or self.now.fibers.items fiber None) before.shown;
-        } }
+        ensures { result ≡ made_step fiber before
+            (shown_at (slice_index_or self.now.fibers.items fiber None) before.shown) }
     {
+        let event = self.event(fiber, before.shown);
         MadeStep {
             fiber,
             node: before.node,
             is_open: before.is_open,
-            event: self.event(fiber, before.shown),
+            event,
+            learned: learned(before.waits, event),
         }
     }
 
