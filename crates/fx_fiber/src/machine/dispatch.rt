@@ -89,6 +89,10 @@ impl Machine {
         ensures ok { IfOk result (λ made. MakesRule nodes self.old made self.new) }
         ensures err { OnErr result (IsSame nodes self.old self.new) }
     {
+        // in no context nothing else is looked for
+        if self.frames.last().is_none() {
+            return Ok(self.end_rule(done));
+        }
         if self.silent_result(done)? {
             return Ok(Made::Silent);
         }
@@ -104,8 +108,7 @@ impl Machine {
                 self.acquire_case_fails();
                 Ok(Made::Silent)
             }
-            (None, done) => Ok(self.end_rule(done)),
-            (Some(_), _) => unreachable!(),
+            _ => unreachable!(),
         }
     }
 
