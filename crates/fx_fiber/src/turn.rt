@@ -45,6 +45,8 @@ impl<'a, P: Port> Turn<'a, P> {
 impl<'a, P: Port> Future for Turn<'a, P> {
     type Output = Turned<P>;
 
+    // (as `stepped` is)
+    #[inline(always)]
     fn poll(&mut self, cx: &mut Context<'_>) -> Poll<Turned<P>>
         ensures value { IfReady result (λ _. ⊤) }
         ensures again { OnPending result ⊤ }
@@ -68,6 +70,8 @@ impl<'a, P: Port> Future for Turn<'a, P> {
 
 /// Steps the fiber until its turn has come to something, or until it waits, has given way or has gone on
 /// for long enough, which is none.
+// (laid into the loop of a worker with all between, or else LLVM makes a call of it there)
+#[inline(always)]
 fn stepped<P: Port>(fiber: &mut Fiber<P>, code: &Code, shared: &mut P::Shared) -> Option<Turned<P>>
     requires { code.now.nodes ≡ P.theory.code }
     ensures number { (P.theory.facts fiber.new.port).number ≡ (P.theory.facts fiber.old.port).number }

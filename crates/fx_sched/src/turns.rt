@@ -24,6 +24,8 @@ pub fn leave(mut cx: Context<'_>) {
 
 /// Asks the gate, requests from outside what it names, and then lets the fiber have its turn. The context is ready
 /// for the next turn after it.
+// (laid into the loop of a worker with all that it calls, or else LLVM makes a call of a turn there)
+#[inline(always)]
 pub fn gated_turn<P: Port, G: Gate>(
     cx: &mut Context<'_>,
     gate: &G,
@@ -47,6 +49,8 @@ pub fn gated_turn<P: Port, G: Gate>(
 }
 
 /// Makes one turn of the fiber.
+// (as `gated_turn` is)
+#[inline(always)]
 fn one_turn<P: Port>(
     fiber: &mut Fiber<P>,
     code: &Code,
