@@ -22,6 +22,7 @@ pub mod Reach
 pub mod Cancels
 pub mod QueueUses
 pub mod Telling
+pub mod QueueSteps
 pub mod Bursts
 pub mod Starts
 pub mod LeavesBelow

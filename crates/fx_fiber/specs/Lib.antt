@@ -24,5 +24,6 @@ pub mod MakesStart
 pub mod Bursts
 pub mod Turns
 pub mod Telling
+pub mod QueueSteps
 pub mod LeafBelow
 pub mod NodePlaces

@@ -18,6 +18,7 @@ mod burst;
 mod child;
 mod fork;
 pub(crate) mod glide;
+pub(crate) mod queue_step;
 mod queue_uses;
 pub(crate) mod rules;
 mod start;
