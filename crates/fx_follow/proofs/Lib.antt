@@ -1,0 +1,11 @@
+mod Capacities
+mod Stands
+mod Trails
+mod SameEvents
+mod Members
+mod Blocked
+mod Told
+mod Found
+mod UnderWay
+mod FoundRuns
+mod ToldRuns

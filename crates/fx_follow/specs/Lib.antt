@@ -1,0 +1,3 @@
+pub mod Trails
+pub mod Followed
+pub mod Waiting
