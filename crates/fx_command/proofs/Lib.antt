@@ -1,7 +1,10 @@
 mod Refused
 mod Performed
 mod PictureWords
+mod RanEvents
 mod SolePuts
+mod StoodOf
+mod NamedInRun
 mod StoodEventsLaws
 mod NamedLaws
 mod ShownCounts

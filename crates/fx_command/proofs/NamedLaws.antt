@@ -20,7 +20,7 @@ pub named_on : (source : List ℕ) (places : List FormPlace) (rest more : List T
 named_on source places rest more next done done' whole one named h = rw named (append_assoc done _ _ ∙ (rw one at h))
 
 -- a name among these and those is among these or among those
-either_of : (xs ys : List Named) (g : ℕ) (name : List ℕ) → name_of (xs ++ ys) g ≡ Some name → (name_of xs g ≡ Some name) ⊎ (name_of ys g ≡ Some name)
+pub either_of : (xs ys : List Named) (g : ℕ) (name : List ℕ) → name_of (xs ++ ys) g ≡ Some name → (name_of xs g ≡ Some name) ⊎ (name_of ys g ≡ Some name)
 either_of [] ys g name is = inr is
 either_of (x ∷ xs) ys g name is = elim (cases_eq x.fiber g) [
   | inl same ↦ inl (rw (eq-eqb x.fiber g same) (rw (eq-eqb x.fiber g same) at is))
@@ -30,7 +30,7 @@ either_of (x ∷ xs) ys g name is = elim (cases_eq x.fiber g) [
   ]
 ]
 
-still_named : (xs ys : List Named) (g : ℕ) → is_some (name_of ys g) ≡ true → is_some (name_of (xs ++ ys) g) ≡ true
+pub still_named : (xs ys : List Named) (g : ℕ) → is_some (name_of ys g) ≡ true → is_some (name_of (xs ++ ys) g) ≡ true
 still_named [] ys g is = is
 still_named (x ∷ xs) ys g is = elim (cases_eq x.fiber g) [
   | inl same ↦ rw (eq-eqb x.fiber g same) refl
@@ -39,7 +39,7 @@ still_named (x ∷ xs) ys g is = elim (cases_eq x.fiber g) [
 
 module _ (source : List ℕ) (places : List FormPlace) (g : ℕ) where
   -- the name of one
-  named_one : (f : ℕ) (h : Option (List ℕ)) (name : List ℕ) → name_of (one_named f h) g ≡ Some name → (f ≡ g) × (h ≡ Some name)
+  pub named_one : (f : ℕ) (h : Option (List ℕ)) (name : List ℕ) → name_of (one_named f h) g ≡ Some name → (f ≡ g) × (h ≡ Some name)
   named_one f None name is = absurd (none-some name is)
   named_one f (Some n) name is = elim (cases_eq f g) [
     | inl same ↦ (same, rw (eq-eqb f g same) at is)

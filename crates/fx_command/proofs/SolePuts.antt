@@ -1,8 +1,8 @@
 -- The only put of a value into a queue, as it is looked for; and that in a lawful report a get of that value took its element.
-use Rattle.std.proofs.Common.{◌≡◌, ℕ, zero, suc, ◌+◌, ◌-◌, ◌<◌, ◌≤◌, Bool, true, false, Option, Some, None, List, [], ◌∷◌, ◌++◌, length, refl, sym, ◌∙◌, ap}
+use Rattle.std.proofs.Common.{◌≡◌, ℕ, zero, suc, ◌+◌, ◌≤◌, Bool, true, false, Option, Some, None, List, [], ◌∷◌, ◌++◌, length, refl, sym, ◌∙◌, ap}
 use Rattle.std.proofs.Common.{subst, arith, inl, inr, map, ◌⊎◌}
-use Rattle.std.specs.Prelude.{◌==◌, if◌then◌else◌, slice_get, option_map, nat_lt}
-use Rattle.std.specs.List.{filter, find}
+use Rattle.std.specs.Prelude.{if◌then◌else◌, slice_get, option_map, nat_lt}
+use Rattle.std.specs.List.{filter}
 use Rattle.std.proofs.lemmas.Bool.{cases_eq, eq-eqb, ne_eqb, le-ltb}
 use Rattle.std.proofs.lemmas.Option.{none-some, same_Some}
 use Rattle.fx_term.specs.Lists.{Among}
@@ -14,14 +14,18 @@ use Rattle.fx_model.specs.Report.{FiberReportView, ReportView, trace_of_report, 
 use Rattle.fx_model.specs.LawfulReport.{IsLawfulReport}
 use Rattle.fx_model.specs.Causes.{TakesWhatWasPut, LeavesQueue, Needs, taken_element}
 use Rattle.fx_model.proofs.CausesFound.{causes_found}
-use Rattle.fx_report.proofs.Keys.{RisesFrom, rises_from}
+use Rattle.fx_places.specs.declared.place.FormPlace.{FormPlace}
+use Rattle.fx_report.proofs.Keys.{rises_from}
+use Rattle.fx_follow.specs.declared.stand.Stand.{Stand}
 use Rattle.fx_picture.specs.declared.layout.TheConstants.{MOST_EVENTS}
 use Rattle.fx_picture.specs.declared.stood.EventAt.{EventAt}
 use Rattle.fx_picture.specs.declared.stood.Stood.{Stood}
 use Rattle.fx_picture.specs.Stood.{stood_at, told_cause}
 use Rattle.fx_picture.specs.IsDrawn.{Tells}
 use Rattle.fx_command.specs.declared.sole_puts.PutAt.{PutAt}
-use Rattle.fx_command.specs.SolePuts.{put_by, puts_from, puts_in, puts_so, only_one, sole_put, stood_by_cause, stood_by_puts, stood_of_run}
+use Rattle.fx_command.specs.RanEvents.{ran_events}
+use Rattle.fx_command.specs.SolePuts.{put_by, puts_from, puts_in, puts_so, only_one, sole_put, stood_by, stood_of_run}
+use Rattle.fx_command.proofs.RanEvents.{fiber_of, stands_for, stood_with, told_at}
 
 abbrev put_of : ℕ → ℕ → ℕ → ℕ → PutAt
 put_of q v f i = record { queue = q; value = v; at = record { fiber = f; place = i } }
@@ -42,9 +46,6 @@ put_among f k (e ∷ es) (suc j) q v at =
     let same : suc k + j ≡ k + suc j = omega arith in
     Among-append_right (put_by f k e) (puts_from f (suc k) es) (put_of q v f (k + suc j))
     (subst (λ (i : ℕ). Among (put_of q v f i) (puts_from f (suc k) es)) same (put_among f (suc k) es j q v at))
-
-abbrev fiber_of : ℕ → List FiberReportView → Option FiberReportView
-fiber_of f fibers = find (λ (x : FiberReportView). x.id == f) fibers
 
 put_in : (fibers : List FiberReportView) (g j q v : ℕ) → slice_get (trace_of_report (fiber_of g fibers)) j ≡ Some (event.Put q v)
     → Among (put_of q v g j) (puts_in fibers)
@@ -84,43 +85,6 @@ only_is p (x ∷ []) at is h = elim h [
 ]
 only_is p (x ∷ y ∷ ps) at is h = absurd (none-some at is)
 
--- what is told of event i of a fiber is told by that event
-module _ (puts : List PutAt) (f : ℕ) where
-  past_other : (g : ℕ) (es : List Event) (rest : List Stood) (i : ℕ) → (g ≡ f → ⊥)
-      → stood_at (map (stood_by_cause puts g) es ++ rest) f i ≡ stood_at rest f i
-  past_other g [] rest i other = refl
-  past_other g (e ∷ es) rest i other = rw (ne_eqb g f other) (past_other g es rest i other)
-
-  own_event : (g : ℕ) (es : List Event) (rest : List Stood) → g ≡ f → ((k : ℕ) → stood_at rest f k ≡ None) → (i : ℕ)
-      → stood_at (map (stood_by_cause puts g) es ++ rest) f i ≡ option_map (stood_by_cause puts f) (slice_get es i)
-  own_event g [] rest same none i = none i
-  own_event g (e ∷ es) rest same none zero = rw (eq-eqb g f same) (ap (λ (h : ℕ). Some (stood_by_cause puts h e)) same)
-  own_event g (e ∷ es) rest same none (suc i) =
-      let less : suc i - 1 ≡ i = omega arith in
-      rw (eq-eqb g f same, ne_eqb (suc i) 0 (λ is. absurd (omega arith)), less) (own_event g es rest same none i)
-
-  none_told : (fibers : List FiberReportView) → fiber_of f fibers ≡ None → (i : ℕ) → stood_at (stood_by_puts puts fibers) f i ≡ None
-  none_told [] none i = refl
-  none_told (x ∷ fibers) none i = elim (cases_eq x.id f) [
-    | inl same ↦ absurd (none-some x (sym (rw (eq-eqb x.id f same) at none)))
-    | inr other ↦ past_other x.id x.trace (stood_by_puts puts fibers) i other ∙ none_told fibers (rw (ne_eqb x.id f other) at none) i
-  ]
-
-  absent : (n : ℕ) (fibers : List FiberReportView) → RisesFrom (λ (x : FiberReportView). x.id) n fibers → f < n → fiber_of f fibers ≡ None
-  absent n [] rises below = refl
-  absent n (x ∷ fibers) rises below =
-      let low = rises.0 in rw (ne_eqb x.id f (λ same. omega arith)) (absent (suc x.id) fibers rises.1 (omega arith))
-
-  told_at : (n : ℕ) (fibers : List FiberReportView) → RisesFrom (λ (x : FiberReportView). x.id) n fibers → (i : ℕ)
-      → stood_at (stood_by_puts puts fibers) f i ≡ option_map (stood_by_cause puts f) (slice_get (trace_of_report (fiber_of f fibers)) i)
-  told_at n [] rises i = refl
-  told_at n (x ∷ fibers) rises i = elim (cases_eq x.id f) [
-    | inl same ↦ rw (eq-eqb x.id f same)
-        (own_event x.id x.trace (stood_by_puts puts fibers) same (none_told fibers (absent (suc x.id) fibers rises.1 (omega arith))) i)
-    | inr other ↦ rw (ne_eqb x.id f other)
-        (past_other x.id x.trace (stood_by_puts puts fibers) i other ∙ told_at (suc x.id) fibers rises.1 i)
-  ]
-
 -- the put of that value into that queue
 abbrev put_for : Event → Event
 put_for (event.Got q v) = event.Put q v
@@ -146,31 +110,42 @@ module _ (s : ScriptView) (may : ℕ → Bool) (r : ReportView) (lawful : IsLawf
   takes_the_sole f i q v at got sole =
       let found = (causes_found s may r lawful).puts f i q v got in took_the_sole f i q v at got sole found.0 found.1 found.2
 
-  told_of_event : (f i : ℕ)
-      → stood_at (stood_by_puts (puts_in r.fibers) r.fibers) f i
-      ≡ option_map (stood_by_cause (puts_in r.fibers) f) (slice_get (trace_in r f) i)
-  told_of_event f i = told_at (puts_in r.fibers) f 0 r.fibers (rises_from (λ (x : FiberReportView). x.id) r.fibers lawful.starters.ascending) i
+  -- what is told of event i of a fiber is told by that event, and by where the fiber stood
+  module _ (places : List FormPlace) (told : List (List Stand)) where
+    abbrev pub by_the_event : ℕ → ℕ → Event → Stood
+    by_the_event f i e = stood_by (puts_in r.fibers) places (stood_with f (stands_for told r.fibers f) i e)
 
-  by_event : (f i g j : ℕ) (o : Option Event) → slice_get (trace_in r f) i ≡ o
-      → told_cause (option_map (stood_by_cause (puts_in r.fibers) f) o) ≡ Some (record { fiber = g; place = j }) → NeedsSo f i g j
-  by_event f i g j None is tells = absurd (none-some (record { fiber = g; place = j }) tells)
-  by_event f i g j (Some (event.Got q v)) is tells = takes_the_sole f i q v (record { fiber = g; place = j }) is tells
-  by_event f i g j (Some e) is tells = absurd (none-some (record { fiber = g; place = j }) tells)
+    told_of_event : (f i : ℕ)
+        → stood_at (map (stood_by (puts_in r.fibers) places) (ran_events told r.fibers)) f i
+        ≡ option_map (by_the_event f i) (slice_get (trace_in r f) i)
+    told_of_event f i =
+        told_at (stood_by (puts_in r.fibers) places) (λ e. refl) f 0 told r.fibers
+        (rises_from (λ (x : FiberReportView). x.id) r.fibers lawful.starters.ascending) i
 
-  if_few : (b : Bool) (f i g j : ℕ) → Tells (if b then [] else stood_by_puts (puts_in r.fibers) r.fibers) f i g j
-      → Tells (stood_by_puts (puts_in r.fibers) r.fibers) f i g j
-  if_few true f i g j tells = absurd (none-some (record { fiber = g; place = j }) tells)
-  if_few false f i g j tells = tells
+    by_event : (f i g j : ℕ) (o : Option Event) → slice_get (trace_in r f) i ≡ o
+        → told_cause (option_map (by_the_event f i) o) ≡ Some (record { fiber = g; place = j }) → NeedsSo f i g j
+    by_event f i g j None is tells = absurd (none-some (record { fiber = g; place = j }) tells)
+    by_event f i g j (Some (event.Got q v)) is tells = takes_the_sole f i q v (record { fiber = g; place = j }) is tells
+    by_event f i g j (Some e) is tells = absurd (none-some (record { fiber = g; place = j }) tells)
 
-  -- what is told to have caused an event is what it stands on
-  pub told_is_needed : (f i g j : ℕ) → Tells (stood_of_run r.fibers) f i g j → NeedsSo f i g j
-  told_is_needed f i g j tells =
-      by_event f i g j (slice_get (trace_in r f) i) refl
-      (sym (ap told_cause (told_of_event f i)) ∙ if_few (nat_lt MOST_EVENTS (length (puts_in r.fibers))) f i g j tells)
+    if_few : (b : Bool) (list : List Stood) (f i g j : ℕ) → Tells (if b then [] else list) f i g j → Tells list f i g j
+    if_few true list f i g j tells = absurd (none-some (record { fiber = g; place = j }) tells)
+    if_few false list f i g j tells = tells
 
-  -- and a get of what was put once is told so
-  pub sole_is_told : (f i q v : ℕ) (at : EventAt) → length (puts_in r.fibers) ≤ MOST_EVENTS → slice_get (trace_in r f) i ≡ Some (event.Got q v)
-      → sole_put q v (puts_in r.fibers) ≡ Some at → Tells (stood_of_run r.fibers) f i at.fiber at.place
-  sole_is_told f i q v at few got sole =
-      let here : nat_lt MOST_EVENTS (length (puts_in r.fibers)) ≡ false = le-ltb _ _ few in
-      rw here (ap told_cause (told_of_event f i) ∙ (rw got sole))
+    -- what is told to have caused an event is what it stands on
+    pub told_is_needed : (f i g j : ℕ) → Tells (stood_of_run places told r.fibers) f i g j → NeedsSo f i g j
+    told_is_needed f i g j tells =
+        by_event f i g j (slice_get (trace_in r f) i) refl
+        (sym (ap told_cause (told_of_event f i)) ∙ if_few (nat_lt MOST_EVENTS (length (puts_in r.fibers))) _ f i g j tells)
+
+    -- where there are few puts, that is told of each event
+    pub told_if_few : (f i : ℕ) (e : Event) → length (puts_in r.fibers) ≤ MOST_EVENTS → slice_get (trace_in r f) i ≡ Some e
+        → stood_at (stood_of_run places told r.fibers) f i ≡ Some (by_the_event f i e)
+    told_if_few f i e few at =
+        let here : nat_lt MOST_EVENTS (length (puts_in r.fibers)) ≡ false = le-ltb _ _ few in
+        rw here (told_of_event f i ∙ ap (option_map (by_the_event f i)) at)
+
+    -- and a get of what was put once is told so
+    pub sole_is_told : (f i q v : ℕ) (at : EventAt) → length (puts_in r.fibers) ≤ MOST_EVENTS → slice_get (trace_in r f) i ≡ Some (event.Got q v)
+        → sole_put q v (puts_in r.fibers) ≡ Some at → Tells (stood_of_run places told r.fibers) f i at.fiber at.place
+    sole_is_told f i q v at few got sole = ap told_cause (told_if_few f i (event.Got q v) few got) ∙ sole

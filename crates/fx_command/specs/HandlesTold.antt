@@ -1,5 +1,6 @@
--- Which names the fibers of a replay have.
+-- Which names the fibers of a run have.
 use Rattle.std.specs.Prelude.{◌≡◌, ℕ, Option, Some, None, List, [], ◌∷◌, ◌++◌}
+use Rattle.std.specs.List.{flat_map}
 use Rattle.fx_term.specs.declared.event.Event.{Event}
 use Rattle.fx_term.specs.declared.event.Event.TheVariants as event
 use Rattle.fx_places.specs.declared.place.FormPlace.{FormPlace}
@@ -7,7 +8,11 @@ use Rattle.fx_places.specs.Handle.{handle_of}
 use Rattle.fx_plain.specs.declared.told.MadeStep.{MadeStep}
 use Rattle.fx_plain.specs.declared.told.Told.{Told}
 use Rattle.fx_plain.specs.declared.told.Told.TheVariants.{Step, Request, Passed}
+use Rattle.fx_model.specs.Report.{FiberReportView}
+use Rattle.fx_follow.specs.declared.stand.Stand.{Stand}
 use Rattle.fx_picture.specs.Handles.{Named}
+use Rattle.fx_command.specs.declared.ran_events.RanEvent.{RanEvent}
+use Rattle.fx_command.specs.RanEvents.{ran_events, node_stood}
 use Rattle.fx_command.specs.ToldText.{place_of}
 
 -- fiber f with this name, if that is one
@@ -26,10 +31,18 @@ named_in source places (Step made) = named_by source (place_of places made.node)
 named_in source places (Request f) = []
 named_in source places (Passed x) = []
 
--- all that are told to be started
+-- all that are told to be started, of a replay
 abbrev pub named_told : List ℕ → List FormPlace → List Told → List Named
 named_told source places [] = []
 named_told source places (t ∷ told) = named_in source places t ++ named_told source places told
+
+-- the fiber that an event of a run on threads starts
+abbrev pub named_at : List ℕ → List FormPlace → RanEvent → List Named
+named_at source places e = named_by source (place_of places (node_stood e.stand)) (Some e.event)
+
+-- all that are started in such a run, of whose fibers that is told
+abbrev pub named_of_run : List ℕ → List FormPlace → List (List Stand) → List FiberReportView → List Named
+named_of_run source places told fibers = flat_map (named_at source places) (ran_events told fibers)
 
 -- this name of fiber g is that which the text has at the place of a step that starts the fiber
 pub record IsNamedBy (source : List ℕ) (places : List FormPlace) (told : List Told) (g : ℕ) (name : List ℕ) : Type 0 where

@@ -13,10 +13,12 @@ pub mod Fetched
 pub mod Passed
 pub mod SoFar
 pub mod StoodEvents
+pub mod RanEvents
 pub mod HandlesTold
 pub mod TakesInOrder
 pub mod CausesTold
 pub mod IsToldOf
+pub mod IsStoodOf
 pub mod SolePuts
 pub mod Pictured
 pub mod Placed

@@ -19,6 +19,7 @@ use Rattle.fx_report.specs.Script.{script_of}
 use Rattle.fx_report.specs.Text.{line_end, queue_names, report_text, trace_text}
 use Rattle.fx_report.specs.Status.{status_of}
 use Rattle.fx_report.specs.Waits.{blocked_text}
+use Rattle.fx_follow.specs.declared.stand.Stand.{Stand}
 use Rattle.fx_findings.specs.declared.explored.Explored.{Explored}
 use Rattle.fx_findings.specs.Explored.{IsExplored}
 use Rattle.fx_findings.specs.Status.{explored_status}
@@ -34,7 +35,8 @@ use Rattle.fx_command.specs.declared.command_fault.CommandFault.TheVariants.{Ref
 use Rattle.fx_command.specs.Passed.{replay_words}
 use Rattle.fx_command.specs.StoodEvents.{stood_events}
 use Rattle.fx_command.specs.SolePuts.{stood_of_run}
-use Rattle.fx_command.specs.HandlesTold.{named_told}
+use Rattle.fx_command.specs.HandlesTold.{named_told, named_of_run}
+use Rattle.fx_command.specs.RanEvents.{AreFollowedOrNone}
 use Rattle.fx_command.specs.Pictured.{IsPictured}
 use Rattle.fx_places.specs.declared.place.FormPlace.{FormPlace}
 use Rattle.fx_places.specs.Places.{positions_of}
@@ -90,10 +92,11 @@ pub data IsPerformed (source : List ℕ) (m : Meaning) (picks : List Pick) (expe
       → IsPictured (queue_names m) (stood_events places (total (script_of m)) (length m.queues) told) r (named_told source places told) blocked
       (replay_words (queue_names m) passed (positions_of places) blocked) words status text
       → IsPerformed source m picks expected Picture words status text
-  picture_ran : {workers : ℕ} {r : ReportView} {blocked : List Blocked} {nodes : List Node} {places : List FormPlace} {words text : List ℕ} {status : ℕ}
-      → 1 ≤ workers → workers ≤ most_workers → root_term nodes ≡ m.term → IsLawfulHalt nodes (script_of m) nobody r blocked
-      → ArePlacesOrNone source nodes places
-      → IsPictured (queue_names m) (stood_of_run r.fibers) r [] blocked (blocked_text (queue_names m) (positions_of places) blocked) words status text
+  picture_ran : {workers : ℕ} {r : ReportView} {blocked : List Blocked} {nodes : List Node} {places : List FormPlace} {told : List (List Stand)}
+      {words text : List ℕ} {status : ℕ} → 1 ≤ workers → workers ≤ most_workers → root_term nodes ≡ m.term → IsLawfulHalt nodes (script_of m) nobody r blocked
+      → ArePlacesOrNone source nodes places → AreFollowedOrNone nodes (script_of m) r told
+      → IsPictured (queue_names m) (stood_of_run places told r.fibers) r (named_of_run source places told r.fibers) blocked
+      (blocked_text (queue_names m) (positions_of places) blocked) words status text
       → IsPerformed source m picks expected (command.PictureRun workers) words status text
   explored : {search : Search} {e : Explored} → IsExplored (setting (script_of m) search.target) search.most e
       → IsPerformed source m picks expected (command.Explore search) [] (explored_status e) (explored_text (queue_names m) e)

@@ -1,5 +1,5 @@
 -- Which put of a value into a queue is the only one in a report, and what is told of the events of a run by that.
-use Rattle.std.specs.Prelude.{ℕ, suc, nat_lt, ◌==◌, Bool, true, ◌&&◌, Option, Some, None, List, [], ◌∷◌, ◌++◌, length, map, if◌then◌else◌}
+use Rattle.std.specs.Prelude.{ℕ, suc, nat_lt, ◌==◌, Bool, ◌&&◌, Option, Some, None, List, [], ◌∷◌, ◌++◌, length, map, if◌then◌else◌}
 use Rattle.std.specs.List.{filter, flat_map}
 use Rattle.fx_term.specs.declared.event.Event.{Event}
 use Rattle.fx_term.specs.declared.event.Event.TheVariants as event
@@ -7,7 +7,13 @@ use Rattle.fx_model.specs.Report.{FiberReportView}
 use Rattle.fx_picture.specs.declared.layout.TheConstants.{MOST_EVENTS}
 use Rattle.fx_picture.specs.declared.stood.EventAt.{EventAt}
 use Rattle.fx_picture.specs.declared.stood.Stood.{Stood}
+use Rattle.fx_places.specs.declared.place.FormPlace.{FormPlace}
+use Rattle.fx_follow.specs.declared.stand.Stand.{Stand}
+use Rattle.fx_command.specs.declared.ran_events.RanEvent.{RanEvent}
 use Rattle.fx_command.specs.declared.sole_puts.PutAt.{PutAt}
+use Rattle.fx_command.specs.RanEvents.{ran_events, node_stood, was_open}
+use Rattle.fx_command.specs.StoodEvents.{position_of}
+use Rattle.fx_command.specs.ToldText.{place_of}
 
 -- event i of fiber f, if it puts something
 abbrev pub put_by : ℕ → ℕ → Event → List PutAt
@@ -42,13 +48,21 @@ abbrev pub sole_cause : List PutAt → Event → Option EventAt
 sole_cause puts (event.Got q v) = sole_put q v puts
 sole_cause puts _ = None
 
--- nothing else is told of an event of a run: neither where its fiber stood, nor how many elements a queue held
-abbrev pub stood_by_cause : List PutAt → ℕ → Event → Stood
-stood_by_cause puts f e = record { fiber = f; position = None; is_open = true; cause = sole_cause puts e; held = None }
+-- what is told of an event of a run, where these are all puts of its report, and the script's nodes have these places in the text: where its fiber stood, if
+-- that is known, and which put it took an element of, where there is no doubt; but not how many elements a queue held
+abbrev pub stood_by : List PutAt → List FormPlace → RanEvent → Stood
+stood_by puts places e = record {
+  fiber = e.fiber;
+  position = position_of (place_of places (node_stood e.stand));
+  is_open = was_open e.stand;
+  cause = sole_cause puts e.event;
+  held = None;
+}
 
-abbrev pub stood_by_puts : List PutAt → List FiberReportView → List Stood
-stood_by_puts puts fibers = flat_map (λ (x : FiberReportView). map (stood_by_cause puts x.id) x.trace) fibers
+-- of each of these events; nothing where there are more puts than a picture can have events
+abbrev pub stood_by_puts : List PutAt → List FormPlace → List RanEvent → List Stood
+stood_by_puts puts places events = if nat_lt MOST_EVENTS (length puts) then [] else map (stood_by puts places) events
 
--- what is told of each event of a run, fiber by fiber; nothing where there are more puts than a picture can have events
-abbrev pub stood_of_run : List FiberReportView → List Stood
-stood_of_run fibers = if nat_lt MOST_EVENTS (length (puts_in fibers)) then [] else stood_by_puts (puts_in fibers) fibers
+-- of all events of a run, fiber by fiber, of whose fibers that is told
+abbrev pub stood_of_run : List FormPlace → List (List Stand) → List FiberReportView → List Stood
+stood_of_run places told fibers = stood_by_puts (puts_in fibers) places (ran_events told fibers)

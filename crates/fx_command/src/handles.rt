@@ -1,9 +1,11 @@
-//! What a script calls the fibers of a replay.
+//! What a script calls the fibers of a run.
 ghost use Rattle.std.specs.Prelude.{◌≡◌, ◌+◌, ◌<◌, ◌^◌, ◌++◌, Some, IfOk, OnOk, length};
+ghost use Rattle.std.specs.List.{flat_map};
 ghost use Rattle.fx_places.specs.Handle.{handle_of};
 ghost use Rattle.fx_picture.specs.Handles.{view_handles};
-ghost use Rattle.fx_command.specs.HandlesTold.{one_named, named_by, named_in, named_told};
+ghost use Rattle.fx_command.specs.HandlesTold.{one_named, named_by, named_in, named_told, named_at};
 
+use crate::ran_events::RanEvent;
 use crate::told_text::place_at;
 use fx_picture::Handle;
 use fx_places::{FormPlace, handle_of};
@@ -77,7 +79,7 @@ fn push_told(
     }
 }
 
-/// The names of the fibers that are told to be started: of those that a `start` started, whose text this is.
+/// The names of the fibers that are told to be started, of a replay: of those that a `start` started, whose text this is.
 pub(crate) fn handles_of(
     alloc: Global,
     source: &[u8],
@@ -92,6 +94,27 @@ pub(crate) fn handles_of(
     let mut rest = told;
     while let Some((next, more)) = rest.split_first() {
         push_told(alloc, &mut handles, source, places, *next)?;
+        rest = more;
+    }
+    Ok(handles)
+}
+
+/// The names of the fibers that these events of a run on threads start: of those that a `start` started, whose text this is.
+pub(crate) fn handles_of_run(
+    alloc: Global,
+    source: &[u8],
+    places: &[FormPlace],
+    events: &[RanEvent],
+) -> Result<Vec<Handle>, AllocError>
+    requires { length source.now + 2 < 2 ^ 32 }
+    ensures { IfOk result (λ handles. view_handles handles.items
+        ≡ flat_map (named_at source.now places.now) events.now) }
+{
+    let mut handles = Vec::new(alloc);
+    let mut rest = events;
+    while let Some((next, more)) = rest.split_first() {
+        let place = place_at(places, next.node());
+        push_started(alloc, &mut handles, source, place, Some(next.event))?;
         rest = more;
     }
     Ok(handles)

@@ -11,9 +11,10 @@ ghost use Rattle.fx_command.specs.Pictured.{IsPictured};
 ghost use Rattle.fx_command.specs.Performed.{Performs};
 
 use crate::command_fault::CommandFault;
-use crate::handles::handles_of;
+use crate::handles::{handles_of, handles_of_run};
 use crate::perform::{Performed, format_blocked, format_words};
-use crate::placed::{places_in, places_of_blocked};
+use crate::placed::{places_in, places_of_run};
+use crate::ran_events::{ran_events, stands_told};
 use crate::sole_puts::stood_of_run;
 use crate::stood_events::stood_events;
 use crate::stream::Stream;
@@ -126,7 +127,8 @@ pub(crate) fn picture<'a, W: Write>(
     })
 }
 
-/// Runs the script's fibers by so many workers, and draws the run, with what its report says of the causes of gets.
+/// Runs the script's fibers by so many workers, and draws the run, with what its report says of the causes of gets, and with
+/// where its fibers stood and what the text calls them, where that is found again.
 pub(crate) fn picture_run<'a, R: Wait + Threads + Sync + RandomSource + AllocGlobal, W: Write>(
     rt: &R,
     alloc: Global,
@@ -141,10 +143,21 @@ pub(crate) fn picture_run<'a, R: Wait + Threads + Sync + RandomSource + AllocGlo
         source.now (meaning script.now) picks expected result out.old out.new }
 {
     let ran = run_to_halt(rt, alloc, script, workers, &Free)?;
-    let places = places_of_blocked(alloc, script, source, &ran.blocked)?;
+    let told = stands_told(alloc, script, &ran.report)?;
+    let places = places_of_run(alloc, script, source, &told, &ran.blocked)?;
     let words = format_blocked(alloc, script, &places, &ran.blocked)?;
-    let stood = stood_of_run(alloc, &ran.report)?;
-    let drawn = drawn_of(alloc, script, &stood, &ran.report, &[], &ran.blocked, words)?;
+    let events = ran_events(alloc, &told, &ran.report)?;
+    let stood = stood_of_run(alloc, &places, &ran.report, &events)?;
+    let names = handles_of_run(alloc, source, &places, &events)?;
+    let drawn = drawn_of(
+        alloc,
+        script,
+        &stood,
+        &ran.report,
+        &names,
+        &ran.blocked,
+        words,
+    )?;
     out.write(&drawn.text)?;
     Ok(Performed {
         status: drawn.status,

@@ -4,6 +4,7 @@ ghost use Rattle.fx_text.specs.Grammar.{IsScript};
 ghost use Rattle.fx_text.specs.View.{meaning};
 ghost use Rattle.fx_command.specs.Placed.{ArePlacesOrNone};
 
+use fx_follow::Stand;
 use fx_places::{FormPlace, PlaceFault, places};
 use fx_report::Blocked;
 use fx_term::Memory;
@@ -42,4 +43,23 @@ pub(crate) fn places_of_blocked(
         return Ok(Vec::new(alloc));
     }
     places_in(alloc, script, text)
+}
+
+/// The places that the picture of a run needs, in which these fibers are blocked, and of whose fibers that is told.
+pub(crate) fn places_of_run(
+    alloc: Global,
+    script: &Script,
+    text: &[u8],
+    told: &[Vec<Stand>],
+    blocked: &[Blocked],
+) -> Result<Vec<FormPlace>, Memory>
+    requires { IsScript text.now (meaning script.now) }
+    ensures { IfOk result (λ places.
+        ArePlacesOrNone text.now script.now.code.nodes places.items) }
+{
+    if told.is_empty() {
+        places_of_blocked(alloc, script, text, blocked)
+    } else {
+        places_in(alloc, script, text)
+    }
 }

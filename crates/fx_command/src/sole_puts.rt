@@ -1,10 +1,14 @@
 //! Which put a get took an element of, where a value was put into its queue once.
 ghost use Rattle.std.specs.Prelude.{◌≡◌, ◌++◌, map, IfOk, OnOk};
 ghost use Rattle.fx_term.specs.Stamped.{events_in};
-ghost use Rattle.fx_command.specs.SolePuts.{put_by, puts_from, puts_in, puts_so, sole_put, sole_cause, stood_by_cause, stood_by_puts, stood_of_run};
+ghost use Rattle.fx_command.specs.SolePuts.{put_by, puts_from, puts_in, puts_so, sole_put, sole_cause, stood_by, stood_by_puts};
 
+use crate::ran_events::RanEvent;
+use crate::stood_events::position_of;
+use crate::told_text::place_at;
 use fx_model::{FiberReport, Report};
 use fx_picture::{EventAt, MOST_EVENTS, Stood};
+use fx_places::FormPlace;
 use fx_term::{Event, Stamped};
 use std::alloc::{AllocError, Global};
 
@@ -93,51 +97,43 @@ fn sole_cause(puts: &[PutAt], event: Event) -> Option<EventAt>
     }
 }
 
-/// Appends what is told of the events of the fiber, whose trace this is.
-fn push_stood(
-    list: &mut Vec<Stood>,
-    puts: &[PutAt],
-    fiber: u32,
-    trace: &[Stamped],
-) -> Result<(), AllocError>
-    ensures { OnOk result (list.new.items
-        ≡ list.old.items ++ map (stood_by_cause puts.now fiber) (events_in trace.now)) }
-{
-    for stamped in trace {
-        list.push(Stood {
-            fiber,
-            position: None,
-            is_open: true,
-            cause: sole_cause(puts, stamped.event),
-            held: None,
-        })?;
-    }
-    Ok(())
-}
-
-/// What is told of the events of these fibers by their puts.
+/// What is told of these events by these puts, where the script's nodes have these places.
 fn stood_by_puts(
     alloc: Global,
     puts: &[PutAt],
-    fibers: &[FiberReport],
+    places: &[FormPlace],
+    events: &[RanEvent],
 ) -> Result<Vec<Stood>, AllocError>
-    ensures { IfOk result (λ list. list.items ≡ stood_by_puts puts.now fibers.now) }
+    ensures { IfOk result (λ list. list.items ≡ map (stood_by puts.now places.now) events.now) }
 {
     let mut list = Vec::new(alloc);
-    for fiber in fibers {
-        push_stood(&mut list, puts, fiber.id, &fiber.trace)?;
+    for event in events {
+        list.push(Stood {
+            fiber: event.fiber,
+            position: position_of(place_at(places, event.node())),
+            is_open: event.is_open(),
+            cause: sole_cause(puts, event.event),
+            held: None,
+        })?;
     }
     Ok(list)
 }
 
-/// What is told of the events of a run, fiber by fiber: of each get the put of what it took, where its value was put
-/// into that queue once. Nothing, where there are more puts than a picture can have events: to look would take long.
-pub(crate) fn stood_of_run(alloc: Global, report: &Report) -> Result<Vec<Stood>, AllocError>
-    ensures { IfOk result (λ list. list.items ≡ stood_of_run report.now.fibers) }
+/// What is told of these events, which are those of the report: where each stood, if that is known, in a script whose nodes
+/// have these places; and of each get the put of what it took, where its value was put into that queue once. Nothing, where
+/// there are more puts than a picture can have events: to look would take long.
+pub(crate) fn stood_of_run(
+    alloc: Global,
+    places: &[FormPlace],
+    report: &Report,
+    events: &[RanEvent],
+) -> Result<Vec<Stood>, AllocError>
+    ensures { IfOk result (λ list. list.items
+        ≡ stood_by_puts (puts_in report.now.fibers) places.now events.now) }
 {
     let puts = puts_of(alloc, &report.fibers)?;
     if puts.len() > MOST_EVENTS {
         return Ok(Vec::new(alloc));
     }
-    stood_by_puts(alloc, &puts, &report.fibers)
+    stood_by_puts(alloc, &puts, places, events)
 }

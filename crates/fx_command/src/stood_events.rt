@@ -14,7 +14,8 @@ use fx_plain::{MadeStep, Told};
 use fx_text::{Position, Script};
 use std::alloc::{AllocError, Global};
 
-fn position_of(place: Option<FormPlace>) -> Option<Position>
+/// The position of a form, if that is known.
+pub(crate) fn position_of(place: Option<FormPlace>) -> Option<Position>
     ensures { result ≡ position_of place }
 {
     match place {

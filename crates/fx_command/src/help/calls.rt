@@ -195,14 +195,17 @@ const PICTURE_RUN: &str = "\
 fibers picture-run F WORKERS
 
 Runs the fibers as fibers run F WORKERS does, and draws the run as fibers
-picture does, but for where forms stand, names of handles, and arrows to who
-found the first of two. An arrow from a put to who took its element is there
-where that value was put into that queue only once in the run. Of two events of
-which neither stands on the other the order does not say which came first.
+picture does, but for how many elements queues hold, and arrows to who found the
+first of two. An arrow from a put to who took its element is there where that
+value was put into that queue only once in the run. Where forms stand, where no
+request would be seen, and the names of handles are found after the run, by
+making each fiber step again by what it showed; they are left out where that
+takes too many steps. Of two events of which neither stands on the other the
+order does not say which came first.
 
     $ echo '(main (start h (pure 1) (cancel h)))' > script
-    $ fibers picture-run script 4 | tail -1
-    </svg>
+    $ fibers picture-run script 4 | grep -c 'fiber 1 h<'
+    1
 ";
 
 const EXPLORE: &str = "\

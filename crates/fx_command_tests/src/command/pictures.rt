@@ -1,12 +1,26 @@
-//! Pictures of runs by workers: from which puts arrows go to who took their elements.
+//! Pictures of runs by workers: from which puts arrows go to who took their elements, what fibers are called, and where
+//! they stood.
 use super::*;
 
 /// The class of such an arrow, as the text names it, in 17 bytes.
 const ARROW: &[u8] = b"class=\"arrow put\"";
 
+/// The class of the bar of a closed place, in 14 bytes.
+const MASKED: &[u8] = b"class=\"masked\"";
+
 /// How often the text has that class: once in the legend, and once for each arrow.
 fn count(text: &[u8]) -> usize {
     text.windows(17).filter(|piece| *piece == ARROW).count()
+}
+
+/// How often it has the other one: once in the legend, and once for each bar.
+fn count_masked(text: &[u8]) -> usize {
+    text.windows(14).filter(|piece| *piece == MASKED).count()
+}
+
+/// Does the text have these words, of which there are some?
+fn has(text: &[u8], words: &[u8]) -> bool {
+    !words.is_empty() && text.windows(words.len()).any(|piece| piece == words)
 }
 
 /// Does the picture of a run of this script have that class so often, by some numbers of workers?
@@ -41,5 +55,19 @@ fn no_arrow_comes_from_two_puts_of_a_value(rt: HostRuntime) -> Result<(), Fail> 
     let script =
         b"(queue q 2) (main (start h (seq (offer q 7) (offer q 7)) (seq (take q) (take q))))";
     assert!(rt; has_class(&rt, script, 1)?);
+    Ok(())
+}
+
+#[test]
+fn run_is_drawn_with_names_places_and_masks(rt: HostRuntime) -> Result<(), Fail> {
+    let script =
+        b"(queue q 1) (main (start reader (mask p (offer q 7)) (bracket x (take q) (pure x) (pure 0))))";
+    let ran = run_of(&rt, "picture-run F 1", &[("F", whole(script))])?;
+    assert!(rt; ran.status == ENDED);
+    assert!(rt; has(&ran.out, b">fiber 1 reader<"));
+    assert!(rt; has(&ran.out, b" start 1 at 1:19<"));
+    assert!(rt; has(&ran.out, b" put q 7 at 1:41 closed<"));
+    assert!(rt; has(&ran.out, b" got q 7 at 1:65 closed<"));
+    assert!(rt; count_masked(&ran.out) == 4);
     Ok(())
 }
