@@ -1,6 +1,7 @@
 mod Refused
 mod Performed
 mod PictureWords
+mod CountsTold
 mod RanEvents
 mod SolePuts
 mod StoodOf

@@ -16,6 +16,7 @@ use Rattle.fx_model.specs.Causes.{TakesWhatWasPut, LeavesQueue, Needs, taken_ele
 use Rattle.fx_model.proofs.CausesFound.{causes_found}
 use Rattle.fx_places.specs.declared.place.FormPlace.{FormPlace}
 use Rattle.fx_report.proofs.Keys.{rises_from}
+use Rattle.fx_order.specs.declared.occurrence.Occurrence.{Occurrence}
 use Rattle.fx_follow.specs.declared.stand.Stand.{Stand}
 use Rattle.fx_picture.specs.declared.layout.TheConstants.{MOST_EVENTS}
 use Rattle.fx_picture.specs.declared.stood.EventAt.{EventAt}
@@ -23,7 +24,7 @@ use Rattle.fx_picture.specs.declared.stood.Stood.{Stood}
 use Rattle.fx_picture.specs.Stood.{stood_at, told_cause}
 use Rattle.fx_picture.specs.IsDrawn.{Tells}
 use Rattle.fx_command.specs.declared.sole_puts.PutAt.{PutAt}
-use Rattle.fx_command.specs.RanEvents.{ran_events}
+use Rattle.fx_command.specs.RanEvents.{counts_of, ran_events}
 use Rattle.fx_command.specs.SolePuts.{put_by, puts_from, puts_in, puts_so, only_one, sole_put, stood_by, stood_of_run}
 use Rattle.fx_command.proofs.RanEvents.{fiber_of, stands_for, stood_with, told_at}
 
@@ -110,16 +111,16 @@ module _ (s : ScriptView) (may : ℕ → Bool) (r : ReportView) (lawful : IsLawf
   takes_the_sole f i q v at got sole =
       let found = (causes_found s may r lawful).puts f i q v got in took_the_sole f i q v at got sole found.0 found.1 found.2
 
-  -- what is told of event i of a fiber is told by that event, and by where the fiber stood
-  module _ (places : List FormPlace) (told : List (List Stand)) where
+  -- what is told of event i of a fiber is told by that event, and by where the fiber stood and what its queue held
+  module _ (places : List FormPlace) (told : List (List Stand)) (list : List Occurrence) (counts : List (Option ℕ)) where
     abbrev pub by_the_event : ℕ → ℕ → Event → Stood
-    by_the_event f i e = stood_by (puts_in r.fibers) places (stood_with f (stands_for told r.fibers f) i e)
+    by_the_event f i e = stood_by (puts_in r.fibers) places (stood_with f (stands_for told r.fibers f) (counts_of f list counts) i e)
 
     told_of_event : (f i : ℕ)
-        → stood_at (map (stood_by (puts_in r.fibers) places) (ran_events told r.fibers)) f i
+        → stood_at (map (stood_by (puts_in r.fibers) places) (ran_events told list counts r.fibers)) f i
         ≡ option_map (by_the_event f i) (slice_get (trace_in r f) i)
     told_of_event f i =
-        told_at (stood_by (puts_in r.fibers) places) (λ e. refl) f 0 told r.fibers
+        told_at (stood_by (puts_in r.fibers) places) (λ e. refl) f list counts 0 told r.fibers
         (rises_from (λ (x : FiberReportView). x.id) r.fibers lawful.starters.ascending) i
 
     by_event : (f i g j : ℕ) (o : Option Event) → slice_get (trace_in r f) i ≡ o
@@ -133,19 +134,19 @@ module _ (s : ScriptView) (may : ℕ → Bool) (r : ReportView) (lawful : IsLawf
     if_few false list f i g j tells = tells
 
     -- what is told to have caused an event is what it stands on
-    pub told_is_needed : (f i g j : ℕ) → Tells (stood_of_run places told r.fibers) f i g j → NeedsSo f i g j
+    pub told_is_needed : (f i g j : ℕ) → Tells (stood_of_run places told list counts r.fibers) f i g j → NeedsSo f i g j
     told_is_needed f i g j tells =
         by_event f i g j (slice_get (trace_in r f) i) refl
         (sym (ap told_cause (told_of_event f i)) ∙ if_few (nat_lt MOST_EVENTS (length (puts_in r.fibers))) _ f i g j tells)
 
     -- where there are few puts, that is told of each event
     pub told_if_few : (f i : ℕ) (e : Event) → length (puts_in r.fibers) ≤ MOST_EVENTS → slice_get (trace_in r f) i ≡ Some e
-        → stood_at (stood_of_run places told r.fibers) f i ≡ Some (by_the_event f i e)
+        → stood_at (stood_of_run places told list counts r.fibers) f i ≡ Some (by_the_event f i e)
     told_if_few f i e few at =
         let here : nat_lt MOST_EVENTS (length (puts_in r.fibers)) ≡ false = le-ltb _ _ few in
         rw here (told_of_event f i ∙ ap (option_map (by_the_event f i)) at)
 
     -- and a get of what was put once is told so
     pub sole_is_told : (f i q v : ℕ) (at : EventAt) → length (puts_in r.fibers) ≤ MOST_EVENTS → slice_get (trace_in r f) i ≡ Some (event.Got q v)
-        → sole_put q v (puts_in r.fibers) ≡ Some at → Tells (stood_of_run places told r.fibers) f i at.fiber at.place
+        → sole_put q v (puts_in r.fibers) ≡ Some at → Tells (stood_of_run places told list counts r.fibers) f i at.fiber at.place
     sole_is_told f i q v at few got sole = ap told_cause (told_if_few f i (event.Got q v) few got) ∙ sole

@@ -16,6 +16,7 @@ use Rattle.fx_model.specs.Report.{FiberReportView, ReportView, trace_of_report, 
 use Rattle.fx_model.specs.Row.{Counts, Label, Silent, Shows, Learns, Starts}
 use Rattle.fx_model.specs.Run.{Leads, first_counts, events}
 use Rattle.fx_model.specs.Step.{Progress, Runs, Step}
+use Rattle.fx_order.specs.declared.occurrence.Occurrence.{Occurrence}
 use Rattle.fx_follow.specs.declared.stand.Stand.{Stand}
 use Rattle.fx_follow.specs.Trails.{IsStandAt, LeadsTelling}
 use Rattle.fx_follow.specs.Followed.{FiberRun, IsFollowed, AreEach, AreFollowed}
@@ -163,11 +164,11 @@ its_run nodes o (y ∷ ys) (stands ∷ told) (run ∷ runs) f x each is = elim (
 
 module _ (nodes : List Node) (s : ScriptView) (may : ℕ → Bool) (r : ReportView) (told : List (List Stand)) (lawful : IsLawfulReport s may r)
     (followed : AreFollowed nodes s r told) where
-  of_fiber : (places : List FormPlace) (f i : ℕ) (e : Event) (o : Option FiberReportView) → length (puts_in r.fibers) ≤ MOST_EVENTS
-      → fiber_of f r.fibers ≡ o → slice_get (trace_of_report o) i ≡ Some e
-      → IsStoodOf nodes places followed.runs (stood_of_run places told r.fibers) f i e
-  of_fiber places f i e None few is at = absurd (none-some e at)
-  of_fiber places f i e (Some x) few is at =
+  of_fiber : (places : List FormPlace) (list : List Occurrence) (counts : List (Option ℕ)) (f i : ℕ) (e : Event) (o : Option FiberReportView)
+      → length (puts_in r.fibers) ≤ MOST_EVENTS → fiber_of f r.fibers ≡ o → slice_get (trace_of_report o) i ≡ Some e
+      → IsStoodOf nodes places followed.runs (stood_of_run places told list counts r.fibers) f i e
+  of_fiber places list counts f i e None few is at = absurd (none-some e at)
+  of_fiber places list counts f i e (Some x) few is at =
       let its = its_run nodes (final_outside s r) r.fibers told followed.runs f x followed.each is in
       let run = its.run in
       let shown = shows_at nodes run.counts run.progress run.labels (first_counts run.origin) (Runs run.origin.term) (stands_for told r.fibers f) i e
@@ -180,11 +181,12 @@ module _ (nodes : List Node) (s : ScriptView) (may : ℕ → Bool) (r : ReportVi
         stand = shown.0;
         shown = shown.2;
         stood = _;
-        told_so = told_if_few s may r lawful places told f i e few whole;
+        told_so = told_if_few s may r lawful places told list counts f i e few whole;
         is_open = rw shown.1 refl;
         position = rw shown.1 refl;
       }
 
-  pub stood_of : (places : List FormPlace) (f i : ℕ) (e : Event) → length (puts_in r.fibers) ≤ MOST_EVENTS → slice_get (trace_in r f) i ≡ Some e
-      → IsStoodOf nodes places followed.runs (stood_of_run places told r.fibers) f i e
-  stood_of places f i e few at = of_fiber places f i e (fiber_of f r.fibers) few refl at
+  pub stood_of : (places : List FormPlace) (list : List Occurrence) (counts : List (Option ℕ)) (f i : ℕ) (e : Event)
+      → length (puts_in r.fibers) ≤ MOST_EVENTS → slice_get (trace_in r f) i ≡ Some e
+      → IsStoodOf nodes places followed.runs (stood_of_run places told list counts r.fibers) f i e
+  stood_of places list counts f i e few at = of_fiber places list counts f i e (fiber_of f r.fibers) few refl at

@@ -18,6 +18,7 @@ pub mod HandlesTold
 pub mod TakesInOrder
 pub mod CausesTold
 pub mod IsToldOf
+pub mod IsHeldSo
 pub mod IsStoodOf
 pub mod SolePuts
 pub mod Pictured

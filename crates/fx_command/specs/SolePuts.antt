@@ -4,6 +4,7 @@ use Rattle.std.specs.List.{filter, flat_map}
 use Rattle.fx_term.specs.declared.event.Event.{Event}
 use Rattle.fx_term.specs.declared.event.Event.TheVariants as event
 use Rattle.fx_model.specs.Report.{FiberReportView}
+use Rattle.fx_order.specs.declared.occurrence.Occurrence.{Occurrence}
 use Rattle.fx_picture.specs.declared.layout.TheConstants.{MOST_EVENTS}
 use Rattle.fx_picture.specs.declared.stood.EventAt.{EventAt}
 use Rattle.fx_picture.specs.declared.stood.Stood.{Stood}
@@ -48,21 +49,21 @@ abbrev pub sole_cause : List PutAt → Event → Option EventAt
 sole_cause puts (event.Got q v) = sole_put q v puts
 sole_cause puts _ = None
 
--- what is told of an event of a run, where these are all puts of its report, and the script's nodes have these places in the text: where its fiber stood, if
--- that is known, and which put it took an element of, where there is no doubt; but not how many elements a queue held
+-- what is told of an event of a run, where these are all puts of its report, and the script's nodes have these places in the text: where its fiber stood, and
+-- how many elements its queue held, if these are known, and which put it took an element of, where there is no doubt
 abbrev pub stood_by : List PutAt → List FormPlace → RanEvent → Stood
 stood_by puts places e = record {
   fiber = e.fiber;
   position = position_of (place_of places (node_stood e.stand));
   is_open = was_open e.stand;
   cause = sole_cause puts e.event;
-  held = None;
+  held = e.held;
 }
 
 -- of each of these events; nothing where there are more puts than a picture can have events
 abbrev pub stood_by_puts : List PutAt → List FormPlace → List RanEvent → List Stood
 stood_by_puts puts places events = if nat_lt MOST_EVENTS (length puts) then [] else map (stood_by puts places) events
 
--- of all events of a run, fiber by fiber, of whose fibers that is told
-abbrev pub stood_of_run : List FormPlace → List (List Stand) → List FiberReportView → List Stood
-stood_of_run places told fibers = stood_by_puts (puts_in fibers) places (ran_events told fibers)
+-- of all events of a run, fiber by fiber, where that is told of where the fibers stood, and the events of that list have these counts
+abbrev pub stood_of_run : List FormPlace → List (List Stand) → List Occurrence → List (Option ℕ) → List FiberReportView → List Stood
+stood_of_run places told list counts fibers = stood_by_puts (puts_in fibers) places (ran_events told list counts fibers)

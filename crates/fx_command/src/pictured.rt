@@ -14,7 +14,7 @@ use crate::command_fault::CommandFault;
 use crate::handles::{handles_of, handles_of_run};
 use crate::perform::{Performed, format_blocked, format_words};
 use crate::placed::{places_in, places_of_run};
-use crate::ran_events::{ran_events, stands_told};
+use crate::ran_events::{counts_told, ran_events, stands_told};
 use crate::sole_puts::stood_of_run;
 use crate::stood_events::stood_events;
 use crate::stream::Stream;
@@ -127,8 +127,9 @@ pub(crate) fn picture<'a, W: Write>(
     })
 }
 
-/// Runs the script's fibers by so many workers, and draws the run, with what its report says of the causes of gets, and with
-/// where its fibers stood and what the text calls them, where that is found again.
+/// Runs the script's fibers by so many workers, and draws the run, with what its report says of the causes of gets, with where
+/// its fibers stood and what the text calls them, where that is found again, and with how many elements its queues held by
+/// histories that fit the report.
 pub(crate) fn picture_run<'a, R: Wait + Threads + Sync + RandomSource + AllocGlobal, W: Write>(
     rt: &R,
     alloc: Global,
@@ -146,7 +147,8 @@ pub(crate) fn picture_run<'a, R: Wait + Threads + Sync + RandomSource + AllocGlo
     let told = stands_told(alloc, script, &ran.report)?;
     let places = places_of_run(alloc, script, source, &told, &ran.blocked)?;
     let words = format_blocked(alloc, script, &places, &ran.blocked)?;
-    let events = ran_events(alloc, &told, &ran.report)?;
+    let counted = counts_told(alloc, script, &ran.report)?;
+    let events = ran_events(alloc, &told, &counted, &ran.report)?;
     let stood = stood_of_run(alloc, &places, &ran.report, &events)?;
     let names = handles_of_run(alloc, source, &places, &events)?;
     let drawn = drawn_of(

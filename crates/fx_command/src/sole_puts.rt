@@ -113,15 +113,15 @@ fn stood_by_puts(
             position: position_of(place_at(places, event.node())),
             is_open: event.is_open(),
             cause: sole_cause(puts, event.event),
-            held: None,
+            held: event.held,
         })?;
     }
     Ok(list)
 }
 
-/// What is told of these events, which are those of the report: where each stood, if that is known, in a script whose nodes
-/// have these places; and of each get the put of what it took, where its value was put into that queue once. Nothing, where
-/// there are more puts than a picture can have events: to look would take long.
+/// What is told of these events, which are those of the report: where each stood in a script whose nodes have these places, and
+/// how many elements its queue held, if these are known; and of each get the put of what it took, where its value was put into
+/// that queue once. Nothing, where there are more puts than a picture can have events: to look would take long.
 pub(crate) fn stood_of_run(
     alloc: Global,
     places: &[FormPlace],

@@ -30,22 +30,31 @@ fn are_same(one: &[Stand], other: &[Stand]) -> bool {
             .all(|(a, b)| a.node == b.node && a.is_open == b.is_open)
 }
 
-/// How many fibers of a replay are told to have stood where they did; none where nothing is told.
-fn told_rightly(alloc: Global, text: &str, picks: &str) -> Result<Option<usize>, Fail> {
+/// What is told of the fibers of a replay.
+#[derive(Clone, Copy, PartialEq, Eq, Debug)]
+enum Found {
+    /// Nothing.
+    Nothing,
+    /// That this one stood elsewhere than it did.
+    Elsewhere(u32),
+    /// Where they stood, of so many.
+    Rightly(usize),
+}
+
+fn told_of(alloc: Global, text: &str, picks: &str) -> Result<Found, Fail> {
     let script = parse(alloc, text.as_bytes())?;
     let picks = schedule(alloc, picks.as_bytes())?;
     let report = replay(alloc, &script, &picks)?;
     let told = tell_run(alloc, &script, &picks)?;
     let Some(followed) = follow(alloc, &script, &report)? else {
-        return Ok(None);
+        return Ok(Found::Nothing);
     };
-    let mut rightly = 0;
     for (reported, stands) in report.fibers.iter().zip(followed.iter()) {
-        if are_same(stands, &stands_of_steps(alloc, reported.id, &told)?) {
-            rightly += 1;
+        if !are_same(stands, &stands_of_steps(alloc, reported.id, &told)?) {
+            return Ok(Found::Elsewhere(reported.id));
         }
     }
-    Ok(Some(rightly))
+    Ok(Found::Rightly(followed.len()))
 }
 
 /// Scripts, schedules, and how many fibers they have.
@@ -121,13 +130,9 @@ static ROWS: [(&str, &str, &str, usize); 12] = [
 
 #[test]
 fn fibers_stood_where_the_steps_of_a_replay_did(rt: HostRuntime) -> Result<(), Fail> {
-    let mut wrong = String::new(rt.alloc());
     for (row, text, picks, fibers) in &ROWS {
-        let told = told_rightly(rt.alloc(), text, picks)?;
-        if told != Some(*fibers) {
-            wrong.push_str(&format!(in rt.alloc(); "{row}: {told:?}; ")?)?;
-        }
+        let found = told_of(rt.alloc(), text, picks)?;
+        assert!(rt; found == Found::Rightly(*fibers), "{row}");
     }
-    assert!(rt; wrong.is_empty(), "{wrong}");
     Ok(())
 }

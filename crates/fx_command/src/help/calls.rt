@@ -195,9 +195,11 @@ const PICTURE_RUN: &str = "\
 fibers picture-run F WORKERS
 
 Runs the fibers as fibers run F WORKERS does, and draws the run as fibers
-picture does, but for how many elements queues hold, and arrows to who found the
-first of two. An arrow from a put to who took its element is there where that
-value was put into that queue only once in the run. Where forms stand, where no
+picture does, but for arrows to who found the first of two. An arrow from a put
+to who took its element is there where that value was put into that queue only
+once in the run. How many elements a queue holds is there where its puts and
+gets, in the order of the picture, are allowed and leave what it has at the end;
+in the run they may have come in another such order. Where forms stand, where no
 request would be seen, and the names of handles are found after the run, by
 making each fiber step again by what it showed; they are left out where that
 takes too many steps. Of two events of which neither stands on the other the

@@ -1,5 +1,5 @@
-//! Pictures of runs by workers: from which puts arrows go to who took their elements, what fibers are called, and where
-//! they stood.
+//! Pictures of runs by workers: from which puts arrows go to who took their elements, what fibers are called, where they
+//! stood, and how many elements queues held.
 use super::*;
 
 /// The class of such an arrow, as the text names it, in 17 bytes.
@@ -66,8 +66,19 @@ fn run_is_drawn_with_names_places_and_masks(rt: HostRuntime) -> Result<(), Fail>
     assert!(rt; ran.status == ENDED);
     assert!(rt; has(&ran.out, b">fiber 1 reader<"));
     assert!(rt; has(&ran.out, b" start 1 at 1:19<"));
-    assert!(rt; has(&ran.out, b" put q 7 at 1:41 closed<"));
-    assert!(rt; has(&ran.out, b" got q 7 at 1:65 closed<"));
+    assert!(rt; has(&ran.out, b" put q 7 at 1:41 closed holds 1<"));
+    assert!(rt; has(&ran.out, b" got q 7 at 1:65 closed holds 0<"));
     assert!(rt; count_masked(&ran.out) == 4);
+    Ok(())
+}
+
+#[test]
+fn run_is_drawn_with_counts_of_queues(rt: HostRuntime) -> Result<(), Fail> {
+    let script = b"(queue q 2) (main (seq (offer q 7) (seq (offer q 8) (take q))))";
+    let ran = run_of(&rt, "picture-run F 1", &[("F", whole(script))])?;
+    assert!(rt; ran.status == ENDED);
+    assert!(rt; has(&ran.out, b" put q 7 at 1:24 holds 1<"));
+    assert!(rt; has(&ran.out, b" put q 8 at 1:41 holds 2<"));
+    assert!(rt; has(&ran.out, b" got q 7 at 1:53 holds 1<"));
     Ok(())
 }

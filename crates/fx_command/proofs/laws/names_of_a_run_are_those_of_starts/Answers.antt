@@ -4,6 +4,6 @@ use Rattle.fx_command.proofs.laws.names_of_a_run_are_those_of_starts.Goals as go
 
 pub returns : goal.returns
 returns c = record {
-  found = λ source places told fibers g name. named_in source places g (ran_events told fibers) name;
-  each = λ source places told fibers started place g. each_named source places g (ran_events told fibers) started place;
+  found = λ source places told list counts fibers g name. named_in source places g (ran_events told list counts fibers) name;
+  each = λ source places told list counts fibers started place g. each_named source places g (ran_events told list counts fibers) started place;
 }

@@ -16,7 +16,8 @@ returns-in_err-write g c picks expected =
     let drawn = rw (words, c.deref-12.ensures.value, c.deref-11.ensures.value, c.deref-10.ensures.value, stood, named) at c.in_ok-drawn.ensures in
     let part = rw c.deref-13.ensures at c.in_err-write.ensures.part in
     rw (fault.1, fault.2) (cut_short _ _ _ _ _ _ _ _ _ _
-    (picture_ran {nodes = c.args.script.now.code.nodes} can.0 can.1 refl c.in_ok-ran.ensures.halted c.in_ok-places.ensures c.in_ok-told.ensures drawn) part)
+    (picture_ran {nodes = c.args.script.now.code.nodes} can.0 can.1 refl c.in_ok-ran.ensures.halted c.in_ok-places.ensures c.in_ok-told.ensures
+    c.in_ok-counted.ensures drawn) part)
 
 pub returns : goal.returns
 returns g c picks expected =
@@ -28,6 +29,7 @@ returns g c picks expected =
     let drawn = rw (words, c.deref-12.ensures.value, c.deref-11.ensures.value, c.deref-10.ensures.value, stood, named) at c.in_ok-drawn.ensures in
     record {
       text = _;
-      answer = picture_ran {nodes = c.args.script.now.code.nodes} can.0 can.1 refl c.in_ok-ran.ensures.halted c.in_ok-places.ensures c.in_ok-told.ensures drawn;
+      answer = picture_ran {nodes = c.args.script.now.code.nodes} can.0 can.1 refl c.in_ok-ran.ensures.halted c.in_ok-places.ensures c.in_ok-told.ensures
+          c.in_ok-counted.ensures drawn;
       taken = rw c.deref-13.ensures at c.in_ok-write.ensures.whole;
     }

@@ -6,7 +6,8 @@ use Rattle.fx_command.proofs.ran_events.push_fibers.Given as goal
 -- the events so far and those of what is left are all
 abbrev pub invariant-loop-fiber : goal.invariant-loop-fiber
 invariant-loop-fiber l =
-    l.list.items ++ ran_events (stands_of l.told) l.rest ≡ l.fn.list.items ++ ran_events (stands_of l.fn.told) l.fibers
+    l.list.items ++ ran_events (stands_of l.told) l.counted.list.items l.counted.counts.items l.rest
+    ≡ l.fn.list.items ++ ran_events (stands_of l.fn.told) l.counted.list.items l.counted.counts.items l.fibers
 
 abbrev pub decreases-loop-fiber : goal.decreases-loop-fiber
 decreases-loop-fiber l = length l.rest

@@ -1,0 +1,4 @@
+pub mod SoFar
+pub mod Replays
+pub mod Counted
+pub mod Histories
