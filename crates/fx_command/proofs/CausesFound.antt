@@ -36,7 +36,7 @@ use Rattle.fx_command.specs.TakesInOrder.{shown_by_all}
 use Rattle.fx_command.specs.ToldText.{node_of, stood_after, place_of}
 use Rattle.fx_command.proofs.FirstsFound.{firsts_told, firsts_stand}
 use Rattle.fx_command.proofs.GetsFound.{gets_told, gets_stand}
-use Rattle.fx_command.proofs.OnePut.{one_put}
+use Rattle.fx_run_events.proofs.OnePut.{one_put}
 use Rattle.fx_command.proofs.ShownSteps.{ShownBy, shown_by_step, told_then}
 
 -- nothing is told of an event that there is not

@@ -36,7 +36,7 @@ use Rattle.fx_command.specs.StoodEvents.{stood_events}
 use Rattle.fx_command.specs.TakesInOrder.{shown_by_all}
 use Rattle.fx_command.proofs.CountedEvents.{counted_told}
 use Rattle.fx_command.proofs.HeldElements.{PutElements, PutsFront, put_first, in_middle, held_elements}
-use Rattle.fx_command.proofs.OnePut.{taken_from}
+use Rattle.fx_run_events.proofs.OnePut.{taken_from}
 use Rattle.fx_command.proofs.ShownSteps.{shown_by_step, told_then}
 use Rattle.fx_command.proofs.ToldFibers.{first_told_below}
 

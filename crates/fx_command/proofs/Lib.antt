@@ -1,9 +1,8 @@
 mod Refused
 mod Performed
 mod PictureWords
-mod CountsTold
-mod RanEvents
-mod SolePuts
+mod CausesOfRun
+mod StoodOfRun
 mod StoodOf
 mod NamedInRun
 mod StoodEventsLaws
@@ -17,7 +16,6 @@ mod GetsInOrder
 mod ToldOf
 mod FirstsFound
 mod HeldElements
-mod OnePut
 mod GetsFound
 mod CausesFound
 mod WorkersLaws

@@ -11,8 +11,8 @@ use Rattle.fx_places.specs.declared.form.Form.TheVariants as form
 use Rattle.fx_places.specs.declared.place.FormPlace.{FormPlace}
 use Rattle.fx_places.specs.Handle.{handle_of}
 use Rattle.fx_picture.specs.Handles.{Named, name_of}
-use Rattle.fx_command.specs.declared.ran_events.RanEvent.{RanEvent}
-use Rattle.fx_command.specs.RanEvents.{node_stood}
+use Rattle.fx_run_events.specs.declared.ran_event.RanEvent.{RanEvent}
+use Rattle.fx_run_events.specs.RanEvents.{node_stood}
 use Rattle.fx_command.specs.HandlesTold.{named_by, named_at}
 use Rattle.fx_command.specs.IsStoodOf.{IsNamedIn}
 use Rattle.fx_command.specs.ToldText.{place_of}

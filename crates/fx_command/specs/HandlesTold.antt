@@ -10,10 +10,11 @@ use Rattle.fx_plain.specs.declared.told.Told.{Told}
 use Rattle.fx_plain.specs.declared.told.Told.TheVariants.{Step, Request, Passed}
 use Rattle.fx_model.specs.Report.{FiberReportView}
 use Rattle.fx_order.specs.declared.occurrence.Occurrence.{Occurrence}
+use Rattle.fx_counts.specs.declared.at_queue.AtQueue.{AtQueue}
 use Rattle.fx_follow.specs.declared.stand.Stand.{Stand}
 use Rattle.fx_picture.specs.Handles.{Named}
-use Rattle.fx_command.specs.declared.ran_events.RanEvent.{RanEvent}
-use Rattle.fx_command.specs.RanEvents.{ran_events, node_stood}
+use Rattle.fx_run_events.specs.declared.ran_event.RanEvent.{RanEvent}
+use Rattle.fx_run_events.specs.RanEvents.{ran_events, node_stood}
 use Rattle.fx_command.specs.ToldText.{place_of}
 
 -- fiber f with this name, if that is one
@@ -42,7 +43,7 @@ abbrev pub named_at : List ℕ → List FormPlace → RanEvent → List Named
 named_at source places e = named_by source (place_of places (node_stood e.stand)) (Some e.event)
 
 -- all that are started by such a run, of which that is told
-abbrev pub named_of_run : List ℕ → List FormPlace → List (List Stand) → List Occurrence → List (Option ℕ) → List FiberReportView → List Named
+abbrev pub named_of_run : List ℕ → List FormPlace → List (List Stand) → List Occurrence → List (Option AtQueue) → List FiberReportView → List Named
 named_of_run source places told list counts fibers = flat_map (named_at source places) (ran_events told list counts fibers)
 
 -- this name of fiber g is that which the text has at the place of a step that starts the fiber

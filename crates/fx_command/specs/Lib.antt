@@ -13,14 +13,14 @@ pub mod Fetched
 pub mod Passed
 pub mod SoFar
 pub mod StoodEvents
-pub mod RanEvents
 pub mod HandlesTold
 pub mod TakesInOrder
 pub mod CausesTold
 pub mod IsToldOf
 pub mod IsHeldSo
 pub mod IsStoodOf
-pub mod SolePuts
+pub mod StoodOfRun
+pub mod CausesOfRun
 pub mod Pictured
 pub mod Placed
 pub mod ToldText

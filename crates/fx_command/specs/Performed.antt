@@ -21,6 +21,7 @@ use Rattle.fx_report.specs.Status.{status_of}
 use Rattle.fx_report.specs.Waits.{blocked_text}
 use Rattle.fx_follow.specs.declared.stand.Stand.{Stand}
 use Rattle.fx_order.specs.declared.occurrence.Occurrence.{Occurrence}
+use Rattle.fx_counts.specs.declared.at_queue.AtQueue.{AtQueue}
 use Rattle.fx_findings.specs.declared.explored.Explored.{Explored}
 use Rattle.fx_findings.specs.Explored.{IsExplored}
 use Rattle.fx_findings.specs.Status.{explored_status}
@@ -35,9 +36,9 @@ use Rattle.fx_command.specs.declared.command_fault.CommandFault.{CommandFault}
 use Rattle.fx_command.specs.declared.command_fault.CommandFault.TheVariants.{Refused, Unreadable, Memory, Write, Run}
 use Rattle.fx_command.specs.Passed.{replay_words}
 use Rattle.fx_command.specs.StoodEvents.{stood_events}
-use Rattle.fx_command.specs.SolePuts.{stood_of_run}
+use Rattle.fx_command.specs.StoodOfRun.{stood_of_run}
 use Rattle.fx_command.specs.HandlesTold.{named_told, named_of_run}
-use Rattle.fx_command.specs.RanEvents.{AreFollowedOrNone, AreCountedOrNone}
+use Rattle.fx_run_events.specs.Found.{AreFollowedOrNone, AreCountedOrNone}
 use Rattle.fx_command.specs.Pictured.{IsPictured}
 use Rattle.fx_places.specs.declared.place.FormPlace.{FormPlace}
 use Rattle.fx_places.specs.Places.{positions_of}
@@ -94,7 +95,7 @@ pub data IsPerformed (source : List ℕ) (m : Meaning) (picks : List Pick) (expe
       (replay_words (queue_names m) passed (positions_of places) blocked) words status text
       → IsPerformed source m picks expected Picture words status text
   picture_ran : {workers : ℕ} {r : ReportView} {blocked : List Blocked} {nodes : List Node} {places : List FormPlace} {told : List (List Stand)}
-      {list : List Occurrence} {counts : List (Option ℕ)} {words text : List ℕ} {status : ℕ} → 1 ≤ workers → workers ≤ most_workers
+      {list : List Occurrence} {counts : List (Option AtQueue)} {words text : List ℕ} {status : ℕ} → 1 ≤ workers → workers ≤ most_workers
       → root_term nodes ≡ m.term → IsLawfulHalt nodes (script_of m) nobody r blocked → ArePlacesOrNone source nodes places
       → AreFollowedOrNone nodes (script_of m) r told → AreCountedOrNone (script_of m).capacities r list counts
       → IsPictured (queue_names m) (stood_of_run places told list counts r.fibers) r (named_of_run source places told list counts r.fibers) blocked

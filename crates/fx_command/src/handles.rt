@@ -5,11 +5,11 @@ ghost use Rattle.fx_places.specs.Handle.{handle_of};
 ghost use Rattle.fx_picture.specs.Handles.{view_handles};
 ghost use Rattle.fx_command.specs.HandlesTold.{one_named, named_by, named_in, named_told, named_at};
 
-use crate::ran_events::RanEvent;
 use crate::told_text::place_at;
 use fx_picture::Handle;
 use fx_places::{FormPlace, handle_of};
 use fx_plain::Told;
+use fx_run_events::RanEvent;
 use fx_term::Event;
 use std::alloc::{AllocError, Global};
 

@@ -36,22 +36,24 @@ ghost use Rattle.fx_model.specs.Stamps.{IsBelowTop};
 ghost use Rattle.fx_order.specs.declared.occurrence.Occurrence.{Occurrence};
 ghost use Rattle.fx_follow.specs.declared.stand.Stand.{Stand};
 ghost use Rattle.fx_follow.specs.Followed.{AreFollowed};
-ghost use Rattle.fx_command.specs.declared.ran_events.RanEvent.{RanEvent};
-ghost use Rattle.fx_command.specs.RanEvents.{IsByStamp, ran_events, node_stood};
+ghost use Rattle.fx_counts.specs.declared.at_queue.AtQueue.{AtQueue};
+ghost use Rattle.fx_run_events.specs.declared.ran_event.RanEvent.{RanEvent};
+ghost use Rattle.fx_run_events.specs.Found.{IsByStamp, AreFollowedOrNone, AreCountedOrNone};
+ghost use Rattle.fx_run_events.specs.RanEvents.{ran_events, node_stood};
 ghost use Rattle.fx_command.specs.HandlesTold.{named_told, named_of_run, IsNamedBy};
 ghost use Rattle.fx_command.specs.IsHeldSo.{IsHeldSo};
 ghost use Rattle.fx_command.specs.IsStoodOf.{IsStoodOf, IsNamedIn};
 ghost use Rattle.fx_command.specs.StoodEvents.{stood_events};
 ghost use Rattle.fx_command.specs.ToldText.{place_of};
 ghost use Rattle.fx_command.specs.IsToldOf.{IsToldOf};
-ghost use Rattle.fx_picture.specs.declared.layout.TheConstants.{MOST_EVENTS};
 ghost use Rattle.fx_picture.specs.declared.stood.EventAt.{EventAt};
 ghost use Rattle.fx_picture.specs.Handles.{name_of};
 ghost use Rattle.fx_picture.specs.DrawsEach.{DrawsEach};
 ghost use Rattle.fx_picture.specs.DrawsOnly.{DrawsOnly};
 ghost use Rattle.fx_picture.specs.IsDrawn.{Tells};
 ghost use Rattle.fx_command.specs.SoFar.{nothing_shown, cause_by};
-ghost use Rattle.fx_command.specs.SolePuts.{puts_in, sole_put, stood_of_run};
+ghost use Rattle.fx_command.specs.CausesOfRun.{DrawsCausesOfRun};
+ghost use Rattle.fx_command.specs.StoodOfRun.{stood_of_run};
 ghost use Rattle.fx_command.specs.CausesTold.{TellsCauses};
 ghost use Rattle.fx_command.specs.TakesInOrder.{puts_told, causes_told, shown_by_all, TakesInOrder};
 ghost use Rattle.fx_command.specs.CommandAnswer.{IsCommandAnswer};
@@ -135,42 +137,33 @@ pub fn replays_are_drawn_with_their_causes()
         × DrawsOnly s (λ f. true) r report.stamped.lawful (stood_events places fibers queues told)) }
 {}
 
-/// What is told as the cause of an event of a run on threads, is one on which that stands, by any runs and histories
-/// that make the report lawful: the put of the element that a get took. And it is told of each get whose value was put
-/// into its queue once in the whole report, unless that has more puts than a picture can have events. So the picture of the run
-/// has no other arrows than from causes and from requests. All that is so whatever is told of where the fibers stood and of what
-/// queues held.
-pub fn told_sole_puts_are_taken()
-    ensures taken { (places : List FormPlace) (told : List (List Stand)) (list : List Occurrence) (counts : List (Option ℕ))
-        (s : ScriptView) (may : ℕ → Bool) (r : ReportView) (lawful : IsLawfulReport s may r) (f i g j : ℕ)
-        → Tells (stood_of_run places told list counts r.fibers) f i g j
-        → Needs (trace_in r) lawful.runs.labels (LeavesQueue s may r lawful) f i g j }
-    ensures each { (places : List FormPlace) (told : List (List Stand)) (list : List Occurrence) (counts : List (Option ℕ))
-        (s : ScriptView) (may : ℕ → Bool) (r : ReportView) (f i q v : ℕ) (put : EventAt) → IsLawfulReport s may r
-        → length (puts_in r.fibers) ≤ MOST_EVENTS → slice_get (trace_in r f) i ≡ Some (event.Got q v) → sole_put q v (puts_in r.fibers) ≡ Some put
-        → Tells (stood_of_run places told list counts r.fibers) f i put.fiber put.place }
-    ensures drawn { (places : List FormPlace) (told : List (List Stand)) (list : List Occurrence) (counts : List (Option ℕ))
-        (s : ScriptView) (may : ℕ → Bool) (r : ReportView) (lawful : IsLawfulReport s may r)
-        → DrawsOnly s may r lawful (stood_of_run places told list counts r.fibers) }
+/// What is told as the causes of the events of a run on threads is what these stand on, by runs and histories that make the
+/// report lawful; it is told of each get of which the put is known, and of each first of two where the fibers were followed.
+/// So the picture of the run has no other arrows than from causes and from requests, and where all that is known, each of
+/// these. The report has the stamps of the definition, of which none is the greatest number.
+pub fn runs_are_drawn_with_their_causes()
+    ensures { (nodes : List Node) (s : ScriptView) (may : ℕ → Bool) (r : ReportView) (told : List (List Stand)) (list : List Occurrence)
+        (counts : List (Option AtQueue)) → IsStampedReport s may r → IsBelowTop (trace_in r) (stamp_in r)
+        → AreFollowedOrNone nodes s r told → AreCountedOrNone s.capacities r list counts
+        → (lawful : IsLawfulReport s may r) × ((places : List FormPlace)
+        → DrawsCausesOfRun nodes s may r lawful told list (stood_of_run places told list counts r.fibers)) }
 {}
 
 /// What is told of event i of a fiber in a run on threads, for its picture, is where the fiber stood before the step that showed
-/// the event, by the runs of which that is told; unless the report has more puts than a picture can have events.
+/// the event, by the runs of which that is told.
 pub fn told_stands_are_those_of_events()
     ensures { (nodes : List Node) (s : ScriptView) (may : ℕ → Bool) (r : ReportView) (told : List (List Stand))
-        → IsLawfulReport s may r → (followed : AreFollowed nodes s r told) → length (puts_in r.fibers) ≤ MOST_EVENTS
-        → (places : List FormPlace) (list : List Occurrence) (counts : List (Option ℕ)) (f i : ℕ) (e : Event)
+        → IsLawfulReport s may r → (followed : AreFollowed nodes s r told)
+        → (places : List FormPlace) (list : List Occurrence) (counts : List (Option AtQueue)) (f i : ℕ) (e : Event)
         → slice_get (trace_in r f) i ≡ Some e
         → IsStoodOf nodes places followed.runs (stood_of_run places told list counts r.fibers) f i e }
 {}
 
-/// How many elements its queue held after event i of a fiber in a run on threads, as it is told for its picture, is the count of
-/// that event in the list of all events; unless the report has more puts than a picture can have events. The report has the
-/// stamps of the definition, of which none is the greatest number.
+/// How many elements its queue held after event i of a fiber in a run on threads, as it is told for its picture, is what is told
+/// of that event in the list of all events. The report has the stamps of the definition, of which none is the greatest number.
 pub fn told_counts_are_those_of_events()
-    ensures { (s : ScriptView) (may : ℕ → Bool) (r : ReportView) (list : List Occurrence) (counts : List (Option ℕ))
+    ensures { (s : ScriptView) (may : ℕ → Bool) (r : ReportView) (list : List Occurrence) (counts : List (Option AtQueue))
         → IsStampedReport s may r → IsBelowTop (trace_in r) (stamp_in r) → IsByStamp r list
-        → length (puts_in r.fibers) ≤ MOST_EVENTS
         → (places : List FormPlace) (told : List (List Stand)) (f i : ℕ) (e : Event)
         → slice_get (trace_in r f) i ≡ Some e
         → IsHeldSo (stood_of_run places told list counts r.fibers) list counts f i e }
@@ -180,11 +173,11 @@ pub fn told_counts_are_those_of_events()
 /// stood before it started the fiber. And each fiber that is started where a `start` stands has one.
 pub fn names_of_a_run_are_those_of_starts()
     ensures found { (source : List ℕ) (places : List FormPlace) (told : List (List Stand)) (list : List Occurrence)
-        (counts : List (Option ℕ)) (fibers : List FiberReportView) (g : ℕ) (name : List ℕ)
+        (counts : List (Option AtQueue)) (fibers : List FiberReportView) (g : ℕ) (name : List ℕ)
         → name_of (named_of_run source places told list counts fibers) g ≡ Some name
         → IsNamedIn source places (ran_events told list counts fibers) g name }
     ensures each { (source : List ℕ) (places : List FormPlace) (told : List (List Stand)) (list : List Occurrence)
-        (counts : List (Option ℕ)) (fibers : List FiberReportView) (started : RanEvent) (place : FormPlace) (g : ℕ)
+        (counts : List (Option AtQueue)) (fibers : List FiberReportView) (started : RanEvent) (place : FormPlace) (g : ℕ)
         → Among started (ran_events told list counts fibers)
         → started.event ≡ event.Start g → place_of places (node_stood started.stand) ≡ Some place → place.form ≡ form.Start
         → is_some (name_of (named_of_run source places told list counts fibers) g) ≡ true }

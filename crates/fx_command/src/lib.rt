@@ -14,10 +14,8 @@
 //!    writes what it has found, or of that the first report that is not expected. `placed` finds where the nodes of
 //!    the script stand in its text, for those words and for the steps; `told_text` writes the steps, `stood` knows at
 //!    which node each fiber stood last, `so_far` whose puts each queue holds, and `stood_events` what is told of each
-//!    event of a replay, for `pictured`, which draws runs. `ran_events` has each event of a run on threads with where its
-//!    fiber stood, as that is found again, and how many elements its queue held, by a history that fits the report, and
-//!    `handles` what a script calls the fibers of both. `sole_puts` finds what the report of a run on threads tells by
-//!    itself: which put a get took an element of, where its value was put there once.
+//!    event of a replay, for `pictured`, which draws runs. `stood_of_run` tells of each event of a run on threads what was
+//!    found of it (`fx_run_events`), and `handles` what a script calls the fibers of both.
 //! 5. `stream` is what is written to: a writer, of which contracts know whether it has refused a write.
 //! 6. `command` goes through these in that order, gives the status, and says on standard error those
 //!    words, or why nothing was printed.
@@ -50,14 +48,13 @@ mod pictured;
 mod placed;
 mod position;
 mod printable;
-mod ran_events;
 mod schedule_words;
 mod script_words;
 mod so_far;
-mod sole_puts;
 mod states;
 mod stood;
 mod stood_events;
+mod stood_of_run;
 pub mod stream;
 mod texts;
 mod told_text;

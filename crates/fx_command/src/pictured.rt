@@ -14,15 +14,15 @@ use crate::command_fault::CommandFault;
 use crate::handles::{handles_of, handles_of_run};
 use crate::perform::{Performed, format_blocked, format_words};
 use crate::placed::{places_in, places_of_run};
-use crate::ran_events::{counts_told, ran_events, stands_told};
-use crate::sole_puts::stood_of_run;
 use crate::stood_events::stood_events;
+use crate::stood_of_run::stood_of_run;
 use crate::stream::Stream;
 use fx_model::Report;
 use fx_picture::{Handle, PictureFault, Stood, format_picture};
 use fx_plain::{replay_to_halt, tell_run};
 use fx_report::{Blocked, FAULT, status_after};
 use fx_run::run_to_halt;
+use fx_run_events::{counts_told, ran_events, stands_told};
 use fx_sched::Free;
 use fx_text::{Pick, Script};
 use std::alloc::{AllocError, AllocGlobal, Global};
@@ -127,9 +127,8 @@ pub(crate) fn picture<'a, W: Write>(
     })
 }
 
-/// Runs the script's fibers by so many workers, and draws the run, with what its report says of the causes of gets, with where
-/// its fibers stood and what the text calls them, where that is found again, and with how many elements its queues held by
-/// histories that fit the report.
+/// Runs the script's fibers by so many workers, and draws the run, with what is found of it afterwards: where its fibers stood
+/// and what the text calls them, how many elements its queues held, and what caused its gets and each first of two.
 pub(crate) fn picture_run<'a, R: Wait + Threads + Sync + RandomSource + AllocGlobal, W: Write>(
     rt: &R,
     alloc: Global,
@@ -149,7 +148,7 @@ pub(crate) fn picture_run<'a, R: Wait + Threads + Sync + RandomSource + AllocGlo
     let words = format_blocked(alloc, script, &places, &ran.blocked)?;
     let counted = counts_told(alloc, script, &ran.report)?;
     let events = ran_events(alloc, &told, &counted, &ran.report)?;
-    let stood = stood_of_run(alloc, &places, &ran.report, &events)?;
+    let stood = stood_of_run(alloc, &places, &events)?;
     let names = handles_of_run(alloc, source, &places, &events)?;
     let drawn = drawn_of(
         alloc,

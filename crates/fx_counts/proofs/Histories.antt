@@ -60,7 +60,7 @@ module _ (f : ℕ) where
   cut_other (Some d) h other = rw (ne_eqb (fiber_of d) f (other d refl)) refl
 
   -- the history, cut to the fiber, is what its events do
-  cut_is : (q : ℕ) (ls : List Occurrence) → cut f (history_in q ls) ≡ queue_events q f (events_of (own ls))
+  pub cut_is : (q : ℕ) (ls : List Occurrence) → cut f (history_in q ls) ≡ queue_events q f (events_of (own ls))
   cut_is q [] = refl
   cut_is q (x ∷ ls) = by_test (x.fiber == f) refl (cut_is q ls)
     where

@@ -1,4 +1,6 @@
 pub mod SoFar
+pub mod TakenPuts
 pub mod Replays
 pub mod Counted
 pub mod Histories
+pub mod ReportTakes

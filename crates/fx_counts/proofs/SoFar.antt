@@ -24,7 +24,7 @@ filter_within : (f : ℕ) (xs : List Element) → length (items_of f xs) ≤ len
 filter_within f [] = omega arith
 filter_within f (x ∷ xs) = one_within (x.fiber == f) x (items_of f xs) (length xs) (filter_within f xs)
 
-elements_long : (xs : List Item) → length (elements_of xs) ≡ length xs
+pub elements_long : (xs : List Item) → length (elements_of xs) ≡ length xs
 elements_long [] = refl
 elements_long (x ∷ xs) = ap suc (elements_long xs)
 

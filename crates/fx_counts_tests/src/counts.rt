@@ -1,20 +1,40 @@
-//! What is counted along the events of a report in the order of stamps.
+//! What is told along the events of a report in the order of stamps.
 use crate::reports::{Left, Trace, report_of, trace};
-use fx_counts::counts;
+use fx_counts::{AtQueue, counts};
 use fx_order::order_by_stamp;
 use fx_term::Event::{Got, Put, Refused, Start};
 use std::test::Fail;
+
+/// What is told of a put after which its queue holds so many.
+macro_rules! put {
+    ($held:literal) => {
+        Some(AtQueue {
+            held: $held,
+            took: None,
+        })
+    };
+}
+
+/// What is told of a get after which its queue holds so many, and which took what was put at that place of the list.
+macro_rules! got {
+    ($held:literal, $took:literal) => {
+        Some(AtQueue {
+            held: $held,
+            took: Some($took),
+        })
+    };
+}
 
 struct Row {
     shows: &'static str,
     capacities: &'static [u32],
     traces: &'static [Trace],
     left: &'static [Left],
-    /// The count of each event of the list.
-    told: &'static [Option<usize>],
+    /// What is told of each event of the list.
+    told: &'static [Option<AtQueue>],
 }
 
-static ROWS: [Row; 10] = [
+static ROWS: [Row; 13] = [
     Row {
         shows: "nothing of nothing",
         capacities: &[1],
@@ -33,7 +53,7 @@ static ROWS: [Row; 10] = [
             (1, trace![3 => Got(0, 5)]),
         ],
         left: &[&[(0, 1, 6)]],
-        told: &[None, Some(1), Some(2), Some(1), None],
+        told: &[None, put!(1), put!(2), got!(1, 1), None],
     },
     Row {
         shows: "two gets before the put of what the second took",
@@ -65,7 +85,7 @@ static ROWS: [Row; 10] = [
             (2, trace![4 => Got(0, 5)]),
         ],
         left: &[&[(1, 0, 6)]],
-        told: &[None, None, None, Some(1), Some(2), Some(1)],
+        told: &[None, None, None, put!(1), put!(2), got!(1, 3)],
     },
     Row {
         shows: "more than the capacity in the order of stamps",
@@ -101,7 +121,7 @@ static ROWS: [Row; 10] = [
             trace![1 => Put(0, 5), 2 => Put(1, 6), 3 => Got(1, 6), 4 => Put(1, 7), 5 => Got(0, 9)],
         )],
         left: &[&[], &[(0, 1, 7)]],
-        told: &[None, Some(1), Some(0), Some(1), None],
+        told: &[None, put!(1), got!(0, 1), put!(1), None],
     },
     Row {
         shows: "the nth of each fiber counts alone",
@@ -111,7 +131,7 @@ static ROWS: [Row; 10] = [
             (1, trace![3 => Put(0, 6)]),
         ],
         left: &[&[(0, 0, 5), (1, 0, 6), (0, 1, 7)]],
-        told: &[None, Some(1), Some(2), Some(3)],
+        told: &[None, put!(1), put!(2), put!(3)],
     },
     Row {
         shows: "a queue that is not declared",
@@ -119,6 +139,44 @@ static ROWS: [Row; 10] = [
         traces: &[(0, trace![1 => Put(0, 5)])],
         left: &[&[(0, 0, 5)]],
         told: &[None],
+    },
+    Row {
+        shows: "of two puts of one value by two fibers the first get took the earlier one, which the later fiber made",
+        capacities: &[2],
+        traces: &[
+            (0, trace![1 => Start(1), 2 => Start(2), 3 => Put(0, 5)]),
+            (1, trace![2 => Put(0, 5), 5 => Got(0, 5)]),
+            (2, trace![4 => Got(0, 5)]),
+        ],
+        left: &[&[]],
+        told: &[None, None, put!(1), put!(2), got!(1, 2), got!(0, 3)],
+    },
+    Row {
+        shows: "puts and gets of two queues between one another, and of each get the place of its put in the list of all",
+        capacities: &[2, 2],
+        traces: &[(
+            0,
+            trace![1 => Put(0, 5), 2 => Put(1, 5), 3 => Put(1, 5), 4 => Got(1, 5), 5 => Got(0, 5), 6 => Got(1, 5)],
+        )],
+        left: &[&[], &[]],
+        told: &[
+            put!(1),
+            put!(1),
+            put!(2),
+            got!(1, 1),
+            got!(0, 0),
+            got!(0, 2),
+        ],
+    },
+    Row {
+        shows: "each get from a queue of one takes the put before it",
+        capacities: &[1],
+        traces: &[
+            (0, trace![1 => Put(0, 5), 3 => Put(0, 5), 5 => Put(0, 6)]),
+            (1, trace![2 => Got(0, 5), 4 => Got(0, 5)]),
+        ],
+        left: &[&[(0, 2, 6)]],
+        told: &[put!(1), got!(0, 0), put!(1), got!(0, 2), put!(1)],
     },
 ];
 

@@ -1,5 +1,6 @@
 mod Capacities
-mod Stands
+mod Places
+mod LearnedSteps
 mod Trails
 mod SameEvents
 mod Members
@@ -8,4 +9,5 @@ mod Told
 mod Found
 mod UnderWay
 mod FoundRuns
-mod ToldRuns
+pub mod ShowsFrom
+pub mod ToldRuns

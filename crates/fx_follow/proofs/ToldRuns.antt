@@ -10,25 +10,20 @@ use Rattle.fx_term.specs.declared.event.Event.TheVariants as event
 use Rattle.fx_term.specs.Lists.{Among}
 use Rattle.fx_term.specs.Script.{ScriptView}
 use Rattle.fx_model.specs.Origin.{main_origin}
-use Rattle.fx_model.specs.Row.{Counts, Label, Silent, Shows, Learns, Starts}
-use Rattle.fx_model.specs.Run.{first_counts, Leads, events}
+use Rattle.fx_model.specs.Row.{Label, Silent, Shows, Learns, Starts}
+use Rattle.fx_model.specs.Run.{first_counts, events}
 use Rattle.fx_model.specs.Outside.{can_step}
-use Rattle.fx_model.specs.Step.{Progress, Runs}
+use Rattle.fx_model.specs.Step.{Runs}
 use Rattle.fx_model.specs.Report.{FiberReportView, ReportView, fiber_in, trace_of_report, trace_in, outcome_shown, is_requested_in, final_outside}
 use Rattle.fx_model.specs.LawfulReport.{HasRun, HasRuns, BeginsAs, HasOrigins, EndsWith, IsLearnt, IsSeenRightly, IsLawfulReport}
 use Rattle.fx_model.proofs.OutcomeLaws.{run_outcome, run_stops}
 use Rattle.fx_model.proofs.StepLabels.{IsProper}
 use Rattle.fx_model.proofs.EventLabels.{run_is_proper, seen_label}
 use Rattle.fx_follow.specs.declared.stand.Stand.{Stand}
-use Rattle.fx_follow.specs.Trails.{LeadsTelling, LearnsFrom}
+use Rattle.fx_follow.specs.Trails.{LearnsFrom}
 use Rattle.fx_follow.specs.Followed.{FiberRun, AreEach, StartsRun, AreFollowed, AreToldOf, AreToldBy}
+use Rattle.fx_follow.proofs.ShowsFrom.{leads_alone}
 use Rattle.fx_follow.proofs.FoundRuns.{run_among, HasItsRun, same_numbers, has_its_run, found_holds, found_by_number}
-
--- the steps alone, without what is told of them
-leads_alone : (nodes : List Node) (c d : Counts) (p q : Progress) (ls : List Label) (stands : List Stand) → LeadsTelling nodes c p ls stands d q
-    → Leads c p ls d q
-leads_alone nodes c d p q [] stands h = (h.1, h.2)
-leads_alone nodes c d p q (l ∷ ls) stands h = (h.0, h.1, h.4, leads_alone nodes h.0 d h.1 q ls h.3 h.7)
 
 -- a fiber that saw a request was requested, by any labels that show its trace
 module _ (r : ReportView) (f : ℕ) where
@@ -107,7 +102,7 @@ module _ (nodes : List Node) (s : ScriptView) (may : ℕ → Bool) (r : ReportVi
       let h = its_run f x at in
       let q = h.run in
       let run : HasRun s r f x q.origin q.labels q.counts q.progress = record {
-        run = leads_alone nodes (first_counts q.origin) q.counts (Runs q.origin.term) q.progress q.labels h.stands h.followed.leads;
+        run = leads_alone nodes q.counts q.progress h.followed.leads.0 q.labels (first_counts q.origin) (Runs q.origin.term) None h.stands h.followed.leads.1;
         trace = h.followed.trace;
         state = h.followed.state;
         unable = subst (λ (g : ℕ). can_step (final_outside s r) g q.counts q.progress ≡ false) h.id_is h.followed.unable;

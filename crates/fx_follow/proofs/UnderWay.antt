@@ -1,9 +1,10 @@
 -- Fibers are followed one after the other.
-use Rattle.std.proofs.Common.{◌≡◌, ℕ, ◌+◌, ◌<◌, ◌≤◌, List, [], ◌∷◌, ◌++◌, length, take, get_or, refl, sym, ◌∙◌, ap, subst, inl, inr, ⊎_elim, All}
+use Rattle.std.proofs.Common.{◌≡◌, ℕ, ◌+◌, ◌<◌, ◌≤◌, Option, List, [], ◌∷◌, ◌++◌, length, take, get_or, refl, sym, ◌∙◌, ap, subst, inl, inr, ⊎_elim, All}
 use Rattle.std.specs.Global.{Vec}
 use Rattle.std.proofs.lemmas.List.{take_more, take_all, map-append, nil_from_length}
 use Rattle.std.proofs.lemmas.List.Elements.{All-nil, All-push, All-weaker}
 use Rattle.fx_term.specs.declared.node.Node.{Node}
+use Rattle.fx_term.specs.declared.node.NodeId.{NodeId}
 use Rattle.fx_term.specs.Lists.{Among}
 use Rattle.fx_term.specs.Script.{ScriptView}
 use Rattle.fx_term.specs.Term.{Term}
@@ -52,9 +53,9 @@ among_last xs x = Among-append_right xs (x ∷ []) x (inl refl)
 -- the fiber that was taken out, with its trail
 module _ (nodes : List Node) (s : ScriptView) (r : ReportView) (xs : List FiberReportView) (told : List (List Stand)) (old new : List (FiberView Facts))
     (x : FiberReportView) (first : FiberView Facts) (is : first.port.number ≡ x.id) (out : IsTakenOut first old new)
-    (f : FiberView Facts) (stands : List Stand) (children : List (FiberView Facts))
+    (f : FiberView Facts) (last : Option NodeId) (stands : List Stand) (children : List (FiberView Facts))
     (whole : IsWhole nodes (final_outside s r) x f) (way : IsUnderWay nodes s r xs told old) (b : Origin) (begins : IsAtFirst nodes b first)
-    (trail : IsTrail nodes (final_outside s r).outcome b f stands children) where
+    (trail : IsTrail nodes (final_outside s r).outcome b f last stands children) where
   abbrev run_of : FiberRun
   run_of = record { number = x.id; origin = b; labels = trail.labels; counts = f.counts; progress = progress nodes f }
 
@@ -64,7 +65,7 @@ module _ (nodes : List Node) (s : ScriptView) (r : ReportView) (xs : List FiberR
   followed : IsFollowed nodes (final_outside s r) x stands run_of
   followed = record {
     number = refl;
-    leads = trail.leads;
+    leads = (last, trail.leads);
     trace = trail.trace ∙ whole.trace;
     state = whole.state;
     unable = whole.unable;
@@ -109,12 +110,12 @@ module _ (nodes : List Node) (s : ScriptView) (r : ReportView) (xs : List FiberR
 -- one more fiber is followed
 pub goes_on : (nodes : List Node) (s : ScriptView) (r : ReportView) (xs : List FiberReportView) (told : List (List Stand)) (old new : List (FiberView Facts))
     (x : FiberReportView) (first : FiberView Facts) → first.port.number ≡ x.id → IsTakenOut first old new
-    → (f : FiberView Facts) (stands : List Stand) (children : List (FiberView Facts)) → IsWhole nodes (final_outside s r) x f
-    → ((b : Origin) → IsAtFirst nodes b first → IsTrail nodes (final_outside s r).outcome b f stands children)
+    → (f : FiberView Facts) (last : Option NodeId) (stands : List Stand) (children : List (FiberView Facts)) → IsWhole nodes (final_outside s r) x f
+    → ((b : Origin) → IsAtFirst nodes b first → IsTrail nodes (final_outside s r).outcome b f last stands children)
     → IsUnderWay nodes s r xs told old → IsUnderWay nodes s r (xs ++ x ∷ []) (told ++ stands ∷ []) (new ++ children)
-goes_on nodes s r xs told old new x first is out f stands children whole trail way =
+goes_on nodes s r xs told old new x first is out f last stands children whole trail way =
     let begun = way.begun first out.was_there in
-    goes_on_from nodes s r xs told old new x first is out f stands children whole way begun.0 begun.1 (trail begun.0 begun.1)
+    goes_on_from nodes s r xs told old new x first is out f last stands children whole way begun.0 begun.1 (trail begun.0 begun.1)
 
 -- at first the main fiber waits alone
 pub begins : (nodes : List Node) (s : ScriptView) (r : ReportView) (main : FiberView Facts) → IsChild nodes 0 (main_origin s.term) main

@@ -9,9 +9,9 @@ use Rattle.fx_model.specs.Outside.{Outside, can_step}
 use Rattle.fx_model.specs.LawfulReport.{HasRuns}
 use Rattle.fx_model.specs.Report.{FiberReportView, ReportView, final_outside}
 use Rattle.fx_model.specs.Row.{Counts, Label, Starts}
-use Rattle.fx_model.specs.Run.{first_counts, events}
-use Rattle.fx_model.specs.Step.{Progress, Runs, has_ended}
-use Rattle.fx_follow.specs.Trails.{LeadsTelling, LearnsFrom}
+use Rattle.fx_model.specs.Run.{events}
+use Rattle.fx_model.specs.Step.{Progress, has_ended}
+use Rattle.fx_follow.specs.Trails.{IsRunTelling, LearnsFrom}
 use Rattle.fx_follow.specs.declared.stand.Stand.{Stand}
 
 -- the run of one fiber: its number, what it began with, its labels, and where they lead
@@ -26,7 +26,7 @@ pub record FiberRun : Type 0 where
 -- where the report says so, at its end the fiber cannot step, and it learns how fibers ended as the report tells
 pub record IsFollowed (nodes : List Node) (o : Outside) (x : FiberReportView) (stands : List Stand) (run : FiberRun) : Type 0 where
   pub number : run.number ≡ x.id
-  pub leads : LeadsTelling nodes (first_counts run.origin) (Runs run.origin.term) run.labels stands run.counts run.progress
+  pub leads : IsRunTelling nodes run.origin run.labels stands run.counts run.progress
   pub trace : events run.labels ≡ x.trace
   pub state : has_ended run.progress ≡ x.has_ended
   pub unable : can_step o x.id run.counts run.progress ≡ false
@@ -63,8 +63,7 @@ stands_of told = map (λ (stands : Vec Stand). stands.items) told
 abbrev pub AreToldOf : List Node → {s : ScriptView} {r : ReportView} → HasRuns s r → List FiberReportView → List (List Stand) → Type 0
 AreToldOf nodes runs [] [] = Unit {0}
 AreToldOf nodes runs (x ∷ xs) (stands ∷ rest) =
-    LeadsTelling nodes (first_counts (runs.origin x.id)) (Runs (runs.origin x.id).term) (runs.labels x.id) stands (runs.counts x.id) (runs.progress x.id)
-    × AreToldOf nodes runs xs rest
+    IsRunTelling nodes (runs.origin x.id) (runs.labels x.id) stands (runs.counts x.id) (runs.progress x.id) × AreToldOf nodes runs xs rest
 AreToldOf nodes runs _ _ = ⊥
 
 -- of all fibers of the report

@@ -1,3 +1,5 @@
 pub mod Trails
 pub mod Followed
+pub mod Places
+pub mod ShowsFrom
 pub mod Waiting

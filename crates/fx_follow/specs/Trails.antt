@@ -1,6 +1,7 @@
--- The steps of a fiber, one after the other, with where it stood before each one that shows an event.
-use Rattle.std.specs.Prelude.{◌≡◌, ℕ, false, Option, Some, MatchOption, All, List, [], ◌∷◌, ◌++◌}
+-- The steps of a fiber, one after the other, with where it stood before each one that shows an event, and of whose end it learned there.
+use Rattle.std.specs.Prelude.{◌≡◌, ℕ, false, Option, Some, None, MatchOption, All, List, [], ◌∷◌, ◌++◌}
 use Rattle.fx_term.specs.declared.node.Node.{Node}
+use Rattle.fx_term.specs.declared.node.NodeId.{NodeId}
 use Rattle.fx_term.specs.declared.outcome.Outcome.{Outcome}
 use Rattle.fx_term.specs.Lists.{Among}
 use Rattle.fx_model.specs.Origin.{Origin}
@@ -12,24 +13,42 @@ use Rattle.fx_model.specs.Step.{Progress, Runs, Step, has_ended, leaf_at}
 use Rattle.fx_fiber.specs.Fiber.{FiberView, progress, IsAtFirst}
 use Rattle.fx_fiber.specs.NodePlaces.{is_open_at, IsPlaceOf, HasNoNode}
 use Rattle.fx_fiber.specs.PortFacts.{Facts}
+use Rattle.fx_plain.specs.ToldRun.{learned_by}
 use Rattle.fx_follow.specs.declared.stand.Stand.{Stand}
 
--- a fiber that is so far stands there: at that node of the code, with some numbers for its names, and at an open place or not
-pub record IsStandAt (nodes : List Node) (p : Progress) (stand : Stand) : Type 0 where
-  pub node : MatchOption stand.node (HasNoNode (leaf_at p)) (λ id. (numbers : List ℕ) × IsPlaceOf nodes numbers (leaf_at p) id)
+-- that is the node where a fiber stands that is so far: one of the code, with some numbers for its names; or none, where its place has none of its own
+abbrev pub IsNodeAt : List Node → Progress → Option NodeId → Type 0
+IsNodeAt nodes p here = MatchOption here (HasNoNode (leaf_at p)) (λ id. (numbers : List ℕ) × IsPlaceOf nodes numbers (leaf_at p) id)
+
+-- the last node at which a fiber stood that stands here now: the one here, or, where its place has none of its own, the last one before
+abbrev pub last_node_after : Option NodeId → Option NodeId → Option NodeId
+last_node_after before None = before
+last_node_after before (Some id) = Some id
+
+-- What is told of a step with this label, of a fiber that is so far, and stood last at that node before: the node where it stands; that one or, where the
+-- place has none of its own, the one before; whether the place is open; and of whose end the step learns
+pub record IsStandAt (nodes : List Node) (p : Progress) (before : Option NodeId) (l : Label) (stand : Stand) : Type 0 where
+  pub node : IsNodeAt nodes p stand.node
+  pub last_node : stand.last_node ≡ last_node_after before stand.node
   pub is_open : stand.is_open ≡ is_open_at p
+  pub learned : stand.learned ≡ learned_by l
 
--- what is told of a step with this label from there: where its fiber stood, if it shows an event
-abbrev pub TellsStep : List Node → Progress → Label → List Stand → Type 0
-TellsStep nodes p Silent stands = stands ≡ []
-TellsStep nodes p l stands = (stand : Stand) × (stands ≡ stand ∷ []) × IsStandAt nodes p stand
+-- What is told of a step with this label from there, if it shows an event, of a fiber whose last node is the one before it and the other one after it. Of a
+-- silent step nothing is told, but it is made at some place, too, whose node counts
+abbrev pub TellsStep : List Node → Progress → Option NodeId → Label → List Stand → Option NodeId → Type 0
+TellsStep nodes p before Silent stands after = (stands ≡ []) × (here : Option NodeId) × IsNodeAt nodes p here × (after ≡ last_node_after before here)
+TellsStep nodes p before l stands after = (stand : Stand) × (stands ≡ stand ∷ []) × IsStandAt nodes p before l stand × (after ≡ stand.last_node)
 
--- from these counts and this progress the steps with these labels lead to those, and that is told of them
-abbrev pub LeadsTelling : List Node → Counts → Progress → List Label → List Stand → Counts → Progress → Type 0
-LeadsTelling nodes c p [] stands d q = (stands ≡ []) × (d ≡ c) × (q ≡ p)
-LeadsTelling nodes c p (l ∷ ls) stands d q =
-    (e : Counts) × (m : Progress) × (here : List Stand) × (rest : List Stand) × Step c p l e m × TellsStep nodes p l here
-    × (stands ≡ here ++ rest) × LeadsTelling nodes e m ls rest d q
+-- from these counts, this progress and this last node the steps with these labels lead to those, and that is told of them
+abbrev pub LeadsTelling : List Node → Counts → Progress → Option NodeId → List Label → List Stand → Counts → Progress → Option NodeId → Type 0
+LeadsTelling nodes c p before [] stands d q after = (stands ≡ []) × (d ≡ c) × (q ≡ p) × (after ≡ before)
+LeadsTelling nodes c p before (l ∷ ls) stands d q after =
+    (e : Counts) × (m : Progress) × (last : Option NodeId) × (here : List Stand) × (rest : List Stand) × Step c p l e m
+    × TellsStep nodes p before l here last × (stands ≡ here ++ rest) × LeadsTelling nodes e m last ls rest d q after
+
+-- a fiber that begins so comes there by the steps with these labels, and that is told of them; before the first one it had stood at no node
+abbrev pub IsRunTelling : List Node → Origin → List Label → List Stand → Counts → Progress → Type 0
+IsRunTelling nodes b ls stands d q = (last : Option NodeId) × LeadsTelling nodes (first_counts b) (Runs b.term) None ls stands d q last
 
 -- a step that learns how a fiber ended learns what these outcomes say
 abbrev pub LearnsFrom : (ℕ → Option Outcome) → Label → Type 0
@@ -50,11 +69,12 @@ abbrev pub StartsOneOf : List Node → List (FiberView Facts) → Label → Type
 StartsOneOf nodes children (Starts g b) = (child : FiberView Facts) × Among child children × IsChild nodes g b child
 StartsOneOf nodes children _ = Unit {0}
 
--- A fiber that began so came to where it stands by steps that learn what these outcomes say and start these fibers, and that is told of them
-pub record IsTrail (nodes : List Node) (outcome : ℕ → Option Outcome) (b : Origin) (f : FiberView Facts) (stands : List Stand)
+-- A fiber that began so came to where it is by steps that learn what these outcomes say and start these fibers, and that is told of them. That is the last
+-- node at which it stood before one of them
+pub record IsTrail (nodes : List Node) (outcome : ℕ → Option Outcome) (b : Origin) (f : FiberView Facts) (last : Option NodeId) (stands : List Stand)
     (children : List (FiberView Facts)) : Type 0 where
   pub labels : List Label
-  pub leads : LeadsTelling nodes (first_counts b) (Runs b.term) labels stands f.counts (progress nodes f)
+  pub leads : LeadsTelling nodes (first_counts b) (Runs b.term) None labels stands f.counts (progress nodes f) last
   pub trace : events labels ≡ f.trace
   pub learnt : All (LearnsFrom outcome) labels
   pub starts : All (StartsOneOf nodes children) labels

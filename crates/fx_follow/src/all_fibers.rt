@@ -127,11 +127,12 @@ fn follow_named<J: CodeBrand>(
     Ok(Some(told))
 }
 
-/// Where the fibers of a report stood before each step that showed an event of their traces: fiber by fiber, in the order of the
-/// report, and event by event. It is told by runs that have these traces and ends, and come to what is left: each fiber is made
-/// to step again from what it began with, and is answered what its trace says. A trace does not tell at which open place a
-/// request was seen, so these are tried one after the other, and another run may have seen it elsewhere. None where no such run
-/// is found: a report that is not lawful has none, and 20,000,000 steps are made at the most.
+/// Where the fibers of a report stood before each step that showed an event of their traces, and of whose ends they learned by
+/// it: fiber by fiber, in the order of the report, and event by event. It is told by runs that have these traces and ends, and
+/// come to what is left: each fiber is made to step again from what it began with, and is answered what its trace says. A trace
+/// does not tell at which open place a request was seen, so these are tried one after the other, and another run may have seen
+/// it elsewhere. None where no such run is found: a report that is not lawful has none, and 20,000,000 steps are made at the
+/// most.
 pub fn follow(
     alloc: Global,
     script: &Script,

@@ -1,6 +1,6 @@
-//! Where the fibers of a report stood as they showed their events. A report keeps no places, since a run on threads would
-//! pay for each; but a fiber's steps hang on nothing else than on what it began with and what it was answered, and its trace
-//! tells that. So each fiber is made to step again along its trace.
+//! Where the fibers of a report stood as they showed their events, and of whose ends they learned. A report keeps no places,
+//! since a run on threads would pay for each; but a fiber's steps hang on nothing else than on what it began with and what it
+//! was answered, and its trace tells that. So each fiber is made to step again along its trace.
 //!
 //! Its rules:
 //!
@@ -9,7 +9,9 @@
 //!    runs, too ([`laws`]).
 //! 2. Where a request was seen a trace tells only between two events. A fiber sees one once, so the open places
 //!    between these are tried in turn, until the rest of the trace is found.
-//! 3. Nothing is told of a report in which one fiber cannot be followed.
+//! 3. Where a place has no node of its own, the last node is told at which the fiber stood before, by silent steps too
+//!    ([`Stand`]).
+//! 4. Nothing is told of a report in which one fiber cannot be followed.
 #![tactic(auto)]
 
 mod all_fibers;

@@ -105,8 +105,8 @@ fn advance_to<J: CodeBrand>(
     requires going { has_ended (progress J.nodes trail.old.fiber) ≡ false }
     ensures trail { IfOk result (λ _. (outcome : ℕ → Option Outcome) (b : Origin)
         → ((g : ℕ) (o : Outcome) → outcome_told answers.old g ≡ Some o → outcome g ≡ Some o)
-        → IsTrail J.nodes outcome b trail.old.fiber trail.old.stands.items trail.old.children.items
-        → IsTrail J.nodes outcome b trail.new.fiber trail.new.stands.items trail.new.children.items) }
+        → IsTrail J.nodes outcome b trail.old.fiber trail.old.last_node trail.old.stands.items trail.old.children.items
+        → IsTrail J.nodes outcome b trail.new.fiber trail.new.last_node trail.new.stands.items trail.new.children.items) }
     ensures goes { IfOk result (λ advanced. advanced ≢ IsBlocked) }
     ensures outcomes { IfOk result (λ _. answers.new.outcomes ≡ answers.old.outcomes) }
 {
@@ -132,8 +132,8 @@ fn advance_past<J: CodeBrand>(
     requires asked { is_asked ≡ is_requested_in report.now reported.now.id }
     ensures trail { IfOk result (λ _. (outcome : ℕ → Option Outcome) (b : Origin)
         → ((g : ℕ) (o : Outcome) → outcome_told answers.old g ≡ Some o → outcome g ≡ Some o)
-        → IsTrail J.nodes outcome b trail.old.fiber trail.old.stands.items trail.old.children.items
-        → IsTrail J.nodes outcome b trail.new.fiber trail.new.stands.items trail.new.children.items) }
+        → IsTrail J.nodes outcome b trail.old.fiber trail.old.last_node trail.old.stands.items trail.old.children.items
+        → IsTrail J.nodes outcome b trail.new.fiber trail.new.last_node trail.new.stands.items trail.new.children.items) }
     ensures blocked { IfOk result (λ advanced. advanced ≡ IsBlocked
         → can_step (final_outside (script_of (meaning script.now)) report.now) reported.now.id
         trail.new.fiber.counts (progress J.nodes trail.new.fiber) ≡ false) }
@@ -162,8 +162,8 @@ fn advance<J: CodeBrand>(
     requires asked { is_asked ≡ is_requested_in report.now reported.now.id }
     ensures trail { IfOk result (λ _. (outcome : ℕ → Option Outcome) (b : Origin)
         → ((g : ℕ) (o : Outcome) → outcome_told answers.old g ≡ Some o → outcome g ≡ Some o)
-        → IsTrail J.nodes outcome b trail.old.fiber trail.old.stands.items trail.old.children.items
-        → IsTrail J.nodes outcome b trail.new.fiber trail.new.stands.items trail.new.children.items) }
+        → IsTrail J.nodes outcome b trail.old.fiber trail.old.last_node trail.old.stands.items trail.old.children.items
+        → IsTrail J.nodes outcome b trail.new.fiber trail.new.last_node trail.new.stands.items trail.new.children.items) }
     ensures blocked { IfOk result (λ advanced. advanced ≡ IsBlocked
         → can_step (final_outside (script_of (meaning script.now)) report.now) reported.now.id
         trail.new.fiber.counts (progress J.nodes trail.new.fiber) ≡ false) }
@@ -203,7 +203,7 @@ fn follow_once<J: CodeBrand>(
         IsWhole J.nodes (final_outside (script_of (meaning script.now)) report.now) reported.now trail.fiber)) }
     ensures trail { IfOk result (λ made. IfSome made (λ trail. (b : Origin) → IsAtFirst J.nodes b first
         → IsTrail J.nodes (final_outside (script_of (meaning script.now)) report.now).outcome b
-        trail.fiber trail.stands.items trail.children.items)) }
+        trail.fiber trail.last_node trail.stands.items trail.children.items)) }
     ensures outcomes { IfOk result (λ _. answers.new.outcomes ≡ answers.old.outcomes) }
 {
     let mut trail = Trail::of(alloc, first);
@@ -273,7 +273,7 @@ pub(crate) fn follow_fiber<J: CodeBrand>(
         IsWhole J.nodes (final_outside (script_of (meaning script.now)) report.now) reported.now trail.fiber)) }
     ensures trail { IfOk result (λ made. IfSome made (λ trail. (b : Origin) → IsAtFirst J.nodes b first.now
         → IsTrail J.nodes (final_outside (script_of (meaning script.now)) report.now).outcome b
-        trail.fiber trail.stands.items trail.children.items)) }
+        trail.fiber trail.last_node trail.stands.items trail.children.items)) }
     ensures outcomes { IfOk result (λ _. answers.new.outcomes ≡ answers.old.outcomes) }
 {
     let is_asked = is_requested(report, reported.id);

@@ -1,5 +1,5 @@
 //! The way of a fiber along its trace.
-ghost use Rattle.std.specs.Prelude.{◌≡◌, ℕ, nat_lt, false, if◌then◌else◌, Option, Some, IfOk, IfSome, [], ◌∷◌, ◌++◌, length};
+ghost use Rattle.std.specs.Prelude.{◌≡◌, ℕ, false, Option, Some, IfOk, OnOk, IfSome, ◌++◌, length, slice_get};
 ghost use Rattle.fx_term.specs.declared.outcome.Outcome.{Outcome};
 ghost use Rattle.fx_model.specs.Origin.{Origin};
 ghost use Rattle.fx_model.specs.Step.{has_ended};
@@ -7,20 +7,22 @@ ghost use Rattle.fx_model.specs.WaitsFor.{IsWaiting};
 ghost use Rattle.fx_fiber.specs.Fiber.{progress, IsAtFirst};
 ghost use Rattle.fx_fiber.specs.MakesStep.{DoesStep};
 ghost use Rattle.fx_explore.specs.AnswerCalls.{answer_theory, outcome_told};
-ghost use Rattle.fx_follow.specs.Trails.{IsStandAt, IsTrail};
-ghost use Rattle.fx_follow.specs.declared.stand.Stand.{Stand as AnyStand};
+ghost use Rattle.fx_follow.specs.Places.{IsPlaceAt, told_of, KeepsTry};
+ghost use Rattle.fx_follow.specs.Trails.{last_node_after, IsTrail};
+ghost use Rattle.fx_follow.specs.declared.stand.Place.{Place as AnyPlace};
 
-use crate::stand::Stand;
+use crate::stand::{Place, Stand, last_node_after};
 use fx_explore::{AnswerPort, Answers, step_from};
 use fx_fiber::{Fiber, Source, Stepped};
-use fx_term::{Code, CodeBrand, Memory};
+use fx_term::{Code, CodeBrand, Event, Memory, NodeId};
 use std::alloc::Global;
 
-/// A fiber that came to where it stands, where it stood before each step that showed an event, and those that it
-/// started, before their first steps.
+/// A fiber that came to where it is, the last node at which it stood before a step, what is told of each step that showed
+/// an event, and those that it started, before their first steps.
 #[derive(Drop)]
 pub(crate) struct Trail<J: CodeBrand> {
     pub(crate) fiber: Fiber<AnswerPort<J>>,
+    pub(crate) last_node: Option<NodeId>,
     pub(crate) stands: Vec<Stand>,
     pub(crate) children: Vec<Fiber<AnswerPort<J>>>,
 }
@@ -31,10 +33,11 @@ impl<J: CodeBrand> Trail<J> {
     pub fn of(alloc: Global, fiber: Fiber<AnswerPort<J>>) -> Trail<J>
         ensures fiber { result.fiber ≡ fiber }
         ensures trail { (outcome : ℕ → Option Outcome) (b : Origin) → IsAtFirst J.nodes b fiber
-            → IsTrail J.nodes outcome b result.fiber result.stands.items result.children.items }
+            → IsTrail J.nodes outcome b result.fiber result.last_node result.stands.items result.children.items }
     {
         Trail {
             fiber,
+            last_node: None,
             stands: Vec::new(alloc),
             children: Vec::new(alloc),
         }
@@ -51,7 +54,8 @@ impl<J: CodeBrand> Trail<J> {
         requires going { has_ended (progress J.nodes self.old.fiber) ≡ false }
         ensures step { IfOk result (λ answer. DoesStep (answer_theory J.nodes) self.old.fiber answers.old answer
             self.new.fiber answers.new) }
-        ensures same { (self.new.stands ≡ self.old.stands) × (self.new.children ≡ self.old.children) }
+        ensures same { (self.new.last_node ≡ self.old.last_node) × (self.new.stands ≡ self.old.stands)
+            × (self.new.children ≡ self.old.children) }
     {
         if !answers.keeps_back {
             return self.fiber.step(code, answers);
@@ -61,7 +65,29 @@ impl<J: CodeBrand> Trail<J> {
         Ok(answer)
     }
 
-    /// Makes a step of the fiber by these answers, and keeps where it stood if the step showed an event.
+    /// The event at this place of the fiber's trace, if there is one.
+    fn event(&self, place: usize) -> Option<Event>
+        ensures { result ≡ slice_get self.now.fiber.trace place }
+    {
+        let stamped = self.fiber.trace().get(place)?;
+        Some(stamped.event)
+    }
+
+    /// Keeps what there is to tell of a step that was made from this place, by a fiber that had shown so many events.
+    fn keep(&mut self, place: Place, shown: usize) -> Result<(), Memory>
+        ensures last { self.new.last_node ≡ last_node_after self.old.last_node place.node }
+        ensures stands { OnOk result (self.new.stands.items ≡ self.old.stands.items
+            ++ told_of place self.new.last_node (slice_get self.old.fiber.trace shown)) }
+        ensures same { (self.new.fiber ≡ self.old.fiber) × (self.new.children ≡ self.old.children) }
+    {
+        self.last_node = last_node_after(self.last_node, place.node);
+        if let Some(event) = self.event(shown) {
+            self.stands.push(place.stand(self.last_node, event))?;
+        }
+        Ok(())
+    }
+
+    /// Makes a step of the fiber by these answers, and keeps what there is to tell of it, if the fiber does not wait.
     fn step_told(
         &mut self,
         code: &Code,
@@ -71,16 +97,16 @@ impl<J: CodeBrand> Trail<J> {
         requires going { has_ended (progress J.nodes self.old.fiber) ≡ false }
         ensures step { IfOk result (λ answer. DoesStep (answer_theory J.nodes) self.old.fiber answers.old answer
             self.new.fiber answers.new) }
-        ensures stands { IfOk result (λ _. (stand : AnyStand) × IsStandAt J.nodes (progress J.nodes self.old.fiber) stand
-            × (self.new.stands.items ≡ self.old.stands.items
-            ++ (if nat_lt (length self.old.fiber.trace) (length self.new.fiber.trace) then stand ∷ [] else []))) }
+        ensures kept { IfOk result (λ answer. (place : AnyPlace) × IsPlaceAt J.nodes (progress J.nodes self.old.fiber) place
+            × KeepsTry answer place (slice_get self.new.fiber.trace (length self.old.fiber.trace))
+            self.old.last_node self.old.stands.items self.new.last_node self.new.stands.items) }
         ensures children { self.new.children ≡ self.old.children }
     {
-        let stand = Stand::of(&self.fiber, code);
+        let place = Place::of(&self.fiber, code);
         let shown = self.fiber.trace().len();
         let answer = self.stepped(code, answers)?;
-        if self.fiber.trace().len() > shown {
-            self.stands.push(stand)?;
+        if !matches!(answer, Stepped::Waits(_)) {
+            self.keep(place, shown)?;
         }
         Ok(answer)
     }
@@ -91,8 +117,8 @@ impl<J: CodeBrand> Trail<J> {
         requires going { has_ended (progress J.nodes self.old.fiber) ≡ false }
         ensures trail { IfOk result (λ _. (outcome : ℕ → Option Outcome) (b : Origin)
             → ((g : ℕ) (o : Outcome) → outcome_told answers.old g ≡ Some o → outcome g ≡ Some o)
-            → IsTrail J.nodes outcome b self.old.fiber self.old.stands.items self.old.children.items
-            → IsTrail J.nodes outcome b self.new.fiber self.new.stands.items self.new.children.items) }
+            → IsTrail J.nodes outcome b self.old.fiber self.old.last_node self.old.stands.items self.old.children.items
+            → IsTrail J.nodes outcome b self.new.fiber self.new.last_node self.new.stands.items self.new.children.items) }
         ensures waits { IfOk result (λ waits. IfSome waits (IsWaiting answers.old.is_requested self.new.fiber.counts
             (progress J.nodes self.new.fiber))) }
         ensures outcomes { IfOk result (λ _. answers.new.outcomes ≡ answers.old.outcomes) }

@@ -1,4 +1,5 @@
-//! What is told of the fibers of a replay's report: where its steps stood that showed their events.
+//! What is told of the fibers of a replay's report: where its steps stood that showed their events, and of whose ends they
+//! learned.
 
 use fx_follow::{Stand, follow};
 use fx_plain::{Told, replay, tell_run};
@@ -6,15 +7,22 @@ use fx_text::{parse, schedule};
 use std::alloc::Global;
 use std::test::Fail;
 
-/// Where this fiber stood by the steps of a replay that showed its events.
+/// Where this fiber stood by the steps of a replay that showed its events, and of whose ends it learned. Its last node is also
+/// that of a step that showed none.
 fn stands_of_steps(alloc: Global, fiber: u32, told: &[Told]) -> Result<Vec<Stand>, Fail> {
     let mut stands = Vec::new(alloc);
+    let mut last_node = None;
     for next in told {
         if let Told::Step(made) = next {
+            if made.fiber == fiber {
+                last_node = made.node.or(last_node);
+            }
             if made.fiber == fiber && made.event.is_some() {
                 stands.push(Stand {
                     node: made.node,
+                    last_node,
                     is_open: made.is_open,
+                    learned: made.learned,
                 })?;
             }
         }
@@ -22,12 +30,16 @@ fn stands_of_steps(alloc: Global, fiber: u32, told: &[Told]) -> Result<Vec<Stand
     Ok(stands)
 }
 
+/// Whether the same is told of a step.
+fn is_same(one: Stand, other: Stand) -> bool {
+    one.node == other.node
+        && one.last_node == other.last_node
+        && one.is_open == other.is_open
+        && one.learned == other.learned
+}
+
 fn are_same(one: &[Stand], other: &[Stand]) -> bool {
-    one.len() == other.len()
-        && one
-            .iter()
-            .zip(other.iter())
-            .all(|(a, b)| a.node == b.node && a.is_open == b.is_open)
+    one.len() == other.len() && one.iter().zip(other.iter()).all(|(a, b)| is_same(*a, *b))
 }
 
 /// What is told of the fibers of a replay.
@@ -35,9 +47,9 @@ fn are_same(one: &[Stand], other: &[Stand]) -> bool {
 enum Found {
     /// Nothing.
     Nothing,
-    /// That this one stood elsewhere than it did.
+    /// That this one stood elsewhere than it did, or learned of another end.
     Elsewhere(u32),
-    /// Where they stood, of so many.
+    /// Where they stood and of whose ends they learned, of so many.
     Rightly(usize),
 }
 
@@ -58,7 +70,7 @@ fn told_of(alloc: Global, text: &str, picks: &str) -> Result<Found, Fail> {
 }
 
 /// Scripts, schedules, and how many fibers they have.
-static ROWS: [(&str, &str, &str, usize); 12] = [
+static ROWS: [(&str, &str, &str, usize); 16] = [
     ("a fiber alone", "(main (raise 5))", "", 1),
     (
         "a worker that is canceled where it waits, with its release",
@@ -85,9 +97,33 @@ static ROWS: [(&str, &str, &str, usize); 12] = [
         3,
     ),
     (
+        "the right one of two fibers, of which the left one does not end",
+        "(main (start a (never) (start b (pure 2) (first a b))))",
+        "0 0 2 2 0",
+        3,
+    ),
+    (
+        "a join of a fiber that raises",
+        "(main (start h (raise 4) (join h (x (pure x)) (e (pure e)) (canceled))))",
+        "0 1 1 0",
+        2,
+    ),
+    (
         "a mask that its poll opens",
         "(main (start w (mask p (seq (cede) (poll p (never)))) (cancel w)))",
         "0 1 1 1 1 1 1 1 1",
+        2,
+    ),
+    (
+        "a request that is seen inside a poll at the result of what came before",
+        "(queue q 1) (main (start w (mask p (poll p (seq (offer q 1) (pure 2)))) (cancel w)))",
+        "0 1 1 1 0 1",
+        2,
+    ),
+    (
+        "an end behind a finalizer whose last steps show nothing",
+        "(queue q 1) (main (start w (oncancel (never) (seq (offer q 1) (pure 2))) (cancel w)))",
+        "0 1 0 1 1 1 1 1 1 1",
         2,
     ),
     (

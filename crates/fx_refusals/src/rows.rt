@@ -107,7 +107,7 @@ static OF_TWO: [Line; 2] = [
 ];
 
 /// Those of each worked script.
-static OF_WORKED: [Line; 18] = [
+static OF_WORKED: [Line; 19] = [
     ("parse", "", Row::Text(TextCall::Parse)),
     (
         "PlainWorld::new",
@@ -128,6 +128,11 @@ static OF_WORKED: [Line; 18] = [
         "format_picture",
         "",
         Row::OnScript(OnScript::Text(ScriptCall::Draw)),
+    ),
+    (
+        "ran_events",
+        "",
+        Row::OnScript(OnScript::Text(ScriptCall::Find)),
     ),
     (
         "write_report",

@@ -11,6 +11,7 @@ use fx_fiber::Report;
 use fx_findings::{Compared, Nobody, compare, explore};
 use fx_picture::{PictureFault, format_picture};
 use fx_plain::{ENDED, OutFault, Told, replay, tell_run, write_report, write_trace};
+use fx_run_events::{RanEvent, counts_told, ran_events, stands_told};
 use fx_term::Memory;
 use fx_text::Script;
 use std::alloc::Global;
@@ -25,6 +26,8 @@ pub enum ScriptCall {
     Compare,
     /// The report is drawn.
     Draw,
+    /// What its events are is found again.
+    Find,
     /// The writer of this.
     Write(Printed),
 }
@@ -102,6 +105,27 @@ fn draws(alloc: Global, given: &Given, refuser: &Refuser) -> Answer {
     }
 }
 
+/// What is found of the events of the report.
+fn found_of(alloc: Global, script: &Script, report: &Report) -> Result<Vec<RanEvent>, Memory> {
+    let told = stands_told(alloc, script, report)?;
+    let counted = counts_told(alloc, script, report)?;
+    Ok(ran_events(alloc, &told, &counted, report)?)
+}
+
+/// What the finding answers, which is to be all events, and where each fiber stood.
+fn finds(alloc: Global, given: &Given, refuser: &Refuser) -> Answer {
+    refuser.go_on();
+    let found = found_of(alloc, &given.script, &given.report);
+    refuser.hold();
+    match found {
+        Ok(events) => whole_where(
+            events.len() == events_reported(&given.report)
+                && events.iter().all(|event| event.stand.is_some()),
+        ),
+        Err(Memory) => Answer::Memory,
+    }
+}
+
 /// What a writer answered that has written this, and was to write that.
 fn came_to(answer: Result<(), OutFault>, written: &[u8], text: &str) -> Answer {
     match answer {
@@ -166,6 +190,7 @@ pub fn made(
         ScriptCall::Tell => tells(alloc, given, refuser),
         ScriptCall::Compare => compares(alloc, given, on.report, refuser),
         ScriptCall::Draw => draws(alloc, given, refuser),
+        ScriptCall::Find => finds(alloc, given, refuser),
         ScriptCall::Write(printed) => written(alloc, given, on, printed, refuser),
     }
 }

@@ -1,4 +1,4 @@
-use Rattle.fx_command.specs.RanEvents.{ran_events}
+use Rattle.fx_run_events.specs.RanEvents.{ran_events}
 use Rattle.fx_command.proofs.NamedInRun.{named_in, each_named}
 use Rattle.fx_command.proofs.laws.names_of_a_run_are_those_of_starts.Goals as goal
 

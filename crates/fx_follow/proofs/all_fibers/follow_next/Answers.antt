@@ -19,5 +19,5 @@ returns-clause-way g c = λ xs told way.
     (told ++ trail.stands.items ∷ []) waiting)
     (sym c.in_ok-append.ensures.items)
     (goes_on g.J.CodeBrand.nodes s c.args.report.now xs told c.args.waiting.now.items c.take_out.new.waiting.items c.args.reported.now c.in-Some.first
-    (c.in-Some.ensures.0 ∙ ap (λ (x : FiberReportView). x.id) c.reported.view_is) c.in-Some.ensures.1 trail.fiber trail.stands.items trail.children.items
-    whole leads way)
+    (c.in-Some.ensures.0 ∙ ap (λ (x : FiberReportView). x.id) c.reported.view_is) c.in-Some.ensures.1 trail.fiber trail.last_node trail.stands.items
+    trail.children.items whole leads way)

@@ -10,6 +10,7 @@ use Rattle.fx_follow.proofs.one_fiber.follow_once.Given as goal
 abbrev pub invariant-loop-step : goal.invariant-loop-step
 invariant-loop-step g l = record {
   trail : (b : Origin) → IsAtFirst g.J.CodeBrand.nodes b l.fn.first
-      → IsTrail g.J.CodeBrand.nodes (final_outside (script_of (meaning l.script)) l.report).outcome b l.trail.fiber l.trail.stands.items l.trail.children.items;
+      → IsTrail g.J.CodeBrand.nodes (final_outside (script_of (meaning l.script)) l.report).outcome b l.trail.fiber l.trail.last_node l.trail.stands.items
+      l.trail.children.items;
   outcomes : l.answers.outcomes ≡ l.fn.answers.outcomes;
 }

@@ -1,0 +1,5 @@
+pub mod Found
+pub mod SolePuts
+pub mod Causes
+pub mod RanEvents
+pub mod CausesTold
