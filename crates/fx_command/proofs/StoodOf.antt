@@ -23,7 +23,7 @@ use Rattle.fx_follow.specs.Followed.{FiberRun, IsFollowed, AreEach, AreFollowed}
 use Rattle.fx_follow.proofs.ShowsFrom.{shows_at}
 use Rattle.fx_picture.specs.Stood.{stood_at}
 use Rattle.fx_run_events.specs.declared.ran_event.RanEvent.{RanEvent}
-use Rattle.fx_run_events.specs.Found.{IsByStamp}
+use Rattle.fx_run_events.specs.Found.{IsInOwnOrder}
 use Rattle.fx_run_events.specs.RanEvents.{counts_of, ran_events, held_by}
 use Rattle.fx_run_events.specs.SolePuts.{known_puts}
 use Rattle.fx_run_events.proofs.CountsTold.{told_in_list}
@@ -103,10 +103,10 @@ module _ (nodes : List Node) (s : ScriptView) (may : ℕ → Bool) (r : ReportVi
 
 -- what is told of an event at its queue is what is told of that event in the list
 pub held_so : (s : ScriptView) (may : ℕ → Bool) (r : ReportView) (list : List Occurrence) (counts : List (Option AtQueue)) → IsStampedReport s may r
-    → IsBelowTop (trace_in r) (stamp_in r) → IsByStamp r list → (places : List FormPlace) (told : List (List Stand)) (f i : ℕ) (e : Event)
+    → IsBelowTop (trace_in r) (stamp_in r) → IsInOwnOrder r list → (places : List FormPlace) (told : List (List Stand)) (f i : ℕ) (e : Event)
     → slice_get (trace_in r f) i ≡ Some e → IsHeldSo (stood_of_run places told list counts r.fibers) list counts f i e
-held_so s may r list counts report below by_stamp places told f i e at =
-    let order = by_stamp.causes s may report below in
+held_so s may r list counts report below in_order places told f i e at =
+    let order = in_order.keeps s may report below in
     let lawful = report.stamped.lawful in
     record {
       at = order.moment f i;
@@ -114,5 +114,5 @@ held_so s may r list counts report below by_stamp places told f i e at =
       stands = order.stands f i e at;
       told = _;
       told_so = told_so s may r lawful places told list counts f i e at;
-      held = ap held_by (told_in_list s may r lawful list counts by_stamp order f i e at);
+      held = ap held_by (told_in_list s may r lawful list counts order f i e at);
     }

@@ -38,7 +38,7 @@ ghost use Rattle.fx_follow.specs.declared.stand.Stand.{Stand};
 ghost use Rattle.fx_follow.specs.Followed.{AreFollowed};
 ghost use Rattle.fx_counts.specs.declared.at_queue.AtQueue.{AtQueue};
 ghost use Rattle.fx_run_events.specs.declared.ran_event.RanEvent.{RanEvent};
-ghost use Rattle.fx_run_events.specs.Found.{IsByStamp, AreFollowedOrNone, AreCountedOrNone};
+ghost use Rattle.fx_run_events.specs.Found.{IsInOwnOrder, AreFollowedOrNone, AreCountedOrNone};
 ghost use Rattle.fx_run_events.specs.RanEvents.{ran_events, node_stood};
 ghost use Rattle.fx_command.specs.HandlesTold.{named_told, named_of_run, IsNamedBy};
 ghost use Rattle.fx_command.specs.IsHeldSo.{IsHeldSo};
@@ -163,7 +163,7 @@ pub fn told_stands_are_those_of_events()
 /// of that event in the list of all events. The report has the stamps of the definition, of which none is the greatest number.
 pub fn told_counts_are_those_of_events()
     ensures { (s : ScriptView) (may : ℕ → Bool) (r : ReportView) (list : List Occurrence) (counts : List (Option AtQueue))
-        → IsStampedReport s may r → IsBelowTop (trace_in r) (stamp_in r) → IsByStamp r list
+        → IsStampedReport s may r → IsBelowTop (trace_in r) (stamp_in r) → IsInOwnOrder r list
         → (places : List FormPlace) (told : List (List Stand)) (f i : ℕ) (e : Event)
         → slice_get (trace_in r f) i ≡ Some e
         → IsHeldSo (stood_of_run places told list counts r.fibers) list counts f i e }

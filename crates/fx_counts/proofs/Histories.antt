@@ -3,7 +3,6 @@ use Rattle.std.proofs.Common.{◌≡◌, ℕ, zero, suc, ◌+◌, ◌-◌, ◌<�
 use Rattle.std.proofs.Common.{subst, arith, inl, inr, ◌⊎◌}
 use Rattle.std.specs.Prelude.{◌==◌, map, slice_get, slice_index_or, if◌then◌else◌}
 use Rattle.std.specs.List.{filter, flat_map, cons_option, find, AllPairs}
-use Rattle.std.specs.List.Sorted.{IsPermutation}
 use Rattle.std.proofs.lemmas.Bool.{cases_eq, eqb-true, eqb-false, eq-eqb, ne_eqb, true≢false}
 use Rattle.std.proofs.lemmas.List.{length-append}
 use Rattle.std.proofs.lemmas.List.Elements.{filter-append}
@@ -20,10 +19,10 @@ use Rattle.fx_model.specs.Report.{FiberReportView, ReportView, fiber_in, trace_o
 use Rattle.fx_model.specs.LawfulReport.{HasHistory, IsLawfulReport}
 use Rattle.fx_model.specs.ReportStamps.{stamp_in}
 use Rattle.fx_term.specs.Script.{ScriptView}
-use Rattle.fx_order.specs.CausalOrder.{IsCausalOrder}
 use Rattle.fx_order.specs.declared.occurrence.Occurrence.{Occurrence}
 use Rattle.fx_order.specs.Occurrences.{occurrences_from, occurrences_of, occurrences}
 use Rattle.fx_counts.specs.Counted.{IsHistory, history_in}
+use Rattle.fx_counts.specs.KeepsOrder.{KeepsOrder}
 
 module _ (f : ℕ) where
   abbrev pub is_own : Occurrence → Bool
@@ -213,33 +212,32 @@ module _ (f : ℕ) where
           omega arith
 
   -- the fiber's events stand in the list at their moments
-  pub stands : (s : ScriptView) (may : ℕ → Bool) (r : ReportView) (lawful : IsLawfulReport s may r) (list : List Occurrence)
-      → (order : IsCausalOrder s may r lawful list) → Stand list (trace_in r f) (order.moment f)
-  stands s may r lawful list order = record {
+  pub stands : (r : ReportView) (list : List Occurrence) (keeps : KeepsOrder r list) → Stand list (trace_in r f) (keeps.moment f)
+  stands r list keeps = record {
     each = λ i e is.
-        (record { fiber = f; place = i; event = e; stamp = stamp_in r f i }, order.stands f i e is, refl, refl);
-    rise = λ i j lt within. order.in_order.keeps f i j (omega arith) within lt;
+        (record { fiber = f; place = i; event = e; stamp = stamp_in r f i }, keeps.stands f i e is, refl, refl);
+    rise = λ i j lt within. keeps.rises f i j lt within;
   }
 
   -- the fiber's events in the list of all are its trace
   pub own_events : (s : ScriptView) (may : ℕ → Bool) (r : ReportView) (lawful : IsLawfulReport s may r) (list : List Occurrence)
-      → IsPermutation (occurrences r) list → IsCausalOrder s may r lawful list → events_of (own list) ≡ trace_in r f
-  own_events s may r lawful list whole order =
+      → KeepsOrder r list → events_of (own list) ≡ trace_in r f
+  own_events s may r lawful list keeps =
       let few = no_more r.fibers (AllPairs-from_increasing (ids r.fibers) lawful.starters.ascending) (fiber_in r f) refl in
       let as_many : length (own list) ≡ length (own (occurrences r)) =
-      length-filter is_own list ∙ sum_by-IsPermutation (λ (x : Occurrence). if is_own x then 1 else 0) (occurrences r) list whole
+      length-filter is_own list ∙ sum_by-IsPermutation (λ (x : Occurrence). if is_own x then 1 else 0) (occurrences r) list keeps.each_once
       ∙ sym (length-filter is_own (occurrences r)) in
-      (are list (trace_in r f) (order.moment f) (stands s may r lawful list order)).same (omega arith)
+      (are list (trace_in r f) (keeps.moment f) (stands r list keeps)).same (omega arith)
 
 -- the history of the list is one by which the report is lawful
 pub has_history : (s : ScriptView) (may : ℕ → Bool) (r : ReportView) (lawful : IsLawfulReport s may r) (list : List Occurrence) (q : ℕ)
-    → IsPermutation (occurrences r) list → IsCausalOrder s may r lawful list → IsHistory s.capacities r list q
+    → KeepsOrder r list → IsHistory s.capacities r list q
     → (h : HasHistory r q (capacity_of s q)) × (h.history ≡ history_in q list)
-has_history s may r lawful list q whole order history = (
+has_history s may r lawful list q keeps history = (
   record {
     history = history_in q list;
     leaves = history;
-    cuts = λ f. cut_is f q list ∙ ap (queue_events q f) (own_events f s may r lawful list whole order);
+    cuts = λ f. cut_is f q list ∙ ap (queue_events q f) (own_events f s may r lawful list keeps);
   },
   refl,
 )

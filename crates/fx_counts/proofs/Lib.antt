@@ -4,3 +4,6 @@ pub mod Replays
 pub mod Counted
 pub mod Histories
 pub mod ReportTakes
+pub mod KeepsOrder
+pub mod Rises
+pub mod ByRank

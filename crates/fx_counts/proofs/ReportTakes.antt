@@ -3,7 +3,6 @@ use Rattle.std.proofs.Common.{◌≡◌, ℕ, zero, suc, ◌-◌, ◌<◌, ◌�
 use Rattle.std.proofs.Common.{ap, arith, inl, inr}
 use Rattle.std.specs.Prelude.{◌==◌, map, slice_get, if◌then◌else◌, option_map}
 use Rattle.std.specs.List.{filter}
-use Rattle.std.specs.List.Sorted.{IsPermutation}
 use Rattle.std.proofs.lemmas.Bool.{cases_eq, eq-eqb, ne_eqb}
 use Rattle.std.proofs.lemmas.List.{length-map, map-append, take-append-drop}
 use Rattle.std.proofs.lemmas.List.Elements.{filter-append}
@@ -22,10 +21,9 @@ use Rattle.fx_model.specs.Report.{ReportView, trace_in}
 use Rattle.fx_model.specs.ReportStamps.{stamp_in}
 use Rattle.fx_model.proofs.Appended.{still_at, at_seam}
 use Rattle.fx_model.proofs.Takes.{takes_counted}
-use Rattle.fx_order.specs.CausalOrder.{IsCausalOrder}
 use Rattle.fx_order.specs.declared.occurrence.Occurrence.{Occurrence}
-use Rattle.fx_order.specs.Occurrences.{occurrences}
 use Rattle.fx_counts.specs.Counted.{IsTakenPut, history_in}
+use Rattle.fx_counts.specs.KeepsOrder.{KeepsOrder}
 use Rattle.fx_counts.proofs.Histories.{own, Stand, tail, above, whole, are, stands, own_events, cut_is}
 use Rattle.fx_counts.proofs.TakenPuts.{IsStepAt, get_step, put_step, first_got, got_at, takes_that, past}
 
@@ -87,7 +85,7 @@ abbrev events_of : List Occurrence → List Event
 events_of ls = map (λ (x : Occurrence). x.event) ls
 
 module _ (s : ScriptView) (may : ℕ → Bool) (r : ReportView) (lawful : IsLawfulReport s may r) (list : List Occurrence)
-    (each_once : IsPermutation (occurrences r) list) (order : IsCausalOrder s may r lawful list) where
+    (keeps : KeepsOrder r list) where
   -- event k of the list is that of its place in the trace, and the fiber's events before it in the list are those before it in the trace
   record IsOfTrace (k : ℕ) (x : Occurrence) : Type 0 where
     event : slice_get (trace_in r x.fiber) x.place ≡ Some x.event
@@ -108,14 +106,14 @@ module _ (s : ScriptView) (may : ℕ → Bool) (r : ReportView) (lawful : IsLawf
 
     of_trace : IsOfTrace k x
     of_trace =
-        let trace_is = own_events f s may r lawful list each_once order in
+        let trace_is = own_events f s may r lawful list keeps in
         let as_many : length (own f list) ≡ length (trace_in r f) = sym (length-map (own f list) (λ (y : Occurrence). y.event)) ∙ ap length trace_is in
         let here = own_at f list k x at refl in
         let within = slice_get_within (own f list) n x here in
         let found = event_there (omega arith) in
         let moment =
-        own_of_moments f list (trace_in r f) (order.moment f) (stands f s may r lawful list order) (omega arith) n (omega arith) in
-        let same : x ≡ there found.0 = same_Some x (there found.0) (sym here ∙ moment ∙ order.stands f n found.0 found.1) in
+        own_of_moments f list (trace_in r f) (keeps.moment f) (stands f r list keeps) (omega arith) n (omega arith) in
+        let same : x ≡ there found.0 = same_Some x (there found.0) (sym here ∙ moment ∙ keeps.stands f n found.0 found.1) in
         let place : x.place ≡ n = ap (λ (y : Occurrence). y.place) same in
         let event : x.event ≡ found.0 = ap (λ (y : Occurrence). y.event) same in
         let long : length (events_of (own f (take k list))) ≡ n = length-map (own f (take k list)) (λ (y : Occurrence). y.event) in

@@ -15,7 +15,7 @@ use fx_term::{Event, Item, Memory};
 use std::alloc::Global;
 
 /// What the report has left in the queue of that number.
-fn left_of(report: &Report, queue: usize) -> &[Item]
+pub(crate) fn left_of(report: &Report, queue: usize) -> &[Item]
     ensures { elements_of result.now ≡ left_in report.now queue }
 {
     match report.left.get(queue) {
@@ -26,7 +26,7 @@ fn left_of(report: &Report, queue: usize) -> &[Item]
 
 /// What is told of each event of the list by what the list has of the queue of that number, if that is a legal history with this
 /// rest.
-fn replay(
+pub(crate) fn replay(
     alloc: Global,
     capacity: u32,
     queue: usize,

@@ -6,7 +6,7 @@ use Rattle.fx_model.specs.Report.{ReportView}
 use Rattle.fx_order.specs.declared.occurrence.Occurrence.{Occurrence}
 use Rattle.fx_counts.specs.declared.at_queue.AtQueue.{AtQueue}
 use Rattle.fx_counts.specs.Counted.{AreCounted}
-use Rattle.fx_run_events.specs.Found.{IsByStamp, AreCountedOrNone, counted}
+use Rattle.fx_run_events.specs.Found.{IsInOwnOrder, AreCountedOrNone, counted}
 
 -- the capacities of the script, from the queues of the code
 abbrev declared : List QueueDecl → List ℕ
@@ -17,7 +17,7 @@ as_declared [] = refl
 as_declared (q ∷ queues) = ap (λ (caps : List ℕ). q.cap ∷ caps) (as_declared queues)
 
 pub counted_so : (queues : List QueueDecl) (r : ReportView) (caps : List ℕ) (list : List Occurrence) (counts : List (Option AtQueue))
-    → caps ≡ map (λ (q : QueueDecl). q.cap) queues → IsByStamp r list → AreCounted caps r list counts
+    → caps ≡ map (λ (q : QueueDecl). q.cap) queues → IsInOwnOrder r list → AreCounted caps r list counts
     → AreCountedOrNone (declared queues) r list counts
-counted_so queues r caps list counts is by_stamp are =
-    counted by_stamp (subst (λ (cs : List ℕ). AreCounted cs r list counts) (is ∙ as_declared queues) are)
+counted_so queues r caps list counts is in_order are =
+    counted in_order (subst (λ (cs : List ℕ). AreCounted cs r list counts) (is ∙ as_declared queues) are)

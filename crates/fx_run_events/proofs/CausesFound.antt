@@ -19,7 +19,7 @@ use Rattle.fx_model.specs.ReportStamps.{IsStampedReport, stamp_in}
 use Rattle.fx_model.specs.Stamps.{IsBelowTop}
 use Rattle.fx_model.proofs.CausesFound.{causes_found}
 use Rattle.fx_report.proofs.Keys.{rises_from}
-use Rattle.fx_order.specs.CausalOrder.{IsCausalOrder}
+use Rattle.fx_counts.specs.KeepsOrder.{KeepsOrder}
 use Rattle.fx_order.specs.declared.occurrence.Occurrence.{Occurrence}
 use Rattle.fx_counts.specs.declared.at_queue.AtQueue.{AtQueue}
 use Rattle.fx_counts.specs.Counted.{IsHistory, AreCounted, history_in, IsPut, IsTakenPut}
@@ -31,7 +31,7 @@ use Rattle.fx_picture.specs.declared.stood.EventAt.{EventAt}
 use Rattle.fx_picture.proofs.OneEnd.{last_end}
 use Rattle.fx_run_events.specs.Causes.{event_there, taken_put, last_place, last_event, learned_stood, or_else, cause_of}
 use Rattle.fx_run_events.specs.CausesTold.{cause_told, TellsCause, IsPutKnown, TellsCausesOfRun}
-use Rattle.fx_run_events.specs.Found.{AreFollowedOrNone, followed, not_followed, IsByStamp, AreCountedOrNone, counted, not_counted}
+use Rattle.fx_run_events.specs.Found.{AreFollowedOrNone, followed, not_followed, IsInOwnOrder, AreCountedOrNone, counted, not_counted}
 use Rattle.fx_run_events.specs.RanEvents.{counts_of, ran_events, event_told}
 use Rattle.fx_run_events.specs.SolePuts.{known_puts, sole_put}
 use Rattle.fx_run_events.proofs.Chosen.{ChosenHistory, chosen, given, one_queue}
@@ -97,7 +97,7 @@ module _ (s : ScriptView) (may : ℕ → Bool) (r : ReportView) (told : List (Li
   record IsFound : Type 0 where
     took : (f i q v : ℕ) → slice_get (trace_in r f) i ≡ Some (event.Got q v) → (x : EventAt) → taken_put list (at_queue f i) ≡ Some x
         → Takes f i x.fiber x.place
-    known : (f i q v : ℕ) → slice_get (trace_in r f) i ≡ Some (event.Got q v) → IsByStamp r list → IsHistory s.capacities r list q
+    known : (f i q v : ℕ) → slice_get (trace_in r f) i ≡ Some (event.Got q v) → IsInOwnOrder r list → IsHistory s.capacities r list q
         → (x : EventAt) × (taken_put list (at_queue f i) ≡ Some x)
     learnt : ((f i g j : ℕ) → LearnsOfEnd (trace_in r) lawful.runs.labels f i g j → learned f i ≡ Some g) ⊎ ((f i : ℕ) → learned f i ≡ None)
 
@@ -193,9 +193,9 @@ module _ (s : ScriptView) (may : ℕ → Bool) (r : ReportView) (report : IsStam
     history : IsHistory s.capacities r list q
     took : MatchOption a.took (⊥) (IsTakenPut q list at_place)
 
-  module _ (list : List Occurrence) (counts : List (Option AtQueue)) (by_stamp : IsByStamp r list) (are : AreCounted s.capacities r list counts) where
-    abbrev order : IsCausalOrder s may r given_report list
-    order = by_stamp.causes s may report below
+  module _ (list : List Occurrence) (counts : List (Option AtQueue)) (in_order : IsInOwnOrder r list) (are : AreCounted s.capacities r list counts) where
+    abbrev order : KeepsOrder r list
+    order = in_order.keeps s may report below
 
     abbrev occurrence : ℕ → ℕ → Event → Occurrence
     occurrence f i e = record { fiber = f; place = i; event = e; stamp = stamp_in r f i }
@@ -249,7 +249,7 @@ module _ (s : ScriptView) (may : ℕ → Bool) (r : ReportView) (report : IsStam
             let y = there_is q so.at_place j put in
             let same : at y.0.fiber y.0.place ≡ x = same_Some (at y.0.fiber y.0.place) x
             (sym (ap (option_map (λ (z : Occurrence). at z.fiber z.place)) y.1) ∙ told) in
-            let takes = takes_what_was_put s may r given_report list by_stamp.each_once order q _ history is so.at_place j so.it y.0 so.there y.1 put
+            let takes = takes_what_was_put s may r given_report list order q _ history is so.at_place j so.it y.0 so.there y.1 put
             IsLeft left in
             rw (← same, ← so.is_fiber, ← so.is_place) takes
 
@@ -268,53 +268,53 @@ module _ (s : ScriptView) (may : ℕ → Bool) (r : ReportView) (report : IsStam
     took : (f i q v : ℕ) → slice_get (trace_in r f) i ≡ Some (event.Got q v) → (x : EventAt)
         → taken_put list (slice_index_or (counts_of f list counts) i None) ≡ Some x
         → TakesWhatWasPut (trace_in r) (λ p state. state ≡ (chosen_for p).leaves.last) f i x.fiber x.place
-    known : (f i q v : ℕ) → slice_get (trace_in r f) i ≡ Some (event.Got q v) → IsByStamp r list → IsHistory s.capacities r list q
+    known : (f i q v : ℕ) → slice_get (trace_in r f) i ≡ Some (event.Got q v) → IsInOwnOrder r list → IsHistory s.capacities r list q
         → (x : EventAt) × (taken_put list (slice_index_or (counts_of f list counts) i None) ≡ Some x)
 
   histories_told : (list : List Occurrence) (counts : List (Option AtQueue)) → AreCountedOrNone s.capacities r list counts → HistoriesTold list counts
-  histories_told list counts (counted by_stamp are) = record {
+  histories_told list counts (counted in_order are) = record {
     chosen_for = λ q. (choice q).history;
     took = λ f i q v got x told. by_count f i q v got x (slice_index_or (counts_of f list counts) i None) refl told;
     known = λ f i q v got again history.
-        let some = are.each (moment f i) q (it f i q v) (Got f v) (stands f i q v got) (got_event list counts by_stamp are q f v) history in
+        let some = are.each (moment f i) q (it f i q v) (Got f v) (stands f i q v got) (got_event list counts in_order are q f v) history in
         let told = is_told_there counts (moment f i) some.0 some.1 in
-        let x = some_took list counts by_stamp are q f i v some.0 (told_at_get list counts by_stamp are q f i v got some.0 some.1) in
+        let x = some_took list counts in_order are q f i v some.0 (told_at_get list counts in_order are q f i v got some.0 some.1) in
         (x.0, ap (taken_put list) (in_list f i q v got ∙ told) ∙ x.1);
   }
     where
-      causal : IsCausalOrder s may r given_report list
-      causal = by_stamp.causes s may report below
+      keeps : KeepsOrder r list
+      keeps = in_order.keeps s may report below
 
       moment : ℕ → ℕ → ℕ
-      moment f i = causal.moment f i
+      moment f i = keeps.moment f i
 
       it : ℕ → ℕ → ℕ → ℕ → Occurrence
       it f i q v = record { fiber = f; place = i; event = event.Got q v; stamp = stamp_in r f i }
 
       stands : (f i q v : ℕ) → slice_get (trace_in r f) i ≡ Some (event.Got q v) → slice_get list (moment f i) ≡ Some (it f i q v)
-      stands f i q v got = causal.stands f i (event.Got q v) got
+      stands f i q v got = keeps.stands f i (event.Got q v) got
 
       choice : (q : ℕ) → ChosenHistory s may r given_report list counts q
-      choice q = chosen s may r given_report list counts by_stamp causal are q
+      choice q = chosen s may r given_report list counts keeps are q
 
       in_list : (f i q v : ℕ) → slice_get (trace_in r f) i ≡ Some (event.Got q v)
           → slice_index_or (counts_of f list counts) i None ≡ slice_index_or counts (moment f i) None
-      in_list f i q v got = told_in_list s may r given_report list counts by_stamp causal f i (event.Got q v) got
+      in_list f i q v got = told_in_list s may r given_report list counts keeps f i (event.Got q v) got
 
       by_count : (f i q v : ℕ) → slice_get (trace_in r f) i ≡ Some (event.Got q v) → (x : EventAt) (o : Option AtQueue)
           → slice_index_or (counts_of f list counts) i None ≡ o → taken_put list (slice_index_or (counts_of f list counts) i None) ≡ Some x
           → TakesWhatWasPut (trace_in r) (λ p state. state ≡ (choice p).history.leaves.last) f i x.fiber x.place
       by_count f i q v got x None none told = absurd (none-some x (sym (ap (taken_put list) none) ∙ told))
       by_count f i q v got x (Some a) some told =
-          let so = told_at_get list counts by_stamp are q f i v got a (told_is_there counts (moment f i) a (sym (in_list f i q v got) ∙ some)) in
-          took_of list counts by_stamp are q f i v a so x (sym (ap (taken_put list) some) ∙ told) (choice q).history
-          ((choice q).counted so.history (moment f i) (it f i q v) (Got f v) (stands f i q v got) (got_event list counts by_stamp are q f v))
+          let so = told_at_get list counts in_order are q f i v got a (told_is_there counts (moment f i) a (sym (in_list f i q v got) ∙ some)) in
+          took_of list counts in_order are q f i v a so x (sym (ap (taken_put list) some) ∙ told) (choice q).history
+          ((choice q).counted so.history (moment f i) (it f i q v) (Got f v) (stands f i q v got) (got_event list counts in_order are q f v))
           (λ p state. state ≡ (choice p).history.leaves.last) refl
   histories_told _ _ not_counted = record {
     chosen_for = λ q. (given s may r given_report [] [] q refl).history;
     took = λ f i q v got x told. absurd (none-some x told);
-    known = λ f i q v got by_stamp history.
-        absurd (none-some _ ((by_stamp.causes s may report below).stands f i (event.Got q v) got));
+    known = λ f i q v got in_order history.
+        absurd (none-some _ ((in_order.keeps s may report below).stands f i (event.Got q v) got));
   }
 
   module _ (nodes : List Node) (told : List (List Stand)) (list : List Occurrence) (counts : List (Option AtQueue))

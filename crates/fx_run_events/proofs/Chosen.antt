@@ -11,12 +11,11 @@ use Rattle.fx_term.specs.Queue.{queue_event}
 use Rattle.fx_term.specs.Script.{ScriptView}
 use Rattle.fx_model.specs.LawfulReport.{HasHistory, IsLawfulReport}
 use Rattle.fx_model.specs.Report.{ReportView, capacity_of}
-use Rattle.fx_order.specs.CausalOrder.{IsCausalOrder}
 use Rattle.fx_order.specs.declared.occurrence.Occurrence.{Occurrence}
 use Rattle.fx_counts.specs.declared.at_queue.AtQueue.{AtQueue}
 use Rattle.fx_counts.specs.Counted.{IsHistory, AreCounted, history_in}
+use Rattle.fx_counts.specs.KeepsOrder.{KeepsOrder}
 use Rattle.fx_counts.proofs.Histories.{has_history}
-use Rattle.fx_run_events.specs.Found.{IsByStamp}
 
 -- an event is one of one queue
 pub one_queue : (q p f g : ℕ) (e : Event) (d d' : QueueEvent) → queue_event q f e ≡ Some d → queue_event p g e ≡ Some d' → q ≡ p
@@ -68,10 +67,10 @@ module _ (s : ScriptView) (may : ℕ → Bool) (r : ReportView) (lawful : IsLawf
     pub counted : IsHistory s.capacities r list q → (k : ℕ) (x : Occurrence) (d : QueueEvent) → slice_get list k ≡ Some x
         → queue_event q x.fiber x.event ≡ Some d → history.history ≡ history_in q list
 
-  module _ (by_stamp : IsByStamp r list) (order : IsCausalOrder s may r lawful list) (are : AreCounted s.capacities r list counts) where
+  module _ (keeps : KeepsOrder r list) (are : AreCounted s.capacities r list counts) where
     of_list : (q : ℕ) → IsHistory s.capacities r list q → ChosenHistory q
     of_list q history =
-        let own = has_history s may r lawful list q by_stamp.each_once order history in
+        let own = has_history s may r lawful list q keeps history in
         record { history = own.0; counted = λ again k x d there is. own.1 }
 
     by_count : (q : ℕ) (x : HasEvent q list) (o : Option (Option AtQueue)) → slice_get counts x.at ≡ o → ChosenHistory q

@@ -8,11 +8,10 @@ use Rattle.fx_term.specs.declared.event.Event.{Event}
 use Rattle.fx_term.specs.Script.{ScriptView}
 use Rattle.fx_model.specs.LawfulReport.{IsLawfulReport}
 use Rattle.fx_model.specs.Report.{ReportView, trace_in}
-use Rattle.fx_order.specs.CausalOrder.{IsCausalOrder}
 use Rattle.fx_order.specs.declared.occurrence.Occurrence.{Occurrence}
 use Rattle.fx_counts.specs.declared.at_queue.AtQueue.{AtQueue}
+use Rattle.fx_counts.specs.KeepsOrder.{KeepsOrder}
 use Rattle.fx_counts.proofs.Histories.{own, Stand, tail, above, whole, are, stands, own_events}
-use Rattle.fx_run_events.specs.Found.{IsByStamp}
 use Rattle.fx_run_events.specs.RanEvents.{first_count, counts_of}
 use Rattle.fx_run_events.proofs.RanEvents.{after_first_count}
 
@@ -61,13 +60,13 @@ module _ (f : ℕ) where
 
 -- at its moment in the list
 pub told_in_list : (s : ScriptView) (may : ℕ → Bool) (r : ReportView) (lawful : IsLawfulReport s may r) (list : List Occurrence)
-    (counts : List (Option AtQueue)) → IsByStamp r list → (order : IsCausalOrder s may r lawful list) (f i : ℕ) (e : Event)
+    (counts : List (Option AtQueue)) (keeps : KeepsOrder r list) (f i : ℕ) (e : Event)
     → slice_get (trace_in r f) i ≡ Some e
-    → slice_index_or (counts_of f list counts) i None ≡ slice_index_or counts (order.moment f i) None
-told_in_list s may r lawful list counts by_stamp order f i e at =
+    → slice_index_or (counts_of f list counts) i None ≡ slice_index_or counts (keeps.moment f i) None
+told_in_list s may r lawful list counts keeps f i e at =
     let same : length (own f list) ≡ length (trace_in r f) =
-    sym (length-map _ _) ∙ ap length (own_events f s may r lawful list by_stamp.each_once order) in
-    counts_at f list counts (trace_in r f) (order.moment f) (stands f s may r lawful list order) (omega arith) i (slice_get_within (trace_in r f) i e at)
+    sym (length-map _ _) ∙ ap length (own_events f s may r lawful list keeps) in
+    counts_at f list counts (trace_in r f) (keeps.moment f) (stands f r list keeps) (omega arith) i (slice_get_within (trace_in r f) i e at)
 
 -- what is told there is one of the list of what is told
 pub told_is_there : {A : Type 0} (xs : List (Option A)) (k : ℕ) (x : A) → slice_index_or xs k None ≡ Some x → slice_get xs k ≡ Some (Some x)

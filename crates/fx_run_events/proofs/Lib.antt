@@ -1,5 +1,6 @@
 pub mod RanEvents
 mod Capacities
+mod InOwnOrder
 pub mod CountsTold
 mod SolePuts
 pub mod OnePut

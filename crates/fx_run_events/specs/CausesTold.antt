@@ -12,7 +12,7 @@ use Rattle.fx_follow.specs.declared.stand.Stand.{Stand}
 use Rattle.fx_follow.specs.Followed.{AreFollowed}
 use Rattle.fx_picture.specs.declared.stood.EventAt.{EventAt}
 use Rattle.fx_run_events.specs.declared.ran_event.RanEvent.{RanEvent}
-use Rattle.fx_run_events.specs.Found.{IsByStamp}
+use Rattle.fx_run_events.specs.Found.{IsInOwnOrder}
 use Rattle.fx_run_events.specs.RanEvents.{event_told}
 use Rattle.fx_run_events.specs.SolePuts.{known_puts, sole_put}
 
@@ -24,10 +24,10 @@ cause_told (Some x) = x.cause
 abbrev pub TellsCause : List RanEvent → ℕ → ℕ → ℕ → ℕ → Type 0
 TellsCause events f i g j = cause_told (event_told events f i) ≡ Some (record { fiber = g; place = j })
 
--- it is known which put a get of that value from queue q took an element of: the list has all events by their stamps, and a history of the queue, where queues
--- have these capacities; or one put alone put that value there
+-- it is known which put a get of that value from queue q took an element of: the list has all events, each fiber's in their own order, and a history of the
+-- queue, where queues have these capacities; or one put alone put that value there
 abbrev pub IsPutKnown : List ℕ → ReportView → List Occurrence → ℕ → ℕ → Type 0
-IsPutKnown capacities r list q v = (IsByStamp r list × IsHistory capacities r list q) ⊎ (is_some (sole_put q v (known_puts r.fibers)) ≡ true)
+IsPutKnown capacities r list q v = (IsInOwnOrder r list × IsHistory capacities r list q) ⊎ (is_some (sole_put q v (known_puts r.fibers)) ≡ true)
 
 -- By one choice of runs and histories that make the report lawful: an event stands on each cause that is told of it; of a get, the put of what it took is told
 -- where it is known; and of the first of two, the end of which it learnt, where it was found how the fibers stood

@@ -1,4 +1,4 @@
-//! What the queues of a run went through, where the order of stamps tells it.
+//! What the queues of a run went through, where an order of its events is found that tells it.
 ghost use Rattle.std.specs.Prelude.{◌≡◌, map, IfOk};
 ghost use Rattle.fx_text.specs.View.{meaning};
 ghost use Rattle.fx_text.specs.declared.queue_decl.QueueDecl.{QueueDecl};
@@ -6,7 +6,7 @@ ghost use Rattle.fx_report.specs.Script.{script_of};
 ghost use Rattle.fx_run_events.specs.Found.{AreCountedOrNone};
 
 use crate::stands::are_few;
-use fx_counts::{AtQueue, counts};
+use fx_counts::{AtQueue, counts, order_by_queues};
 use fx_model::Report;
 use fx_order::{Occurrence, order_by_stamp};
 use fx_term::Memory;
@@ -31,8 +31,8 @@ fn capacities(alloc: Global, queues: &[QueueDecl]) -> Result<Vec<u32>, AllocErro
     Ok(caps)
 }
 
-/// What the queues of a report held after its events, and which put each get took an element of, where the order of stamps
-/// tells it. A report with more events than a picture can have is not gone through.
+/// What the queues of a report held after its events, and which put each get took an element of, where an order of these is
+/// found that tells it. A report with more events than a picture can have is not gone through.
 pub fn counts_told(alloc: Global, script: &Script, report: &Report) -> Result<Counted, Memory>
     ensures { IfOk result (λ told. AreCountedOrNone (script_of (meaning script.now)).capacities report.now
         told.list.items told.counts.items) }
@@ -44,7 +44,8 @@ pub fn counts_told(alloc: Global, script: &Script, report: &Report) -> Result<Co
         });
     }
     let capacities = capacities(alloc, &script.queues)?;
-    let list = order_by_stamp(alloc, report)?;
+    let by_stamp = order_by_stamp(alloc, report)?;
+    let list = order_by_queues(alloc, &capacities, report, by_stamp)?;
     let counts = counts(alloc, &capacities, report, &list)?;
     Ok(Counted { list, counts })
 }

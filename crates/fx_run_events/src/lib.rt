@@ -4,7 +4,7 @@
 //! | what is found | by what | where it may be missing |
 //! |---|---|---|
 //! | where the fiber stood, and of whose end its step learned | its trace, by which it is made to step again (`fx_follow`) | where no such run is found |
-//! | how many elements its queue held, and which put a get took | the order of stamps, if it is a history there (`fx_counts`) | at queues where it is none |
+//! | how many elements its queue held, and which put a get took | an order of all events, if one is found (`fx_counts`) | at queues where it is none |
 //! | which put a get took | its value, where that was put into the queue once | where it was put more often |
 //!
 //! What caused an event is found by these three. That it did, by runs and histories that make the report lawful, and that

@@ -49,12 +49,12 @@ type Line = (
     Option<(u32, usize)>,
 );
 
-/// Two fibers that put 7, of which the second one, by its stamp, puts what is taken before the first one finds room.
-const OUT_OF_ORDER: &str =
-    "(queue q 1) (queue r 1) (main (start a (seq (seq (offer r 1) (take r)) (seq (offer r 1) (seq (take r) (offer q 7)))) \
-    (start b (offer q 7) (seq (take q) (take q)))))";
+/// Two fibers that put 7 into a queue of one, where by stamps the second one puts it before there is room. What is taken is 7, 8
+/// and 7, so that the 7 of the one that puts 8, too, is the first.
+const OUT_OF_ORDER: &str = "(queue q 1) (main (start a (seq (offer q 7) (offer q 8)) \
+    (start b (offer q 7) (seq (take q) (seq (take q) (take q))))))";
 
-static LINES: [Line; 10] = [
+static LINES: [Line; 11] = [
     (
         "the left one of two",
         "(main (start a (pure 1) (start b (never) (first a b))))",
@@ -105,11 +105,18 @@ static LINES: [Line; 10] = [
         Some((2, 0)),
     ),
     (
-        "one of two puts of a value, where the order of stamps is no history",
+        "the first of two puts of a value, where the order of stamps is no history and another one is",
         OUT_OF_ORDER,
-        "0 0 1 1 1 1 1 1 1 1 1 1 0 0 2",
+        "",
         (0, 2),
-        None,
+        Some((1, 0)),
+    ),
+    (
+        "the other one of them",
+        OUT_OF_ORDER,
+        "",
+        (0, 4),
+        Some((2, 0)),
     ),
     (
         "the only put of a value, where the order of stamps is no history",

@@ -195,15 +195,15 @@ const PICTURE_RUN: &str = "\
 fibers picture-run F WORKERS
 
 Runs the fibers as fibers run F WORKERS does, and draws the run as fibers
-picture does. How many elements a queue holds, and which put a get took, are
-there where the queue's puts and gets, in the order of the picture, are allowed
-and leave what it has at the end; in the run they may have come in another such
-order. Elsewhere an arrow from a put to who took its element is there where that
-value was put into that queue only once in the run. Where forms stand, where no
-request would be seen, who found the first of two, and the names of handles are
-found after the run, by making each fiber step again by what it showed; they are
-left out where that takes too many steps. Of two events of which neither stands
-on the other the order does not say which came first.
+picture does. How many elements a queue holds, and which put a get took, are by
+an order of all events in which each queue's puts and gets are allowed and leave
+what it has at the end; the run may have had another such order. Where none is
+found an arrow from a put to who took its element is there where that value was
+put into that queue only once in the run. Where forms stand, where no request
+would be seen, who found the first of two, and the names of handles are found
+after the run, by making each fiber step again by what it showed; they are left
+out where that takes too many steps. Of two events of which neither stands on
+the other the order of the picture does not say which came first.
 
     $ echo '(main (start h (pure 1) (cancel h)))' > script
     $ fibers picture-run script 4 | grep -c 'fiber 1 h<'
