@@ -19,7 +19,12 @@ impl Space<Numbered> for Graph {
 
     ghost covers = { λ graph from to. Unit {0} };
 
-    fn successors(&mut self, alloc: Global, state: &Numbered) -> Result<Vec<Numbered>, Memory> {
+    fn successors(
+        &mut self,
+        alloc: Global,
+        state: &Numbered,
+        _spares: &mut Vec<Numbered>,
+    ) -> Result<Vec<Numbered>, Memory> {
         let Some(list) = self.lists.get(state.first() as usize) else {
             return Err(Memory);
         };

@@ -27,6 +27,10 @@ impl Row for Numbered {
         &self.numbers
     }
 
+    fn into_numbers(self) -> Vec<u32> {
+        self.numbers
+    }
+
     fn from_numbers(numbers: Vec<u32>) -> Numbered {
         Numbered { numbers }
     }
