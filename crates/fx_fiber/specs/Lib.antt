@@ -19,6 +19,7 @@ pub mod Cancels
 pub mod Reach
 pub mod QueueUses
 pub mod Bare
+pub mod Ended
 pub mod MakesStep
 pub mod MakesStart
 pub mod Bursts

@@ -1,6 +1,7 @@
 //! A fiber without its port.
 ghost use Rattle.std.specs.Prelude.{◌≡◌};
 
+use crate::ended::Ended;
 use crate::fiber::body::Body;
 use crate::machine::focus::Focus;
 use fx_model::{Closed, Source};
@@ -8,37 +9,40 @@ use fx_term::{Code, NodeId, Stamped};
 use std::marker::Model;
 use std::snapshot::Snapshot;
 
+/// What there is of a fiber without its port.
+#[derive(Drop)]
+pub(crate) enum Kept {
+    /// All of it.
+    Standing(Box<Body>),
+    /// What is kept of one that has ended.
+    Over(Ended),
+}
+
 /// A fiber without its port, as [`Fiber::part`](crate::Fiber::part) leaves it. By its type its trace is
 /// that of a run of its code, which is known to proofs alone. It holds on to nothing that a port does.
 #[derive(Drop)]
 pub struct Bare {
-    body: Box<Body>,
+    kept: Kept,
     code: Snapshot<Code>,
 }
 
 impl Model for Bare {
-    ghost use Rattle.fx_term.specs.Stamped.{events_in};
-    ghost use Rattle.fx_fiber.specs.Bare.{BareView, bare_at, HasOwnRun};
-    ghost use Rattle.fx_fiber.specs.Fiber.{is_fiber_number};
-    ghost use Rattle.fx_fiber.specs.Machine.{counts_of, progress_of};
-    ghost use Rattle.fx_fiber.specs.Sound.{IsSoundMachine};
-    ghost use Rattle.fx_model.specs.Scopes.{IsProgressScopedOver};
+    ghost use Rattle.fx_fiber.specs.Bare.{BareView, HasOwnRun, reached};
+    ghost use Rattle.fx_fiber.specs.Ended.{bare_in, IsKeptSound};
 
     ghost Value = { BareView };
 
-    ghost view = { λ b.
-        bare_at b.code.value.nodes b.body.value.id b.body.value.trace.items b.body.value.machine };
+    ghost view = { λ b. bare_in b.code.value.nodes b.kept };
 
-    ghost invariant = { λ b. IsSoundMachine b.code.value.nodes b.body.value.machine
-        × IsProgressScopedOver is_fiber_number
-        (progress_of b.code.value.nodes b.body.value.machine)
-        × HasOwnRun b.code.value.nodes (events_in b.body.value.trace.items) (counts_of b.body.value.machine)
-        (progress_of b.code.value.nodes b.body.value.machine) };
+    ghost invariant = { λ b. IsKeptSound b.code.value.nodes b.kept
+        × HasOwnRun b.code.value.nodes (bare_in b.code.value.nodes b.kept).trace
+        (bare_in b.code.value.nodes b.kept).counts (reached (bare_in b.code.value.nodes b.kept)) };
 }
 
 impl Bare {
     ghost use Rattle.fx_term.specs.Stamped.{events_in, stamps_in};
     ghost use Rattle.fx_fiber.specs.Bare.{bare_at, HasOwnRun, reached};
+    ghost use Rattle.fx_fiber.specs.Ended.{ended_bare};
     ghost use Rattle.fx_fiber.specs.Fiber.{is_fiber_number};
     ghost use Rattle.fx_fiber.specs.Machine.{counts_of, progress_of};
     ghost use Rattle.fx_fiber.specs.NodePlaces.{HasNoNode, IsPlaceOf};
@@ -61,7 +65,19 @@ impl Bare {
             ≡ bare_at code.now.nodes body.value.id body.value.trace.items body.value.machine }
     {
         Bare {
-            body,
+            kept: Kept::Standing(body),
+            code: Snapshot::of(code),
+        }
+    }
+
+    /// The fiber of this code of which that is kept, once it has ended.
+    pub fn of_ended(ended: Ended, code: &Code) -> Bare
+        requires { HasOwnRun code.now.nodes (ended_bare code.now.nodes ended).trace
+            (ended_bare code.now.nodes ended).counts (reached (ended_bare code.now.nodes ended)) }
+        ensures { result ≡ ended_bare code.now.nodes ended }
+    {
+        Bare {
+            kept: Kept::Over(ended),
             code: Snapshot::of(code),
         }
     }
@@ -70,7 +86,10 @@ impl Bare {
     pub fn id(&self) -> u32
         ensures { result ≡ self.now.id }
     {
-        self.body.id
+        match &self.kept {
+            Kept::Standing(body) => body.id,
+            Kept::Over(ended) => ended.id,
+        }
     }
 
     /// The events with their stamps, the first one first.
@@ -80,7 +99,10 @@ impl Bare {
         ensures run { HasOwnRun self.now.nodes self.now.trace self.now.counts
             (reached self.now) }
     {
-        &self.body.trace
+        match &self.kept {
+            Kept::Standing(body) => &body.trace,
+            Kept::Over(ended) => &ended.trace,
+        }
     }
 
     /// The events with their stamps, the first one first, where the fiber is not needed any more.
@@ -88,14 +110,21 @@ impl Bare {
         ensures events { events_in result.items ≡ self.trace }
         ensures stamps { stamps_in result.items ≡ self.stamps }
     {
-        Box::into_inner(self.body).trace
+        let Bare { kept, .. } = self;
+        match kept {
+            Kept::Standing(body) => Box::into_inner(body).trace,
+            Kept::Over(ended) => ended.trace,
+        }
     }
 
     /// Whether the fiber has ended.
     pub fn has_ended(&self) -> bool
         ensures { result ≡ has_ended (reached self.now) }
     {
-        matches!(self.body.machine.focus, Focus::Ended(_))
+        match &self.kept {
+            Kept::Standing(body) => matches!(body.machine.focus, Focus::Ended(_)),
+            Kept::Over(_) => true,
+        }
     }
 
     /// What the fiber waits for where it stands, as [`Fiber::waits_for`](crate::Fiber::waits_for) tells.
@@ -103,7 +132,10 @@ impl Bare {
         requires code { code.now.nodes ≡ self.now.nodes }
         ensures { result ≡ option_and_then wait_at (leaf_at (reached self.now)) }
     {
-        self.body.machine.waits_for(code)
+        match &self.kept {
+            Kept::Standing(body) => body.machine.waits_for(code),
+            Kept::Over(_) => None,
+        }
     }
 
     /// The node where the fiber stands, as [`Fiber::node`](crate::Fiber::node) tells.
@@ -112,7 +144,10 @@ impl Bare {
         ensures { MatchOption result (HasNoNode (leaf_at (reached self.now)))
             (IsPlaceOf self.now.nodes self.now.registers (leaf_at (reached self.now))) }
     {
-        self.body.machine.node(code)
+        match &self.kept {
+            Kept::Standing(body) => body.machine.node(code),
+            Kept::Over(_) => None,
+        }
     }
 
     /// Whether the fiber can step where the outside is as a run left it, as
@@ -122,6 +157,9 @@ impl Bare {
         ensures { result ≡ can_step (outside_of closed.now) self.now.id self.now.counts
             (reached self.now) }
     {
-        self.body.machine.can_step(code, self.body.id, closed)
+        match &self.kept {
+            Kept::Standing(body) => body.machine.can_step(code, body.id, closed),
+            Kept::Over(_) => false,
+        }
     }
 }

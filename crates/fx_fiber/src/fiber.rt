@@ -3,6 +3,7 @@ ghost use Rattle.std.specs.Prelude.{◌≡◌, ◌<◌, ◌≤◌, ◌^◌, [], 
 
 use crate::bare::Bare;
 use crate::begin::main_begin;
+use crate::ended::{Counted, Ended};
 use crate::machine::focus::Focus;
 use crate::port::Port;
 use crate::stepped::Stepped;
@@ -64,6 +65,7 @@ impl<P: Port> Fiber<P> {
     ghost use Rattle.fx_fiber.specs.Body.{IsFirstBody};
     ghost use Rattle.fx_model.specs.Scopes.{IsScopedOver};
     ghost use Rattle.fx_fiber.specs.Bare.{bare_of, reached};
+    ghost use Rattle.fx_fiber.specs.Ended.{IsEnded, IsEndOf};
     ghost use Rattle.fx_model.specs.NeedLeft.{HasRoom};
     ghost use Rattle.fx_fiber.specs.Fiber.{is_fiber_number, IsAtFirst, IsLawful, IsUnchanged, progress};
     ghost use Rattle.fx_fiber.specs.MakesStep.{DoesStep};
@@ -254,6 +256,33 @@ impl<P: Port> Fiber<P> {
     {
         let Fiber { port, body } = self;
         (Bare::new(body, code), port)
+    }
+
+    /// What is kept of the fiber, which has ended, and its port.
+    pub fn into_ended(self) -> (Ended, P)
+        requires { has_ended (progress P.theory.code self) ≡ true }
+        ensures port { result.1 ≡ self.port }
+        ensures end { IsEndOf P.theory.code self result.0 }
+        ensures ended { IsEnded P.theory result.1 result.0 }
+    {
+        let Fiber { port, body } = self;
+        let body = Box::into_inner(body);
+        let Focus::Ended(outcome) = body.machine.focus else {
+            unreachable!()
+        };
+        let ended = Ended {
+            id: body.id,
+            trace: body.trace,
+            outcome,
+            counted: Counted {
+                masks: body.machine.masks.entries(),
+                acquired: body.machine.acquired,
+                next: body.machine.next,
+                end: body.machine.end,
+                known: body.machine.known,
+            },
+        };
+        (ended, port)
     }
 
     /// Makes exactly one rule; or answers that the fiber waits, and has changed nothing. Room for what

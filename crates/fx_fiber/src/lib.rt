@@ -84,6 +84,7 @@
 mod bare;
 mod begin;
 mod clock;
+mod ended;
 mod fiber;
 mod machine;
 mod port;
@@ -94,6 +95,7 @@ mod turned;
 
 pub use bare::Bare;
 pub use begin::main_begin;
+pub use ended::Ended;
 pub use fiber::Fiber;
 pub use fx_model::{Closed, FiberReport, Report, Source, State, laws};
 pub use port::Port;

@@ -8,8 +8,8 @@ use crate::harness::{Answer, Call, OTHER};
 use crate::refuser::Refuser;
 use futures::task::{Poll, Solo};
 use fx_fiber::{Fiber, Port, Report, Stepped, Turned};
-use fx_sched::{Free, gated_turn, leave};
-use fx_term::{Code, Memory};
+use fx_sched::{Free, Resting, gated_turn, leave};
+use fx_term::{Code, Memory, Stamped};
 use std::alloc::Global;
 
 /// Which call of a fiber is refused memory.
@@ -80,11 +80,29 @@ fn events_of<P: Port>(fibers: &[Fiber<P>]) -> usize {
     count
 }
 
+/// A fiber, whether it rests or not.
+pub trait Traced {
+    /// Its events so far.
+    fn shown(&self) -> &[Stamped];
+}
+
+impl<P: Port> Traced for Fiber<P> {
+    fn shown(&self) -> &[Stamped] {
+        self.trace()
+    }
+}
+
+impl<P: Port> Traced for Resting<P> {
+    fn shown(&self) -> &[Stamped] {
+        self.trace()
+    }
+}
+
 /// Whether the fibers, in the order of their numbers, have the traces of the report.
-pub fn are_told<P: Port>(fibers: &[Fiber<P>], report: &Report) -> bool {
+pub fn are_told<T: Traced>(fibers: &[T], report: &Report) -> bool {
     for (place, told) in report.fibers.iter().enumerate() {
         match fibers.get(place) {
-            Some(fiber) if fiber.trace() == told.trace.as_slice() => {}
+            Some(fiber) if fiber.shown() == told.trace.as_slice() => {}
             _ => return false,
         }
     }

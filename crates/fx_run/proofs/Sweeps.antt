@@ -26,11 +26,11 @@ next_passes {A} test kept more x xs rest all is put so =
 
 -- where none passes, each fails
 module _ {A : Type 0} (test : A → Bool) where
-  record NonePasses (xs : List A) : Type 0 where
-    each : All (λ x. test x ≡ false) xs
-    whole : filter (λ x. not (test x)) xs ≡ xs
+  pub record NonePasses (xs : List A) : Type 0 where
+    pub each : All (λ x. test x ≡ false) xs
+    pub whole : filter (λ x. not (test x)) xs ≡ xs
 
-  none_passes : (xs : List A) → filter test xs ≡ [] → NonePasses xs
+  pub none_passes : (xs : List A) → filter test xs ≡ [] → NonePasses xs
   none_passes [] e = record { each = All-nil (λ x. test x ≡ false); whole = refl }
   none_passes (x ∷ xs) e = by_test (test x) refl e (none_passes xs)
     where

@@ -11,9 +11,10 @@ ghost use Rattle.fx_run.specs.Gathered.{IsGathered, AreAllowed};
 ghost use Rattle.fx_run.specs.declared.run_fault.RunFault.TheVariants.{Lost};
 
 use crate::run_fault::RunFault;
-use fx_fiber::{Bare, Fiber, Port};
+use fx_fiber::{Bare, Port};
 use fx_port::{Marks, Passes, RunBrand, ThreadPort, gather};
 use fx_queue::FiberQueue;
+use fx_sched::Resting;
 use fx_term::{Code, Memory};
 use fx_word::{WordSeat, Words};
 use std::alloc::Global;
@@ -36,7 +37,7 @@ impl Gathered {
         alloc: Global,
         words: &Words,
         code: &Code,
-        main: Fiber<ThreadPort<'a, R, N>>,
+        main: Resting<ThreadPort<'a, R, N>>,
         count: usize,
     ) -> Result<Gathered, Memory>
         requires words { words.now ≡ N.words }
@@ -66,7 +67,7 @@ impl Gathered {
         words: &Words,
         queues: &[FiberQueue],
         code: &Code,
-        fiber: Fiber<ThreadPort<'a, R, N>>,
+        fiber: Resting<ThreadPort<'a, R, N>>,
     ) -> Result<(), Memory>
         requires words { words.now ≡ N.words }
         requires queues { queues.now ≡ N.queues }
@@ -91,7 +92,7 @@ impl Gathered {
         words: &Words,
         queues: &[FiberQueue],
         code: &Code,
-        fibers: &mut IntoIter<Fiber<ThreadPort<'a, R, N>>>,
+        fibers: &mut IntoIter<Resting<ThreadPort<'a, R, N>>>,
     ) -> Result<(), Memory>
         requires words { words.now ≡ N.words }
         requires queues { queues.now ≡ N.queues }
@@ -113,8 +114,8 @@ impl Gathered {
 
 /// The main fiber, which must be the first one, and those after it; where it is not, that one is lost.
 fn main_and_others<P: Port + Drop>(
-    fibers: Vec<Fiber<P>>,
-) -> Result<(Fiber<P>, IntoIter<Fiber<P>>), RunFault>
+    fibers: Vec<Resting<P>>,
+) -> Result<(Resting<P>, IntoIter<Resting<P>>), RunFault>
     ensures main { IfOk result (λ parts. (P.theory.facts parts.0.port).number ≡ 0) }
     ensures others { IfOk result (λ parts. fibers.items ≡ parts.0 ∷ into_iter_items parts.1) }
     ensures fault { IfErr result (λ fault. (fault ≡ Lost 0)
@@ -138,7 +139,7 @@ pub(crate) fn gather_all<'a, R: Wait, N: RunBrand>(
     words: &Words,
     queues: &[FiberQueue],
     code: &Code,
-    fibers: Vec<Fiber<ThreadPort<'a, R, N>>>,
+    fibers: Vec<Resting<ThreadPort<'a, R, N>>>,
 ) -> Result<Gathered, RunFault>
     requires words { words.now ≡ N.words }
     requires queues { queues.now ≡ N.queues }

@@ -11,7 +11,7 @@ ghost use Rattle.fx_run.specs.Sweep.{NoneCanGo, IsSwept};
 use crate::sweep::{Swept, closed_between, sweep};
 use fx_fiber::Fiber;
 use fx_port::{Notes, RunBrand, ThreadPort};
-use fx_sched::{Gate, round};
+use fx_sched::{Gate, Resting, round};
 use fx_term::Memory;
 use fx_text::Script;
 use std::alloc::{AllocGlobal, Global};
@@ -22,7 +22,7 @@ use std::thread::Threads;
 /// The fibers of a run that has ended, and how many waiting ones only a sweep put back.
 #[derive(Drop)]
 pub struct RanFibers<'a, R: Wait, N: RunBrand> {
-    pub fibers: Vec<Fiber<ThreadPort<'a, R, N>>>,
+    pub fibers: Vec<Resting<ThreadPort<'a, R, N>>>,
     pub late: u64,
 }
 

@@ -1,5 +1,6 @@
 //! Looks between two rounds for waiting fibers that can step.
 ghost use Rattle.std.specs.Prelude.{◌≡◌, ◌++◌, ◌∷◌, [], IfOk, OnOk};
+ghost use Rattle.std.specs.Bool.{OnFalse};
 ghost use Rattle.std.specs.List.{filter};
 ghost use Rattle.fx_text.specs.View.{meaning};
 ghost use Rattle.fx_report.specs.Script.{script_of};
@@ -9,6 +10,7 @@ use crate::queue_lengths::capacities;
 use crate::tally::Tally;
 use fx_fiber::{Closed, Fiber, Port};
 use fx_port::{RunBrand, ThreadPort};
+use fx_sched::Resting;
 use fx_term::{Code, Memory};
 use fx_text::Script;
 use std::alloc::Global;
@@ -18,12 +20,12 @@ use std::sync::Wait;
 #[derive(Drop)]
 pub(crate) struct Swept<P: Port> {
     pub able: Vec<Fiber<P>>,
-    pub unable: Vec<Fiber<P>>,
+    pub unable: Vec<Resting<P>>,
 }
 
 impl<P: Port + Drop> Swept<P> {
     /// Puts one more fiber to those that can step, or to those that cannot.
-    fn put(&mut self, code: &Code, closed: &Closed, fiber: Fiber<P>) -> Result<(), Memory>
+    fn put(&mut self, code: &Code, closed: &Closed, fiber: Resting<P>) -> Result<(), Memory>
         requires { code.now.nodes ≡ P.theory.code }
         ensures able { OnOk result (self.new.able.items
             ≡ self.old.able.items ++ filter (can_go_by P.theory closed.now) (fiber ∷ [])) }
@@ -31,7 +33,7 @@ impl<P: Port + Drop> Swept<P> {
             ≡ self.old.unable.items ++ filter (is_unable_by P.theory closed.now) (fiber ∷ [])) }
     {
         if fiber.can_step(code, closed) {
-            self.able.push(fiber)?;
+            self.able.push(fiber.into_fiber())?;
         } else {
             self.unable.push(fiber)?;
         }
@@ -44,7 +46,7 @@ impl<P: Port + Drop> Swept<P> {
 pub(crate) fn closed_between<'a, R: Wait, N: RunBrand>(
     alloc: Global,
     script: &Script,
-    fibers: &[Fiber<ThreadPort<'a, R, N>>],
+    fibers: &[Resting<ThreadPort<'a, R, N>>],
 ) -> Result<Closed, Memory>
     ensures { IfOk result
         (λ closed. lists_of closed ≡ closed_of (script_of (meaning script.now)) fibers.now) }
@@ -60,12 +62,25 @@ pub(crate) fn closed_between<'a, R: Wait, N: RunBrand>(
     })
 }
 
+/// Whether one of these can step.
+fn can_one_step<P: Port>(code: &Code, closed: &Closed, fibers: &[Resting<P>]) -> bool
+    requires { code.now.nodes ≡ P.theory.code }
+    ensures { OnFalse result (filter (can_go_by P.theory closed.now) fibers.now ≡ []) }
+{
+    for k in 0..fibers.len() {
+        if fibers[k].can_step(code, closed) {
+            return true;
+        }
+    }
+    false
+}
+
 /// Parts those that can step from those that cannot, over a port of any kind.
 fn sweep_any<P: Port + Drop>(
     alloc: Global,
     code: &Code,
     closed: &Closed,
-    fibers: Vec<Fiber<P>>,
+    fibers: Vec<Resting<P>>,
 ) -> Result<Swept<P>, Memory>
     requires { code.now.nodes ≡ P.theory.code }
     ensures able { IfOk result
@@ -73,6 +88,13 @@ fn sweep_any<P: Port + Drop>(
     ensures unable { IfOk result
         (λ swept. swept.unable.items ≡ filter (is_unable_by P.theory closed.now) fibers.items) }
 {
+    // Mostly none can, and then they stay as they lie.
+    if !can_one_step(code, closed, &fibers) {
+        return Ok(Swept {
+            able: Vec::new(alloc),
+            unable: fibers,
+        });
+    }
     let mut swept = Swept {
         able: Vec::new(alloc),
         unable: Vec::with_capacity(alloc, fibers.len())?,
@@ -88,7 +110,7 @@ pub(crate) fn sweep<'a, R: Wait, N: RunBrand>(
     alloc: Global,
     code: &Code,
     closed: &Closed,
-    fibers: Vec<Fiber<ThreadPort<'a, R, N>>>,
+    fibers: Vec<Resting<ThreadPort<'a, R, N>>>,
 ) -> Result<Swept<ThreadPort<'a, R, N>>, Memory>
     requires { code.now.nodes ≡ N.nodes }
     ensures able { IfOk result (λ swept. swept.able.items

@@ -9,8 +9,8 @@ ghost use Rattle.fx_run.specs.Tally.{empty_tally, with_shown, with_all_shown, wi
 
 use crate::flows::Flows;
 use crate::ledger::Ledger;
-use fx_fiber::Fiber;
 use fx_port::{Noted, RunBrand, ThreadPort};
+use fx_sched::Resting;
 use fx_term::{Event, Memory, Outcome, Stamped};
 use fx_text::Script;
 use std::alloc::Global;
@@ -78,7 +78,7 @@ impl Tally {
         }
     }
 
-    fn fiber<'a, R: Wait, N: RunBrand>(&mut self, fiber: &Fiber<ThreadPort<'a, R, N>>)
+    fn fiber<'a, R: Wait, N: RunBrand>(&mut self, fiber: &Resting<ThreadPort<'a, R, N>>)
         ensures { self.new ≡ with_live fiber.now self.old }
     {
         let id = fiber.id();
@@ -88,7 +88,7 @@ impl Tally {
     }
 
     /// These fibers are there.
-    pub fn fibers<'a, R: Wait, N: RunBrand>(&mut self, fibers: &[Fiber<ThreadPort<'a, R, N>>])
+    pub fn fibers<'a, R: Wait, N: RunBrand>(&mut self, fibers: &[Resting<ThreadPort<'a, R, N>>])
         ensures { self.new ≡ with_lives fibers.now self.old }
     {
         for k in 0..fibers.len() {

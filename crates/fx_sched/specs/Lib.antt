@@ -1,2 +1,3 @@
 pub mod At
 pub mod GatedTurns
+pub mod Resting

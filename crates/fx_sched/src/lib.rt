@@ -6,7 +6,7 @@
 //! |---|---|
 //! | able to go on | in a worker's deque ([`Hand`]); before the workers begin in that of the first |
 //! | in its turn | in the hand of the worker that took it |
-//! | waiting, or ended | in its bay of the [`Lot`] |
+//! | waiting, or ended | in its bay of the [`Lot`], where it rests ([`Resting`]): one that has ended as what is told of it |
 //!
 //! A worker does this again and again ([`work`]):
 //!
@@ -41,6 +41,7 @@ mod deques;
 mod drops_wakes;
 mod gate;
 mod lot;
+mod resting;
 mod rounds;
 mod threads;
 mod turns;
@@ -51,6 +52,7 @@ pub use deques::{Hand, Owner, Tasks, Work};
 pub use drops_wakes::DropsWakes;
 pub use gate::{Free, Gate};
 pub use lot::Lot;
+pub use resting::Resting;
 pub use rounds::{RoundEnd, round};
 pub use turns::{gated_turn, leave, solo};
 pub use worker::{WorkerEnd, work};

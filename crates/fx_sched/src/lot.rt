@@ -4,6 +4,7 @@ ghost use Rattle.std.specs.List.Sorted.{IsStrictlyIncreasing};
 ghost use Rattle.fx_fiber.specs.Fiber.{FiberView, progress};
 ghost use Rattle.fx_model.specs.Step.{has_ended};
 
+use crate::resting::Resting;
 use fx_fiber::{Fiber, Port};
 use fx_term::Memory;
 use std::alloc::Global;
@@ -15,7 +16,7 @@ use std::sync::{Mutex, Wait};
 #[derive(Drop)]
 struct Bay<P: Port> {
     is_woken: bool,
-    fiber: Option<Fiber<P>>,
+    fiber: Option<Resting<P>>,
 }
 
 /// A bay for each fiber number, each behind a small lock, seen as their number.
@@ -49,7 +50,7 @@ impl<P: Port + Drop> Lot<P> {
     }
 
     /// All fibers that are there, ascending by number.
-    pub fn empty(self, alloc: Global) -> Result<Vec<Fiber<P>>, Memory>
+    pub fn empty(self, alloc: Global) -> Result<Vec<Resting<P>>, Memory>
         ensures { IfOk result (λ fibers. IsStrictlyIncreasing
             (map (λ (f : FiberView P). (P.theory.facts f.port).number) fibers.items)) }
     {
@@ -71,6 +72,23 @@ impl<P: Port + Drop> Lot<P> {
         }
         Ok(all)
     }
+
+    /// Lays a fiber down that rests: one that has ended for good, and another until it is woken, as [`Lot::park`] does.
+    /// Where the bay of one that has ended is taken, it is let go.
+    pub(crate) fn lay<R: Wait>(&self, rt: &R, resting: Resting<P>) -> Option<Fiber<P>>
+        requires { P.theory.total ≤ self.now }
+        ensures { IfSome result (λ back. back ≡ resting) }
+    {
+        if !resting.has_ended() {
+            return self.park(rt, resting.into_fiber());
+        }
+        let mut guard = self.bays[resting.id() as usize].lock(rt);
+        let bay = &mut *guard;
+        if bay.fiber.is_none() {
+            bay.fiber = Some(resting);
+        }
+        None
+    }
 }
 
 impl<P: Port> Lot<P> {
@@ -85,7 +103,10 @@ impl<P: Port> Lot<P> {
             bay.is_woken = false;
             return Some(fiber);
         }
-        bay.fiber.replace(fiber)
+        match bay.fiber.replace(Resting::whole(fiber)) {
+            None => None,
+            Some(_there) => unreachable!(),
+        }
     }
 
     /// Takes the parked fiber of this number out, or leaves a wake.
@@ -97,7 +118,10 @@ impl<P: Port> Lot<P> {
         let mut guard = self.bays[id as usize].lock(rt);
         let bay = &mut *guard;
         match &bay.fiber {
-            Some(fiber) if fiber.id() == id && !fiber.has_ended() => bay.fiber.take(),
+            Some(resting) if resting.id() == id && !resting.has_ended() => {
+                let resting = bay.fiber.take()?;
+                Some(resting.into_fiber())
+            }
             _ => {
                 bay.is_woken = true;
                 None
@@ -105,7 +129,8 @@ impl<P: Port> Lot<P> {
         }
     }
 
-    /// Lays a fiber that has ended down. It is given back where its bay is taken.
+    /// Lays a fiber that has ended down, of which no more is kept there than is needed. It is given back where its bay
+    /// is taken.
     pub fn settle<R: Wait>(&self, rt: &R, fiber: Fiber<P>) -> Option<Fiber<P>>
         requires { P.theory.total ≤ self.now }
         ensures { IfSome result (λ back. back ≡ fiber) }
@@ -115,6 +140,9 @@ impl<P: Port> Lot<P> {
         if bay.fiber.is_some() {
             return Some(fiber);
         }
-        bay.fiber.replace(fiber)
+        match bay.fiber.replace(Resting::without_spare(fiber)) {
+            None => None,
+            Some(_there) => unreachable!(),
+        }
     }
 }

@@ -7,6 +7,7 @@ ghost use Rattle.fx_sched.specs.declared.worker.WorkerEnd.TheVariants.{Done};
 use crate::deques::{Hand, Work};
 use crate::gate::Gate;
 use crate::lot::Lot;
+use crate::resting::Resting;
 use crate::threads::{jobs, workers};
 use crate::worker::WorkerEnd;
 use fx_fiber::{Fiber, Port};
@@ -37,11 +38,11 @@ pub fn round<
     alloc: Global,
     total: u32,
     able: Vec<Fiber<P>>,
-    unable: Vec<Fiber<P>>,
+    unable: Vec<Resting<P>>,
     shared: Vec<P::Shared>,
     code: &Code,
     gate: &G,
-) -> Result<RoundEnd<Fiber<P>, P::Shared>, Memory>
+) -> Result<RoundEnd<Resting<P>, P::Shared>, Memory>
     requires code { code.now.nodes ≡ P.theory.code }
     requires total { P.theory.total ≤ total }
     requires gate { (id : ℕ) → G.may gate.now id ≡ true → P.theory.may id ≡ true }
@@ -82,18 +83,13 @@ fn into_lot<R: Wait, P: Port + Drop>(
     rt: &R,
     alloc: Global,
     lot: &Lot<P>,
-    unable: Vec<Fiber<P>>,
+    unable: Vec<Resting<P>>,
 ) -> Result<Vec<Fiber<P>>, Memory>
     requires { P.theory.total ≤ lot.now }
 {
     let mut able = Vec::new(alloc);
-    for fiber in unable {
-        let back = if fiber.has_ended() {
-            lot.settle(rt, fiber)
-        } else {
-            lot.park(rt, fiber)
-        };
-        if let Some(fiber) = back {
+    for resting in unable {
+        if let Some(fiber) = lot.lay(rt, resting) {
             able.push(fiber)?;
         }
     }

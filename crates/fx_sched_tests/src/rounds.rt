@@ -4,7 +4,7 @@ ghost use Rattle.std.specs.Prelude.{◌≡◌, ◌≤◌, ℕ, true, false};
 use crate::play::{Plan, play};
 use crate::steps::{last_events, start};
 use fx_fiber::{Fiber, Port};
-use fx_sched::{Free, Gate, round};
+use fx_sched::{Free, Gate, Resting, round};
 use fx_term::{Arg, Code, Event, Memory, Node, NodeId, Outcome};
 use std::alloc::{AllocGlobal, Global};
 use std::random::RandomSource;
@@ -21,13 +21,13 @@ fn started<P: Port + Drop>(
     starts: u32,
     code: &Code,
     shared: &mut P::Shared,
-) -> Result<Vec<Fiber<P>>, Memory>
+) -> Result<Vec<Resting<P>>, Memory>
     requires code { code.now.nodes ≡ P.theory.code }
 {
     let mut unable = Vec::new(alloc);
     for _ in 0..starts {
         if let Some(child) = start(main, code, shared)? {
-            unable.push(child)?;
+            unable.push(Resting::without_spare(child))?;
         }
     }
     Ok(unable)
@@ -46,7 +46,7 @@ fn begun<P: Port + Drop>(
     starts: u32,
     code: &Code,
     shared: &mut P::Shared,
-) -> Result<(Vec<Fiber<P>>, Vec<Fiber<P>>), Memory>
+) -> Result<(Vec<Fiber<P>>, Vec<Resting<P>>), Memory>
     requires code { code.now.nodes ≡ P.theory.code }
 {
     let unable = started(alloc, &mut main, starts, code, shared)?;

@@ -2,6 +2,7 @@
 ghost use Rattle.std.specs.Prelude.{◌≡◌};
 
 use fx_fiber::{Fiber, Port, Stepped};
+use fx_sched::Resting;
 use fx_term::{Code, Event, Memory, Stamped};
 use std::alloc::Global;
 
@@ -66,7 +67,7 @@ pub fn events_of(alloc: Global, trace: &[Stamped]) -> Result<Vec<Event>, Memory>
 /// The last event of each fiber, where it has one.
 pub fn last_events<P: Port + Drop>(
     alloc: Global,
-    fibers: &[Fiber<P>],
+    fibers: &[Resting<P>],
 ) -> Result<Vec<Event>, Memory> {
     let mut events = Vec::new(alloc);
     for fiber in fibers {
