@@ -15,6 +15,7 @@ use Rattle.fx_model.specs.Step as step
 use Rattle.fx_model.specs.Stamps.{one_more}
 use Rattle.fx_model.specs.declared.source.Source.{Source}
 use Rattle.fx_fiber.specs.StampedRun.{next_stamp, last_of}
+use Rattle.fx_fiber.specs.Calls.{PortCalls}
 use Rattle.fx_fiber.specs.Theory.{Theory}
 use Rattle.fx_fiber.specs.Fiber.{FiberView, fiber_at, IsUnchanged, IsKept}
 use Rattle.fx_fiber.specs.Bursts.{IsAlone, GoesBy, GoesAlone, Bursts, HasLooked, ComesAhead, LooksNext, MakesNext, ShowsOnce, GlidesTo}
@@ -26,6 +27,7 @@ use Rattle.fx_fiber.specs.declared.stepped.Stepped.TheVariants.{Went}
 use Rattle.fx_fiber.specs.Places.{IsSame, IsInside, is_open_machine, must_cancel_machine}
 use Rattle.fx_fiber.specs.Interruption.{Interrupts, ComesFirst, FindsRequest}
 use Rattle.fx_fiber.specs.Makes.{MakesIfSilent, MakesIfShown}
+use Rattle.fx_fiber.specs.MakesCall.{MakesCall}
 use Rattle.fx_fiber.specs.Advances.{Advances, Asks}
 use Rattle.fx_fiber.specs.declared.machine.made.Made.{Made}
 use Rattle.fx_fiber.specs.declared.machine.made.Made.TheVariants as made
@@ -54,7 +56,7 @@ step_knows (step.cleans r) alone = row_knows r alone
 step_knows _ alone = search
 
 -- what steps has not ended
-step_is_going : {c d : Counts} {p q : Progress} {l : Label} → Step c p l d q → has_ended p ≡ false
+pub step_is_going : {c d : Counts} {p q : Progress} {l : Label} → Step c p l d q → has_ended p ≡ false
 step_is_going (step.cancelled e) = refl
 step_is_going (step.seen e f) = refl
 step_is_going (step.row m r) = refl
@@ -79,7 +81,7 @@ module _ {P S : Type 0} (theory : Theory P S) where
       }
 
   -- a step that went on, and then contexts that are entered
-  pub went_then : (a : FiberView P) (sh : S) (b : FiberView P) (sh' : S) (c : FiberView P) → MakesStep theory a sh Went b sh'
+  unfoldable pub went_then : (a : FiberView P) (sh : S) (b : FiberView P) (sh' : S) (c : FiberView P) → MakesStep theory a sh Went b sh'
       → IsUnchanged theory.code b c → MakesStep theory a sh Went c sh'
   went_then a sh b sh' c h k = record {
     label = h.label;
@@ -99,6 +101,11 @@ module _ {P S : Type 0} (theory : Theory P S) where
   alone_then zero a sh b c h k = unchanged_then a b c h k
   alone_then (suc n) a sh b c h k = (h.0, h.1, record { does = went_then h.0 sh b sh c h.2.does k; alone = h.2.alone })
 
+  -- a fiber is known to be canceled, or not, as it was before such steps
+  pub alone_knows : (n : ℕ) (a : FiberView P) (sh : S) (b : FiberView P) → GoesAlone theory n a sh b → b.counts.known ≡ a.counts.known
+  alone_knows zero a sh b h = ap (λ (c : Counts). c.known) h.counts
+  alone_knows (suc n) a sh b h = step_knows h.2.does.step h.2.alone ∙ alone_knows n a sh h.0 h.1
+
   -- a look that serves after such a step
   pub still_looked : (looked : Looked) (p : P) (sh : S) (m m' : Machine) (l : Label)
       → Step (counts_of m) (progress_of theory.code m) l (counts_of m') (progress_of theory.code m') → IsAlone l
@@ -113,7 +120,7 @@ module _ {P S : Type 0} (theory : Theory P S) where
       subst (λ (known : Bool). HasLooked theory.calls looked known p sh) (sym (ap (λ (c : Counts). c.known) same.counts)) h
 
   -- a step that sees a request
-  seen_goes : (p : P) (sh : S) (m m' : Machine) (p' : P) (sh' : S) (t t' : List Stamped) (k k' : ℕ) (source source' : Option Source)
+  pub seen_goes : (p : P) (sh : S) (m m' : Machine) (p' : P) (sh' : S) (t t' : List Stamped) (k k' : ℕ) (source source' : Option Source)
       → k ≡ last_of (theory.facts p).beginning.stamp (stamps_in t) → Advances theory k m p sh (made.Shows event.Seen) k' m' p' sh'
       → t' ≡ t ++ record { event = event.Seen; stamp = one_more k' } ∷ []
       → GoesBy theory (Shows event.Seen) (fiber_at p t m source) sh (fiber_at p' t' m' source') sh'
@@ -221,6 +228,18 @@ module _ {P S : Type 0} (theory : Theory P S) where
     seen_is_kept p sh m m' p' sh' t t' k k' k'' kept a told ticks =
         told_keeps theory p p' p' sh sh' sh' t t' k k' k'' m m' kept (step_is_going a.rule) (made.Shows event.Seen) tt a (refl, refl) told ticks
 
+-- nothing comes first after a look in vain
+pub ahead_in_vain : {P S : Type 0} (calls : PortCalls P S) (opened known : Bool) (p : P) (sh : S) → HasLooked calls InVain known p sh
+    → ComesAhead calls opened known ahead.Rule p sh
+ahead_in_vain calls true known p sh h = (rw h.0 refl, h.1)
+ahead_in_vain calls false known p sh h = (refl, tt)
+
+-- or at a closed place
+pub ahead_closed : {P S : Type 0} (calls : PortCalls P S) (opened known : Bool) (p : P) (sh : S) → opened ≡ false
+    → ComesAhead calls opened known ahead.Rule p sh
+ahead_closed calls true known p sh e = absurd (let no : true ≡ false = e in cc)
+ahead_closed calls false known p sh e = (refl, tt)
+
 -- one turn of a burst, once its contexts are entered, at a place other than `canceled`
 module _ {P S : Type 0} (theory : Theory P S) (old s : Machine) (p : P) (sh : S) (same : IsSame theory.code old s) (inside : IsInside theory.code s false)
     (first : ComesAhead theory.calls (is_open_machine s) s.known ahead.Rule p sh) where
@@ -231,6 +250,11 @@ module _ {P S : Type 0} (theory : Theory P S) (old s : Machine) (p : P) (sh : S)
   -- cancellation is not the one rule there
   pub ahead_is_free : must_cancel_machine theory.code s ≡ false
   ahead_is_free = is_free theory old s false 0 0 p p sh sh same inside (none_first 0)
+
+  -- the rule of the place was made, with what it asks of the port
+  pub passes : (k : ℕ) (m : Made) (k' : ℕ) (s' : Machine) (p' : P) (sh' : S) → MakesCall theory k s p sh m k' s' p' sh'
+      → Advances theory k old p sh m k' s' p' sh'
+  passes k m k' s' p' sh' made = rule_advances theory old s false k k p p sh sh same inside m k' s' p' sh' (none_first k) made
 
   -- a row was made
   pub glides : (s' : Machine) → MakesIfSilent theory.code s true s' → MakesNext theory old p sh s'

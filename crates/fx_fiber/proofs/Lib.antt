@@ -24,6 +24,7 @@ pub mod QueueUses
 pub mod Telling
 pub mod QueueSteps
 pub mod Bursts
+pub mod Flows
 pub mod Starts
 pub mod LeavesBelow
 pub mod WaitsBelow

@@ -138,3 +138,8 @@ module _ {P S : Type 0} (theory : Theory P S) (outset : Outset P S) where
   -- memory was refused after fewer than so many
   abbrev pub ReachesShort : ℕ → Body → Type 0
   ReachesShort most body = (n : ℕ) × (n < most) × LeadsTo n body.machine body.trace.items body.clock
+
+-- the next event has its room, where one of at most so many steps is left
+abbrev pub HasRoomAfter : ℕ → Reached → Body → Type 0
+HasRoomAfter most (reached.Looks n) body = vec_len body.trace < vec_capacity body.trace
+HasRoomAfter most (reached.Stops n) body = n < most → vec_len body.trace < vec_capacity body.trace

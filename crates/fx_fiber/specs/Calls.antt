@@ -7,7 +7,8 @@ use Rattle.fx_term.specs.declared.offered.Offered.TheVariants.{Done, Full}
 use Rattle.fx_model.specs.Row.{Range}
 use Rattle.fx_model.specs.declared.source.Source.{Source}
 
--- for each call the port and the outside before it, what it is given, its answer, and both after it; the answer of a start is the port of the child
+-- for each call the port and the outside before it, what it is given, its answer, and both after it; the answer of a start is the port of the child,
+-- and a fiber goes on only where this is so
 pub record PortCalls (P S : Type 0) : Type 1 where
   pub looks : P → S → Option ℕ → P → S → Type 0
   pub requests : P → S → ℕ → ℕ → P → S → Type 0
@@ -18,6 +19,7 @@ pub record PortCalls (P S : Type 0) : Type 1 where
   pub finishes : P → S → Outcome → ℕ → P → S → Type 0
   pub outsides : P → S → ℕ → P → S → Type 0
   pub waits : P → S → Source → P → S → Type 0
+  pub goes_on : P → S → Type 0
   pub wakes : S → Option ℕ → S → Type 0
 
 -- the fiber numbers that a fiber begins with

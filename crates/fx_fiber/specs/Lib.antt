@@ -23,6 +23,7 @@ pub mod Ended
 pub mod MakesStep
 pub mod MakesStart
 pub mod Bursts
+pub mod Flows
 pub mod Turns
 pub mod Telling
 pub mod QueueSteps

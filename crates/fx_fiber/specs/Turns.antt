@@ -1,5 +1,5 @@
 -- What one poll of a turn does.
-use Rattle.std.specs.Prelude.{◌≡◌, ℕ, suc, ◌<◌, ◌⊎◌, Bool, true, false, Option, Some, None}
+use Rattle.std.specs.Prelude.{◌≡◌, ℕ, zero, suc, ◌<◌, ◌⊎◌, Bool, true, false, Option, Some, None}
 use Rattle.futures.specs.declared.task.Poll.{Poll}
 use Rattle.futures.specs.declared.task.Poll.TheVariants.{Ready, Pending}
 use Rattle.fx_model.specs.Step.{has_ended}
@@ -87,3 +87,8 @@ module _ {P S : Type 0} (theory : Theory P S) where
 abbrev pub come_to : {A : Type 0} → Poll A → Option A
 come_to (Ready x) = Some x
 come_to Pending = None
+
+-- whether a fiber is still registered that was or was not, after so many steps that went on
+abbrev pub still : Bool → ℕ → Bool
+still was zero = was
+still was (suc n) = false

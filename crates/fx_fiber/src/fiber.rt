@@ -17,6 +17,7 @@ pub(crate) mod ahead;
 pub(crate) mod body;
 mod burst;
 mod child;
+pub(crate) mod flow;
 mod fork;
 pub(crate) mod glide;
 pub(crate) mod queue_step;
@@ -29,6 +30,7 @@ mod trace_room;
 
 use body::Body;
 use burst::burst;
+use flow::{Flow, burst_from_result, flow_on, stands_at_queue, stands_with_result};
 use step::step;
 
 /// A fiber: a running term, what it keeps beside it, its trace, and its port. By its type the trace
@@ -70,6 +72,9 @@ impl<P: Port> Fiber<P> {
     ghost use Rattle.fx_fiber.specs.Fiber.{is_fiber_number, IsAtFirst, IsLawful, IsUnchanged, progress};
     ghost use Rattle.fx_fiber.specs.MakesStep.{DoesStep};
     ghost use Rattle.fx_fiber.specs.Bursts.{Bursts, BurstsShort};
+    ghost use Rattle.fx_fiber.specs.Flows.{FlowsTo};
+    ghost use Rattle.fx_fiber.specs.QueueSteps.{StandsAtQueue, StandsWithResult, is_due};
+    ghost use Rattle.std.specs.Bool.{OnTrue};
     ghost use Rattle.fx_fiber.specs.Cancels.{CancelsAmong};
     ghost use Rattle.fx_fiber.specs.NodePlaces.{is_open_at, IsPlaceOf, HasNoNode};
     ghost use Rattle.std.specs.Prelude.{option_and_then, MatchOption};
@@ -182,6 +187,15 @@ impl<P: Port> Fiber<P> {
         self.body.machine.waits_for(code)
     }
 
+    /// The same, soonest at an `offer` or a `take`.
+    #[inline(always)]
+    pub fn waits_at_queue(&self, code: &Code) -> Option<Source>
+        requires code { code.now.nodes ≡ P.theory.code }
+        ensures { result ≡ option_and_then wait_at (leaf_at (progress P.theory.code self.now)) }
+    {
+        self.body.machine.waits_at_queue(code)
+    }
+
     /// Whether the place where the fiber stands is open: nothing closes it, so a request is seen there before any
     /// rule but that of a cancellation. Between clean-ups and at its end it has no place.
     pub fn is_open(&self, code: &Code) -> bool
@@ -219,6 +233,7 @@ impl<P: Port> Fiber<P> {
     }
 
     /// Registers the fiber with what it waits for, by its port.
+    #[inline(always)]
     pub fn wait_on(&mut self, shared: &mut P::Shared, source: Source)
         ensures told { P.theory.calls.waits self.old.port shared.old source self.new.port shared.new }
         ensures same { self.new ≡ record self.old { port = self.new.port; source = Some source } }
@@ -318,5 +333,62 @@ impl<P: Port> Fiber<P> {
         ensures source { self.new.source ≡ self.old.source }
     {
         burst(&mut self.port, &mut self.body, code, shared, most)
+    }
+
+    /// Whether it stands at an `offer` or a `take`, in no context that is yet to be entered, and cancellation is not due.
+    #[inline(always)]
+    pub fn stands_at_queue(&self, code: &Code) -> bool
+        requires code { code.now.nodes ≡ P.theory.code }
+        ensures { OnTrue result (StandsAtQueue P.theory.code self.now.focus (is_due self.now)) }
+    {
+        stands_at_queue(&self.body, code)
+    }
+
+    /// Whether it stands with a result, and cancellation is not due there.
+    #[inline(always)]
+    pub fn stands_with_result(&self) -> bool
+        ensures { OnTrue result (StandsWithResult self.now.focus (is_due self.now)) }
+    {
+        stands_with_result(&self.body)
+    }
+
+    /// Makes the rules of a burst, as `burst` does, of a fiber that stands with a result: for one who hopes that they lead
+    /// to an `offer` or a `take`, as they do in the loops of most scripts.
+    #[inline(always)]
+    pub fn burst_from_result(
+        &mut self,
+        code: &Code,
+        shared: &mut P::Shared,
+        most: u32,
+    ) -> Result<u32, Memory>
+        requires code { code.now.nodes ≡ P.theory.code }
+        requires some { 0 < most }
+        requires stands { StandsWithResult self.old.focus (is_due self.old) }
+        ensures ok { IfOk result (λ n. Bursts P.theory most n
+            self.old shared.old self.new shared.new) }
+        ensures err { OnErr result (BurstsShort P.theory most
+            self.old shared.old self.new shared.new) }
+        ensures number { (P.theory.facts self.new.port).number ≡ (P.theory.facts self.old.port).number }
+        ensures beginning { (P.theory.facts self.new.port).beginning ≡ (P.theory.facts self.old.port).beginning }
+        ensures source { self.new.source ≡ self.old.source }
+    {
+        burst_from_result(&mut self.port, &mut self.body, code, shared, most)
+    }
+
+    /// Makes steps in one go, at most so many, of a fiber that stands at an `offer` or a `take`: beside the rules of a
+    /// burst those of offers and takes, for as long as these have room or elements and its port says that it goes on.
+    /// It makes a step at least, unless the fiber waits where it stands.
+    #[inline(always)]
+    pub fn flow(&mut self, code: &Code, shared: &mut P::Shared, most: u32) -> Flow
+        requires code { code.now.nodes ≡ P.theory.code }
+        requires some { 0 < most }
+        requires stands { StandsAtQueue P.theory.code self.old.focus (is_due self.old) }
+        ensures to { FlowsTo P.theory most
+            self.old shared.old result self.new shared.new }
+        ensures number { (P.theory.facts self.new.port).number ≡ (P.theory.facts self.old.port).number }
+        ensures beginning { (P.theory.facts self.new.port).beginning ≡ (P.theory.facts self.old.port).beginning }
+        ensures source { self.new.source ≡ self.old.source }
+    {
+        flow_on(&mut self.port, &mut self.body, code, shared, most)
     }
 }

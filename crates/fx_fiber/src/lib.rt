@@ -97,6 +97,7 @@ pub use bare::Bare;
 pub use begin::main_begin;
 pub use ended::Ended;
 pub use fiber::Fiber;
+pub use fiber::flow::Flow;
 pub use fx_model::{Closed, FiberReport, Report, Source, State, laws};
 pub use port::Port;
 pub use queue_use::QueueUse;

@@ -1,6 +1,7 @@
 //! What a fiber reaches of the outside.
 ghost use Rattle.std.specs.Prelude.{◌≡◌, ◌<◌, ◌^◌, true, false, []};
 ghost use Rattle.std.specs.Prelude.{IfSome, IfOk, IfNone, OnErr};
+ghost use Rattle.std.specs.Bool.{OnTrue};
 ghost use Rattle.fx_fiber.specs.Deed.{Started, Requested, Saw, Got, FoundEmpty, FoundEnded, Ended};
 ghost use Rattle.fx_fiber.specs.Deed.{deed_of_offer};
 ghost use Rattle.fx_fiber.specs.StampedDeed.{number_of_offer};
@@ -54,6 +55,7 @@ use fx_term::{Begin, Memory, Offered, Outcome};
 /// | `finish` | `Ended` with its stamp | `has_finished` |
 /// | `outside` | none | `agrees` holds of the deeds as before |
 /// | `wait_on` | none | `agrees` holds of the deeds as before |
+/// | `goes_on` | none | |
 /// | `woken` | none, since it is no fiber's | its answer is below `total` |
 ///
 /// A new port, the child's or the main fiber's, has the first facts of the number and the beginning that are
@@ -196,6 +198,10 @@ pub trait Port: Sized {
         ensures told { theory.calls.waits self.old shared.old source self.new shared.new }
         ensures facts { theory.facts self.new ≡ theory.facts self.old }
         ensures deed { HasDoneNothing theory self.old self.new };
+
+    /// Whether the fiber may make its next step at once, after one that put an element or took one.
+    fn goes_on(&self, shared: &Self::Shared) -> bool
+        ensures { OnTrue result (theory.calls.goes_on self.now shared.now) };
 
     /// Takes out the number of a fiber that is to be woken, if one is noted.
     fn woken(shared: &mut Self::Shared) -> Option<u32>

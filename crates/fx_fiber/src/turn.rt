@@ -1,11 +1,19 @@
 //! A turn of a fiber, as a future.
-ghost use Rattle.std.specs.Prelude.{◌≡◌, ⊤};
+ghost use Rattle.std.specs.Prelude.{◌≡◌, ◌<◌, ⊤};
 ghost use Rattle.futures.specs.Poll.{IfReady, OnPending};
 ghost use Rattle.futures.specs.Task.{Covers, Keeps};
-ghost use Rattle.fx_fiber.specs.Turns.{Turns, come_to};
+ghost use Rattle.std.specs.Prelude.{Some, option_and_then};
+ghost use Rattle.fx_model.specs.declared.source.Source.{Source};
+ghost use Rattle.fx_model.specs.Step.{leaf_at};
+ghost use Rattle.fx_model.specs.Waiting.{wait_at};
+ghost use Rattle.fx_fiber.specs.Fiber.{progress};
+ghost use Rattle.fx_fiber.specs.Flows.{FlowsTo};
+ghost use Rattle.fx_fiber.specs.QueueSteps.{StandsAtQueue, is_due};
+ghost use Rattle.fx_fiber.specs.Turns.{Turns, Registers, come_to, still};
 ghost use Rattle.fx_fiber.specs.declared.turned.Turned.{Turned};
 
 use crate::fiber::Fiber;
+use crate::fiber::flow::Flow;
 use crate::port::Port;
 use crate::stepped::Stepped;
 use crate::turned::Turned;
@@ -84,32 +92,91 @@ fn stepped<P: Port>(fiber: &mut Fiber<P>, code: &Code, shared: &mut P::Shared) -
     }
     let mut is_registered = false;
     let mut steps = 0u32;
+    let mut flows = fiber.stands_at_queue(code);
     while steps < 64 {
-        match fiber.step(code, shared) {
-            Err(Memory) => return Some(Turned::Memory),
-            Ok(Stepped::Child(child)) => return Some(Turned::Child(child)),
-            Ok(Stepped::Ended) => return Some(Turned::Ended),
-            Ok(Stepped::Gave) => {
-                fiber.yields();
-                return None;
-            }
-            Ok(Stepped::Went) => match fiber.burst(code, shared, 63 - steps) {
-                Err(Memory) => return Some(Turned::Memory),
-                Ok(made) => {
+        if flows {
+            match flow_apart(fiber, code, shared, 64 - steps) {
+                Flow::Memory => return Some(Turned::Memory),
+                Flow::Stops(made) => {
                     is_registered = false;
-                    steps += made + 1;
+                    steps += made;
+                    flows = false;
                 }
-            },
-            Ok(Stepped::Waits(source)) => {
-                if is_registered {
+                Flow::Waits(made) => {
+                    if still(is_registered, made) {
+                        return None;
+                    }
+                    register(fiber, code, shared);
+                    is_registered = true;
+                    steps += made + 1;
+                    flows = fiber.stands_at_queue(code);
+                }
+            }
+        } else {
+            match fiber.step(code, shared) {
+                Err(Memory) => return Some(Turned::Memory),
+                Ok(Stepped::Child(child)) => return Some(Turned::Child(child)),
+                Ok(Stepped::Ended) => return Some(Turned::Ended),
+                Ok(Stepped::Gave) => {
+                    fiber.yields();
                     return None;
                 }
-                fiber.wait_on(shared, source);
-                is_registered = true;
-                steps += 1;
+                Ok(Stepped::Went) => match fiber.burst(code, shared, 63 - steps) {
+                    Err(Memory) => return Some(Turned::Memory),
+                    Ok(made) => {
+                        is_registered = false;
+                        steps += made + 1;
+                        flows = fiber.stands_at_queue(code);
+                    }
+                },
+                Ok(Stepped::Waits(source)) => {
+                    if is_registered {
+                        return None;
+                    }
+                    fiber.wait_on(shared, source);
+                    is_registered = true;
+                    steps += 1;
+                }
             }
         }
     }
     fiber.yields();
     None
+}
+
+/// Lets the fiber make steps in one go. It is not laid into the turn, whose bursts would be dearer so.
+#[inline(never)]
+fn flow_apart<P: Port>(fiber: &mut Fiber<P>, code: &Code, shared: &mut P::Shared, most: u32) -> Flow
+    requires code { code.now.nodes ≡ P.theory.code }
+    requires some { 0 < most }
+    requires stands { StandsAtQueue P.theory.code fiber.old.focus (is_due fiber.old) }
+    ensures to { FlowsTo P.theory most fiber.old shared.old result fiber.new shared.new }
+    ensures number { (P.theory.facts fiber.new.port).number ≡ (P.theory.facts fiber.old.port).number }
+    ensures beginning { (P.theory.facts fiber.new.port).beginning ≡ (P.theory.facts fiber.old.port).beginning }
+    ensures source { fiber.new.source ≡ fiber.old.source }
+{
+    fiber.flow(code, shared, most)
+}
+
+/// Whether a fiber that was registered still is, after so many steps that went on.
+#[inline(always)]
+fn still(is_registered: bool, made: u32) -> bool
+    ensures { result ≡ still is_registered made }
+{
+    is_registered && made == 0
+}
+
+/// Registers a fiber that waits with what it waits for, soonest where that is a queue.
+#[inline(always)]
+fn register<P: Port>(fiber: &mut Fiber<P>, code: &Code, shared: &mut P::Shared)
+    requires code { code.now.nodes ≡ P.theory.code }
+    requires waits { (wait : Source) × (option_and_then wait_at (leaf_at (progress P.theory.code fiber.old)) ≡ Some wait) }
+    ensures registered { (wait : Source) × (option_and_then wait_at (leaf_at (progress P.theory.code fiber.old)) ≡ Some wait)
+        × Registers P.theory fiber.old shared.old wait fiber.new shared.new }
+    ensures facts { P.theory.facts fiber.new.port ≡ P.theory.facts fiber.old.port }
+{
+    let Some(wait) = fiber.waits_at_queue(code) else {
+        unreachable!();
+    };
+    fiber.wait_on(shared, wait);
 }

@@ -54,6 +54,7 @@ impl<J: CodeBrand> Port for Alone<J> {
         finishes = λ p s outcome stamp p' s'. (p' ≡ record p { has_ended = true }) × (s' ≡ s);
         outsides = λ p s id p' s'. (p' ≡ p) × (s' ≡ s);
         waits = λ p s source p' s'. (p' ≡ p) × (s' ≡ s);
+        goes_on = λ p s. Unit {0};
         wakes = λ s woken s'. (woken ≡ None) × (s' ≡ s);
       };
       facts = λ p. record {
@@ -103,6 +104,10 @@ impl<J: CodeBrand> Port for Alone<J> {
     fn outside(&mut self, _alloc: &mut Global, _id: u32) {}
 
     fn wait_on(&mut self, _alloc: &mut Global, _source: Source) {}
+
+    fn goes_on(&self, _alloc: &Global) -> bool {
+        true
+    }
 
     fn woken(_alloc: &mut Global) -> Option<u32> {
         None

@@ -172,6 +172,7 @@ impl<J: CodeBrand> Port for TestPort<J> {
         finishes = λ p s outcome stamp p' s'. (p' ≡ record p { told = Some outcome }) × (s' ≡ s);
         outsides = λ p s id p' s'. p' ≡ p;
         waits = λ p s source p' s'. (p' ≡ p) × (s' ≡ s);
+        goes_on = λ p s. Unit {0};
         wakes = λ s woken s'. (woken ≡ None) × (s' ≡ s);
       };
       facts = λ p. record {
@@ -243,6 +244,10 @@ impl<J: CodeBrand> Port for TestPort<J> {
 
     fn wait_on(&mut self, looks: &mut Looks, source: Source) {
         looks.registered.set(Some(source));
+    }
+
+    fn goes_on(&self, _looks: &Looks) -> bool {
+        true
     }
 
     fn woken(_looks: &mut Looks) -> Option<u32> {

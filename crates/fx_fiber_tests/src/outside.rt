@@ -84,6 +84,7 @@ impl<J: CodeBrand> Port for OutsidePort<J> {
         finishes = λ p s outcome stamp p' s'. Unit {0};
         outsides = λ p s id p' s'. Unit {0};
         waits = λ p s source p' s'. Unit {0};
+        goes_on = λ p s. Unit {0};
         wakes = λ s woken s'. Unit {0};
       };
       facts = λ p. record {
@@ -144,6 +145,10 @@ impl<J: CodeBrand> Port for OutsidePort<J> {
     fn outside(&mut self, _outside: &mut Outside, _id: u32) {}
 
     fn wait_on(&mut self, _outside: &mut Outside, _source: Source) {}
+
+    fn goes_on(&self, _outside: &Outside) -> bool {
+        true
+    }
 
     fn woken(_outside: &mut Outside) -> Option<u32> {
         None

@@ -13,9 +13,10 @@ use Rattle.fx_model.specs.Origin.{main_begin_of}
 use Rattle.fx_model.specs.Row.{Range}
 use Rattle.fx_model.specs.declared.source.Source.{Source}
 use Rattle.fx_plain.specs.PlainQueue.{queue_at, have_room, IsFront}
+use Rattle.fx_plain.specs.NumberSet.{IsLeastOf}
 use Rattle.fx_plain.specs.PutCounts.{one_more_put}
-use Rattle.fx_plain.specs.World.{WorldView, is_requested_in, asked_in, outcome_in, ended_in, after_request, after_request_from_outside, after_start}
-use Rattle.fx_plain.specs.World.{after_end, after_put, after_take}
+use Rattle.fx_plain.specs.World.{WorldView, is_ready_in, is_requested_in, asked_in, outcome_in, ended_in, after_request}
+use Rattle.fx_plain.specs.World.{after_request_from_outside, after_start, after_end, after_put, after_take}
 
 -- a port: its fiber's number, what that began with, the numbers that it has left, how many elements it has put into each queue, and whether its end was
 -- told
@@ -78,6 +79,10 @@ OutsidesIn p w g p' w' = (p' ≡ p) × (w' ≡ after_request_from_outside g w)
 abbrev pub WaitsIn : PortView → WorldView → Source → PortView → WorldView → Type 0
 WaitsIn p w source p' w' = (p' ≡ p) × (w' ≡ w)
 
+-- a fiber goes on where it is the least one that is ready
+abbrev pub GoesOnIn : PortView → WorldView → Type 0
+GoesOnIn p w = IsLeastOf (is_ready_in w) (Some p.number)
+
 abbrev pub WakesIn : WorldView → Option ℕ → WorldView → Type 0
 WakesIn w woken w' = (woken ≡ None) × (w' ≡ w)
 
@@ -92,6 +97,7 @@ plain_calls = record {
   finishes = FinishesIn;
   outsides = OutsidesIn;
   waits = WaitsIn;
+  goes_on = GoesOnIn;
   wakes = WakesIn;
 }
 

@@ -130,6 +130,11 @@ impl<J: CodeBrand> Port for PlainPort<J> {
         // who has the fibers finds by the world which of them may step
     }
 
+    #[inline(always)]
+    fn goes_on(&self, world: &PlainWorld) -> bool {
+        world.is_next(self.id)
+    }
+
     fn woken(_world: &mut PlainWorld) -> Option<u32> {
         None
     }

@@ -2,6 +2,7 @@
 ghost use Rattle.std.specs.Prelude.{◌≡◌, ◌<◌, ◌≤◌, List, Some, true, false, IfOk, IfSome, IfNone, OnOk, OnErr};
 ghost use Rattle.std.specs.Prelude.{length, map, option_map, slice_index_or, slice_set};
 ghost use Rattle.std.specs.List.{filter, range_with_len};
+ghost use Rattle.std.specs.Bool.{OnTrue};
 ghost use Rattle.fx_plain.specs.declared.class.Class.TheVariants.{Able, Waits};
 ghost use Rattle.fx_plain.specs.NumberSet.{IsLeastOf};
 ghost use Rattle.fx_plain.specs.ClassSets.{class_at, is_able};
@@ -422,6 +423,7 @@ impl PlainWorld {
     }
 
     /// The fiber waits for that.
+    #[inline(always)]
     pub fn wait(&mut self, fiber: u32, source: Source)
         requires { fiber < length self.old.classes }
         ensures { self.new
@@ -429,6 +431,14 @@ impl PlainWorld {
     {
         self.found = None;
         self.classes.wait(fiber, source);
+    }
+
+    /// Whether the fiber is known to be the least one that is ready.
+    #[inline(always)]
+    pub(crate) fn is_next(&self, fiber: u32) -> bool
+        ensures { OnTrue result (IsLeastOf (is_ready_in self.now) (Some fiber)) }
+    {
+        self.found == Some(fiber)
     }
 
     /// The least number of a fiber that is ready. It searches for it only where it is not known.

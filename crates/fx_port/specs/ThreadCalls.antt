@@ -82,6 +82,7 @@ thread_calls fibers = record {
   finishes = FinishesOn;
   outsides = OutsidesOn fibers;
   waits = WaitsOn;
+  goes_on = λ p w. Unit {0};
   wakes = TakesMark;
 }
 

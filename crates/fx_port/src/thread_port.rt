@@ -12,7 +12,7 @@ use crate::own::Own;
 use crate::passes::Passes;
 use crate::run_brand::RunBrand;
 use crate::sources::Sources;
-use crate::waiting::{is_waited_at, leave, wait, wake_at};
+use crate::waiting::{is_waited_at, leave, leave_at, wait, wake_at};
 use fx_fiber::{Port, Source};
 use fx_queue::{FiberQueue, Side};
 use fx_term::{Begin, Memory, Offered, Outcome};
@@ -176,14 +176,14 @@ impl<'a, R: Wait, N: RunBrand> Port for ThreadPort<'a, R, N> {
             .offer(rt, queues, queue, fiber, value, stamp)
         {
             Offered::Done => {
-                let met = Some(Source::Room(queue));
-                leave(
+                leave_at(
                     rt,
                     queues,
                     self.own.sources,
                     fiber,
                     &mut self.own.waited,
-                    met,
+                    queue,
+                    Side::Room,
                     notes,
                 );
                 if is_waited_at(queues, queue, Side::Element) {
@@ -199,14 +199,14 @@ impl<'a, R: Wait, N: RunBrand> Port for ThreadPort<'a, R, N> {
         let (rt, queues, fiber) = (self.own.rt, self.own.queues, self.seat.id());
         match self.own.passes.take(rt, queues, queue) {
             Some(element) => {
-                let met = Some(Source::Element(queue));
-                leave(
+                leave_at(
                     rt,
                     queues,
                     self.own.sources,
                     fiber,
                     &mut self.own.waited,
-                    met,
+                    queue,
+                    Side::Element,
                     notes,
                 );
                 if is_waited_at(queues, queue, Side::Room) {
@@ -263,6 +263,7 @@ impl<'a, R: Wait, N: RunBrand> Port for ThreadPort<'a, R, N> {
         }
     }
 
+    #[inline(always)]
     fn wait_on(&mut self, _notes: &mut Notes<N>, source: Source) {
         wait(
             self.own.rt,
@@ -272,6 +273,11 @@ impl<'a, R: Wait, N: RunBrand> Port for ThreadPort<'a, R, N> {
             source,
         );
         self.own.waited = Some(source);
+    }
+
+    #[inline(always)]
+    fn goes_on(&self, _notes: &Notes<N>) -> bool {
+        true
     }
 
     fn woken(notes: &mut Notes<N>) -> Option<u32> {

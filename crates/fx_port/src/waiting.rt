@@ -11,6 +11,7 @@ use fx_queue::{FiberQueue, Side};
 use std::sync::Wait;
 
 /// Lists the fiber where what it waits for is told.
+#[inline(always)]
 pub(crate) fn wait<R: Wait>(
     rt: &R,
     queues: &[FiberQueue],
@@ -55,6 +56,31 @@ pub(crate) fn leave<R: Wait, N: RunBrand>(
     if let Some(source) = *waited {
         *waited = None;
         leave_source(rt, queues, sources, fiber, source, met, notes);
+    }
+}
+
+/// The same of a fiber that put an element into a queue, or took one. What it met is not made where it did not wait.
+#[inline(always)]
+pub(crate) fn leave_at<R: Wait, N: RunBrand>(
+    rt: &R,
+    queues: &[FiberQueue],
+    sources: &Sources,
+    fiber: u32,
+    waited: &mut Option<Source>,
+    queue: u8,
+    side: Side,
+    notes: &mut Notes<N>,
+)
+    requires { (q : ℕ) (i : QueueId) → slice_get queues.now q ≡ Some i → fiber < i.fibers }
+    ensures { KeepsMarks notes.old notes.new }
+{
+    if let Some(source) = *waited {
+        *waited = None;
+        let met = match side {
+            Side::Room => Source::Room(queue),
+            Side::Element => Source::Element(queue),
+        };
+        leave_source(rt, queues, sources, fiber, source, Some(met), notes);
     }
 }
 

@@ -80,6 +80,7 @@ impl<'a, R: Wait, J: CodeBrand> Port for LockedPort<'a, R, J> {
         finishes = λ p s outcome stamp p' s'. Unit {0};
         outsides = λ p s id p' s'. Unit {0};
         waits = λ p s source p' s'. Unit {0};
+        goes_on = λ p s. Unit {0};
         wakes = λ s woken s'. Unit {0};
       };
       facts = λ p. record {
@@ -157,6 +158,10 @@ impl<'a, R: Wait, J: CodeBrand> Port for LockedPort<'a, R, J> {
 
     fn wait_on(&mut self, _notes: &mut Notes<J>, source: Source) {
         self.board.lock(self.rt).wait_on(self.id, source);
+    }
+
+    fn goes_on(&self, _notes: &Notes<J>) -> bool {
+        true
     }
 
     fn woken(notes: &mut Notes<J>) -> Option<u32> {

@@ -20,7 +20,7 @@ use fx_term::{Code, Memory};
 /// What comes before the rule of the place: at an open one cancellation where it is due, and else a
 /// request where a look finds one, to whose stamp the clock is raised.
 #[inline(always)]
-pub(crate) fn interruption<P: Port>(
+fn interruption<P: Port>(
     port: &mut P,
     machine: &Machine,
     shared: &mut P::Shared,

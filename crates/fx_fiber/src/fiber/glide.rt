@@ -4,7 +4,9 @@ ghost use Rattle.fx_fiber.specs.Sound.{IsSoundMachine};
 ghost use Rattle.fx_fiber.specs.Places.{IsSame, is_open_machine};
 ghost use Rattle.fx_fiber.specs.Bursts.{Outset, HasLooked, ComesAhead, MakesNext, ShowsOnce, GlidesOnce};
 ghost use Rattle.fx_fiber.specs.declared.machine.focus.Focus.TheVariants.{Eval, Return};
+ghost use Rattle.fx_fiber.specs.Flows.{GlidesTwice};
 ghost use Rattle.fx_fiber.specs.declared.fiber.ahead.Ahead.TheVariants.{Rule};
+ghost use Rattle.fx_fiber.specs.declared.fiber.ahead.Looked.TheVariants.{InVain};
 
 use crate::fiber::ahead::{Ahead, Looked, look_ahead};
 use crate::machine::Machine;
@@ -13,6 +15,7 @@ use crate::machine::focus::Focus;
 use crate::machine::node_row::NodeRow;
 use crate::machine::result_row::ResultRow;
 use crate::port::Port;
+use fx_frames::Frame;
 use fx_term::{Code, Done, Event, Memory, NodeId};
 
 /// What one turn of a burst did.
@@ -164,6 +167,28 @@ fn glide_result<P: Port>(
         }
         ResultRow::Other => Ok(Glided::Returns),
     }
+}
+
+/// Makes the end of a loop's turn and what comes next in that loop, where these are the next two rules, and answers
+/// whether it did. It is after a look in vain.
+#[inline(always)]
+pub(crate) fn glide_turn<P: Port>(machine: &mut Machine, code: &Code) -> Result<bool, Memory>
+    ghost outset: { Outset P P.Shared }
+    requires code { code.now.nodes ≡ P.theory.code }
+    requires sound { IsSoundMachine P.theory.code machine.old }
+    requires looked { HasLooked P.theory.calls InVain machine.old.known outset.port outset.shared }
+    ensures ok { IfOk result (λ made. GlidesTwice P.theory
+        machine.old outset.port outset.shared made machine.new) }
+    ensures err { OnErr result (IsSame P.theory.code machine.old machine.new) }
+{
+    let Focus::Return(Done::Val(_)) = machine.focus else {
+        return Ok(false);
+    };
+    let Some(&Frame::Loop(id, turn)) = machine.frames.last() else {
+        return Ok(false);
+    };
+    machine.turn_goes_on(id, turn, code.node(id))?;
+    Ok(true)
 }
 
 /// Makes the rule of a bracket with the result that stands there, and answers what it shows, yet to be told. It is

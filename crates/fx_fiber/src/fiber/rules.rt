@@ -1,7 +1,7 @@
 //! The rules of a burst between two looks.
 ghost use Rattle.std.specs.Prelude.{◌≡◌, ◌≤◌, ◌<◌, IfOk, OnErr};
 ghost use Rattle.std.specs.Vec.{vec_len, vec_capacity};
-ghost use Rattle.fx_fiber.specs.Bursts.{Outset, HasLooked, LeadsTo, Reaches, ReachesShort};
+ghost use Rattle.fx_fiber.specs.Bursts.{Outset, HasLooked, LeadsTo, Reaches, ReachesShort, HasRoomAfter};
 
 use crate::fiber::ahead::{Ahead, Looked, look_ahead};
 use crate::fiber::body::Body;
@@ -40,6 +40,7 @@ fn rules<P: Port>(
     requires looked { HasLooked P.theory.calls looked body.old.machine.known outset.port outset.shared }
     ensures ok { IfOk result (λ reached. Reaches P.theory outset most
         reached body.new) }
+    ensures room { IfOk result (λ reached. HasRoomAfter most reached body.new) }
     ensures err { OnErr result (ReachesShort P.theory outset most body.new) }
     ensures id { body.new.id ≡ body.old.id }
     ensures source { body.new.source ≡ body.old.source }
@@ -84,6 +85,7 @@ pub(crate) fn rules_after_look<P: Port>(
     requires looked { HasLooked P.theory.calls Looked.InVain body.old.machine.known outset.port outset.shared }
     ensures ok { IfOk result (λ reached. Reaches P.theory outset most
         reached body.new) }
+    ensures room { IfOk result (λ reached. HasRoomAfter most reached body.new) }
     ensures err { OnErr result (ReachesShort P.theory outset most body.new) }
     ensures id { body.new.id ≡ body.old.id }
     ensures source { body.new.source ≡ body.old.source }
@@ -93,7 +95,11 @@ pub(crate) fn rules_after_look<P: Port>(
 
 /// The rules from a closed place on.
 #[inline(never)]
-fn closed_rules<P: Port>(body: &mut Body, code: &Code, most: u32) -> Result<Reached, Memory>
+pub(crate) fn closed_rules<P: Port>(
+    body: &mut Body,
+    code: &Code,
+    most: u32,
+) -> Result<Reached, Memory>
     ghost outset: { Outset P P.Shared }
     requires code { code.now.nodes ≡ P.theory.code }
     requires to { LeadsTo P.theory outset 0
@@ -101,6 +107,7 @@ fn closed_rules<P: Port>(body: &mut Body, code: &Code, most: u32) -> Result<Reac
     requires room { vec_len body.old.trace < vec_capacity body.old.trace }
     ensures ok { IfOk result (λ reached. Reaches P.theory outset most
         reached body.new) }
+    ensures room { IfOk result (λ reached. HasRoomAfter most reached body.new) }
     ensures err { OnErr result (ReachesShort P.theory outset most body.new) }
     ensures id { body.new.id ≡ body.old.id }
     ensures source { body.new.source ≡ body.old.source }

@@ -7,15 +7,13 @@ ghost use Rattle.fx_fiber.specs.MakesStep.{DoesStep};
 
 use crate::fiber::advance::advance;
 use crate::fiber::body::Body;
-use crate::fiber::queue_step::queue_step;
 use crate::fiber::start::start;
 use crate::fiber::tell::tell;
 use crate::fiber::trace_room::have_room;
-use crate::machine::focus::Focus;
 use crate::machine::made::Made;
 use crate::port::Port;
 use crate::stepped::Stepped;
-use fx_term::{Code, Memory, Node};
+use fx_term::{Code, Memory};
 
 /// Makes exactly one rule, and tells it; or answers that the fiber waits. The room for its event is had
 /// first.
@@ -43,12 +41,6 @@ pub(crate) fn step<P: Port>(
     ensures beginning { (P.theory.facts port.new).beginning ≡ (P.theory.facts port.old).beginning }
 {
     have_room(&mut body.trace)?;
-    if let Focus::Eval(id) = body.machine.focus {
-        let node = code.node(id);
-        if matches!(node, Node::Offer(..) | Node::Take(_)) {
-            return queue_step(port, body, shared, node);
-        }
-    }
     let made = advance(port, &mut body.machine, code, shared, &mut body.clock)?;
     if let Made::Starts(slot, started, then) = made {
         let child = start(port, body, code, shared, slot, started, then)?;

@@ -34,6 +34,25 @@ impl Machine {
         }
     }
 
+    /// The same, soonest at an `offer` or a `take`.
+    #[inline(always)]
+    pub fn waits_at_queue(&self, code: &Code) -> Option<Source>
+        ghost nodes: { List Node }
+        requires code { code.now.nodes ≡ nodes }
+        requires sound { IsSoundMachine nodes self.now }
+        requires scoped { IsProgressScopedOver is_fiber_number (progress_of nodes self.now) }
+        ensures { result ≡ option_and_then wait_at (leaf_at (progress_of nodes self.now)) }
+    {
+        if let Focus::Eval(id) = self.focus {
+            match *code.node(id) {
+                Node::Offer(queue, _value) => return Some(Source::Room(queue)),
+                Node::Take(queue) => return Some(Source::Element(queue)),
+                _ => {}
+            }
+        }
+        self.waits_for(code)
+    }
+
     /// What the leaf waits for, if it is one that can wait.
     pub(crate) fn source_at(&self, leaf: LeafBelow) -> Option<Source>
         ghost nodes: { List Node }

@@ -12,33 +12,38 @@ pub number_of-value-requires : goal.number_of-value-requires
 number_of-value-requires g c =
     offer_within g.P.Port.theory.code c.args.body.now.machine c.requires.at.0 c.args.queue c.args.value c.requires.at.1.at
 
-pub returns-in-Done-clause-ok : goal.returns-in-Done-clause-ok
-returns-in-Done-clause-ok g c =
+pub returns-in-Ok-Done-clause-tells : goal.returns-in-Ok-Done-clause-tells
+returns-in-Ok-Done-clause-tells g c =
     let s = c.args.body.now.machine in
     let id = c.requires.at.0 in
-    let stands = c.requires.at.1 in
-    record {
-      made = made.Shows (event.Put c.args.queue c.number_of-value.result);
-      raised = c.args.body.now.clock;
-      does = rw c.show.ensures.machine
-          (uncaused_call g.P.Port.theory _ _ s _ _ _ _ _ (made.Shows (event.Put c.args.queue c.number_of-value.result)) c.after.result c.after.ensures refl
-          (returned_sound g.P.Port.theory.code s id (node.Offer c.args.queue c.args.value) stands.at (Val 0))
-          (offer_step g.P.Port.theory.code s id c.args.queue c.args.value stands.at c.number_of-value.result c.number_of-value.ensures stands.free)
-          tt (rw c.in-Done.is at c.in_ok-offer.ensures.told) (rw c.in-Done.is at c.in_ok-offer.ensures.deed)
-          (rw c.in-Done.is at c.in_ok-offer.ensures.facts));
-      alone = tt;
-      answers = refl;
-      trace = c.show.ensures.trace;
-      clock = c.show.ensures.clock;
-    }
+    let stands = c.requires.at.1 in (
+      record {
+        made = made.Shows (event.Put c.args.queue c.number_of-value.result);
+        raised = c.args.body.now.clock;
+        does = (
+          rw c.show.ensures.machine
+              (uncaused_call g.P.Port.theory _ _ s _ _ _ _ _ (made.Shows (event.Put c.args.queue c.number_of-value.result)) c.after.result c.after.ensures refl
+              (returned_sound g.P.Port.theory.code s id (node.Offer c.args.queue c.args.value) stands.at (Val 0))
+              (offer_step g.P.Port.theory.code s id c.args.queue c.args.value stands.at c.number_of-value.result c.number_of-value.ensures stands.free)
+              tt (rw c.in-Ok-Done.field-0-is at c.in-Ok-Done.ensures.told) (rw c.in-Ok-Done.field-0-is at c.in-Ok-Done.ensures.deed)
+              (rw c.in-Ok-Done.field-0-is at c.in-Ok-Done.ensures.facts)),
+          tt,
+        );
+        alone = tt;
+        answers = refl;
+        trace = c.show.ensures.trace;
+        clock = c.show.ensures.clock;
+      },
+      rw c.show.ensures.machine (record { given = Val 0; focus = refl; masks = refl; known = refl }),
+    )
 
-pub returns-in-Full-clause-ok : goal.returns-in-Full-clause-ok
-returns-in-Full-clause-ok g c =
+pub returns-in-Ok-Full-clause-tells : goal.returns-in-Ok-Full-clause-tells
+returns-in-Ok-Full-clause-tells g c =
     let s = c.args.body.now.machine in
     let id = c.requires.at.0 in
     let stands = c.requires.at.1 in
-    let same = rw c.in-Full.is at c.in_ok-offer.ensures.full in
-    let told = rw c.in-Full.is at c.in_ok-offer.ensures.told in
+    let same = rw c.in-Ok-Full.field-0-is at c.in-Ok-Full.ensures.full in
+    let told = rw c.in-Ok-Full.field-0-is at c.in-Ok-Full.ensures.told in
     record {
       made = made.Waits (Room c.args.queue);
       raised = c.args.body.now.clock;

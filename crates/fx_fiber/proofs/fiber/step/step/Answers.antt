@@ -4,7 +4,6 @@ use Rattle.fx_fiber.proofs.Advances.{same_here, same_trans}
 use Rattle.fx_fiber.proofs.Results.{on_any_error}
 use Rattle.fx_fiber.proofs.StampedRuns.{unraised}
 use Rattle.fx_fiber.proofs.Telling.{going_at, is_made, same_is_unchanged, same_is_kept, told_keeps, told_same, told_steps, start_does}
-use Rattle.fx_fiber.proofs.QueueSteps.{alone_is_made, alone_tells, ok_then, either_way}
 use Rattle.fx_fiber.specs.PortFacts.{Facts}
 use Rattle.fx_fiber.proofs.fiber.step.step.Goals as goal
 
@@ -112,7 +111,7 @@ returns-in-Starts g c =
     }
 
 pub tell-requires-clause-made : goal.tell-requires-clause-made
-tell-requires-clause-made g c = is_made c.in_ok-made.made c.in_default-made.not-Starts
+tell-requires-clause-made g c = is_made c.in_ok-made.made c.in_default.not-Starts
 
 pub tell-requires-clause-going : goal.tell-requires-clause-going
 tell-requires-clause-going g c = ap (λ (f : Facts). f.has_finished) c.in_ok-made.ensures.ok.facts_are ∙ c.requires.kept.ended ∙ c.requires.going
@@ -121,7 +120,7 @@ pub returns : goal.returns
 returns g c =
     let k = c.requires.kept in
     let m = c.in_ok-made.made in
-    let is = is_made m c.in_default-made.not-Starts in
+    let is = is_made m c.in_default.not-Starts in
     let a = c.in_ok-made.ensures.ok in
     let told = c.tell.ensures in
     let items = rw c.in_ok-have_room.ensures.items at told.trace in
@@ -136,22 +135,3 @@ returns g c =
       number = same.0;
       beginning = same.1;
     }
-
-pub returns-then-matches-clause-ok : goal.returns-then-matches-clause-ok
-returns-then-matches-clause-ok g c =
-    let k = c.requires.kept in
-    let items = c.in_ok-have_room.ensures.items in
-    ok_then c.queue_step.result c.queue_step.ensures.ok
-    (λ answer t. told_steps g.P.Port.theory _ _ _ _ _ _ _ _ _ _ 0 _ _ _ _ k.clocked t.made answer c.queue_step.new.body.machine t.answers refl
-    (alone_is_made t.made t.alone) t.does (alone_tells g.P.Port.theory _ t.made _ _ t.alone) (rw items at t.trace))
-
-pub returns-then-matches-clause-kept : goal.returns-then-matches-clause-kept
-returns-then-matches-clause-kept g c =
-    let k = c.requires.kept in
-    let items = c.in_ok-have_room.ensures.items in
-    let failed = c.queue_step.ensures in
-    either_way c.queue_step.result failed.ok failed.same failed.trace failed.clock failed.unchanged
-    (λ answer t. told_keeps g.P.Port.theory _ _ _ _ _ _ _ _ _ _ _ _ _ k c.requires.going t.made (alone_is_made t.made t.alone) t.does
-    (alone_tells g.P.Port.theory _ t.made _ _ t.alone) (rw items at t.trace) t.clock)
-    (λ same trace clock unchanged. same_is_kept g.P.Port.theory c.args.port.now c.queue_step.new.port _ _ _ _
-    c.args.body.now.machine c.queue_step.new.body.machine k same unchanged.0 (trace ∙ items) clock)
