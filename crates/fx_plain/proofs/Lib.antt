@@ -54,6 +54,8 @@ pub mod PickedWay
 pub mod PlainMachineWork
 pub mod PlainMachineBursts
 pub mod PlainMachineGoing
+pub mod PlainMachineLeast
+pub mod PlainMachineFlows
 pub mod PlainMachineReports
 pub mod NamedQueues
 pub mod PassedNames

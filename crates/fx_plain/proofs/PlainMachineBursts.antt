@@ -29,6 +29,15 @@ use Rattle.fx_plain.proofs.PlainMachineSteps.{at_number, held_option, is_fiber, 
 use Rattle.fx_plain.proofs.PlainMachineTries.{still_stands, step_leads_on}
 use Rattle.fx_plain.proofs.PlainMachineWork.{left_of, work_is, places, step_leaves_less, try_leaves_less}
 
+-- a step of a burst tells the port nothing
+pub tells_nothing : (nodes : List Node) (v w : FiberView PortView) (world : WorldView) (stamp cause : ℕ) (l : Label) → IsAlone l
+    → Tells (plain_theory nodes) stamp cause (leaf_at (progress nodes v)) l Went v.port world w.port world → w.port ≡ v.port
+tells_nothing nodes v w world stamp cause Silent alone told = told.0
+tells_nothing nodes v w world stamp cause (Shows (event.Acquired k)) alone told = told.0
+tells_nothing nodes v w world stamp cause (Shows (event.Begin k)) alone told = told.0
+tells_nothing nodes v w world stamp cause (Shows (event.End k)) alone told = told.0
+tells_nothing nodes v w world stamp cause _ alone told = absurd alone
+
 module _ {J : Type 0} (nodes : List Node) (s : ScriptView) (f : ℕ) where
   -- what was come to is stood for
   pub goes_to : {m : WholeMachine} {p : PlainMachine J} {m' : WholeMachine} {p' : PlainMachine J} → GoesOn nodes s f m p m' p' → StandsForRun nodes s p' m'
@@ -65,7 +74,7 @@ module _ {J : Type 0} (nodes : List Node) (s : ScriptView) (f : ℕ) where
 
   module _ (p : PlainMachine J) (m : WholeMachine) (so : StandsForRun nodes s p m) (x : StartedView J) (here : at_number nodes p f ≡ Some x)
       (able : is_able (class_at p.world.classes f) ≡ true) where
-    long : f < length p.fibers.items
+    pub long : f < length p.fibers.items
     long =
         let below = below_total nodes s p m so f x here (is_fiber nodes s p m so f x here) in
         let places : length p.fibers.items ≡ total s = sym (length-map p.fibers.items (held_option nodes)) ∙ so.stands.held_long in
@@ -100,15 +109,6 @@ module _ {J : Type 0} (nodes : List Node) (s : ScriptView) (f : ℕ) where
         (held.fibers ∙ sym (set-set p.fibers.items f _ (Some held.after))) (held.world ∙ sym same) able in
         record { machine = on.1; on = goes come.on on.2 on.3 held.world; port_is = port ∙ come.port_is }
 
-    -- a step of a burst tells the port nothing
-    tells_nothing : (v w : FiberView PortView) (stamp cause : ℕ) (l : Label) → IsAlone l
-        → Tells (plain_theory nodes) stamp cause (leaf_at (progress nodes v)) l Went v.port p.world w.port p.world → w.port ≡ v.port
-    tells_nothing v w stamp cause Silent alone told = told.0
-    tells_nothing v w stamp cause (Shows (event.Acquired k)) alone told = told.0
-    tells_nothing v w stamp cause (Shows (event.Begin k)) alone told = told.0
-    tells_nothing v w stamp cause (Shows (event.End k)) alone told = told.0
-    tells_nothing v w stamp cause _ alone told = absurd alone
-
     pub comes_alone : (n : ℕ) (v : FiberView PortView) → GoesAlone (plain_theory nodes) n x.fiber p.world v → (p' : PlainMachine J)
         → Holds v p' → Comes v p'
     comes_alone zero v h p' held = record {
@@ -121,7 +121,7 @@ module _ {J : Type 0} (nodes : List Node) (s : ScriptView) (f : ℕ) where
         one_more h.0 v p.world p'
         (comes_alone n h.0 h.1 (with_fiber h.0)
         (record { after = record { parent = x.parent; fiber = h.0 }; fibers = refl; parent = refl; fiber = refl; world = refl }))
-        h.2.does (tells_nothing h.0 v (next_stamp (clock (plain_theory nodes) h.0) h.2.does.cause) h.2.does.cause h.2.does.label h.2.alone
+        h.2.does (tells_nothing nodes h.0 v p.world (next_stamp (clock (plain_theory nodes) h.0) h.2.does.cause) h.2.does.cause h.2.does.label h.2.alone
         h.2.does.calls_are.told) refl held
 
     -- what a burst comes to
@@ -176,3 +176,12 @@ pub goes_on_the_same : {J : Type 0} (nodes : List Node) (f : ℕ) (p q r : Plain
     → (s : ScriptView) (m : WholeMachine) → StandsForRun nodes s p m → (m' : WholeMachine) × GoesOn nodes s f m p m' q
 goes_on_the_same {J} nodes f p q r same on =
     subst (λ (r : PlainMachine J). (s : ScriptView) (m : WholeMachine) → StandsForRun nodes s r m → (m' : WholeMachine) × GoesOn nodes s f m r m' q) same on
+
+-- or whose world is the same
+pub goes_on_the_same_world : {J : Type 0} (nodes : List Node) (f : ℕ) (p q : PlainMachine J) (w : WorldView) → w ≡ p.world
+    → ((s : ScriptView) (m : WholeMachine) → StandsForRun nodes s (record p { world = w }) m
+    → (m' : WholeMachine) × GoesOn nodes s f m (record p { world = w }) m' q)
+    → (s : ScriptView) (m : WholeMachine) → StandsForRun nodes s p m → (m' : WholeMachine) × GoesOn nodes s f m p m' q
+goes_on_the_same_world nodes f p q w same on = subst
+    (λ (v : WorldView). (s : ScriptView) (m : WholeMachine) → StandsForRun nodes s (record p { world = v }) m
+    → (m' : WholeMachine) × GoesOn nodes s f m (record p { world = v }) m' q) same on

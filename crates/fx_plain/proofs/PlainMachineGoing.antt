@@ -11,9 +11,10 @@ use Rattle.fx_plain.specs.declared.plain_machine.PlainMachine.{PlainMachine}
 use Rattle.fx_plain.specs.NumberSet.{IsLeastOf}
 use Rattle.fx_plain.specs.WholeMachine.{WholeMachine}
 use Rattle.fx_plain.specs.World.{WorldView, is_ready_in}
-use Rattle.fx_plain.specs.PlainMachine.{StandsForRun, StandsForSome, Tries, IsUnderWay, GoesOn}
+use Rattle.fx_plain.specs.PlainMachine.{StandsForRun, StandsForSome, Tries, IsUnderWay, GoesOn, GoesByLeast}
 use Rattle.fx_plain.proofs.PlainMachineWay.{tried_least}
 use Rattle.fx_plain.proofs.PlainMachineBursts.{world_after_burst, way_after_burst}
+use Rattle.fx_plain.proofs.PlainMachineLeast.{way_by_least}
 
 -- who is chosen is the one that alone is to go, or the least one that is ready
 abbrev pub IsChosen : Option ℕ → WorldView → ℕ → Type 0
@@ -59,6 +60,27 @@ module _ {J : Type 0} (nodes : List Node) (only : Option ℕ) (old p q p' : Plai
           tried_least nodes s all f q p' (tries s) (λ h lt. rw (world_after_burst nodes f p q on some) (least.1 h lt))
           (way_after_burst nodes f p q on s all least.1 (way s all u))
       by_one (Some g) least way = way
+
+-- or it flows
+pub flows_to_halt : {J : Type 0} (nodes : List Node) (only : Option ℕ) (old p q p' : PlainMachine J) (f : ℕ)
+    → ((s : ScriptView) (m : WholeMachine) → StandsForRun nodes s p m → (m' : WholeMachine) × GoesOn nodes s f m p m' q)
+    → ((s : ScriptView) (m : WholeMachine) → StandsForRun nodes s q m → GoesByLeast nodes s m q p') → IsChosen only p.world f
+    → IfNone only ((s : ScriptView) (all : List Pick) → IsUnderWay nodes s all [] old → IsUnderWay nodes s all [] p)
+    → IfNone only ((s : ScriptView) (all : List Pick) → IsUnderWay nodes s all [] old → IsUnderWay nodes s all [] p')
+flows_to_halt nodes None old p q p' f on by chosen way = λ s all u.
+    way_by_least nodes q p' by s all (way_after_burst nodes f p q on s all chosen.1.1 (way s all u))
+flows_to_halt nodes (Some g) old p q p' f on by chosen way = way
+
+-- what is tried by a machine that is the same
+pub tries_the_same : {J : Type 0} (nodes : List Node) (f : ℕ) (q r p' : PlainMachine J) → r ≡ q
+    → ((s : ScriptView) (m : WholeMachine) → StandsForRun nodes s r m → Tries nodes s m f r p')
+    → (s : ScriptView) (m : WholeMachine) → StandsForRun nodes s q m → Tries nodes s m f q p'
+tries_the_same {J} nodes f q r p' same tries =
+    subst (λ (r : PlainMachine J). (s : ScriptView) (m : WholeMachine) → StandsForRun nodes s r m → Tries nodes s m f r p') same tries
+
+-- who goes alone does not flow
+pub not_alone : (T : ℕ → Type 0) (only : Option ℕ) → only ≡ None → IfSome only T
+not_alone T only e = rw e tt
 
 -- and nobody goes alone
 pub nobody_alone : (T : ℕ → Type 0) (only : Option ℕ) → is_some only ≡ false → IfSome only T

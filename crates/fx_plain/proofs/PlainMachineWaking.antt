@@ -1,5 +1,5 @@
 -- A machine lets a ready fiber make a step: one that waited at a queue is woken first, and then does make one.
-use Rattle.std.proofs.Common.{◌≡◌, ℕ, ◌<◌, Bool, true, false, List, length, refl, sym, ◌∙◌, ap, arith}
+use Rattle.std.proofs.Common.{◌≡◌, ℕ, ◌<◌, Bool, true, false, Some, List, length, refl, sym, ◌∙◌, ap, arith}
 use Rattle.std.specs.Prelude.{slice_set}
 use Rattle.std.proofs.lemmas.List.{length-map, set-get_or}
 use Rattle.fx_term.specs.declared.node.Node.{Node}
@@ -13,12 +13,17 @@ use Rattle.fx_plain.specs.Classes.{is_ready}
 use Rattle.fx_plain.specs.ClassSets.{class_at, is_able}
 use Rattle.fx_plain.specs.World.{WorldView, is_ready_in, after_start}
 use Rattle.fx_plain.specs.PlainMachine.{able_count, all_held, StandsForRun, StandsForSome, Tries, steps, waits}
+use Rattle.fx_plain.specs.NumberSet.{IsLeastOf}
+use Rattle.fx_term.proofs.MapLaws.{at_other}
 use Rattle.fx_plain.proofs.Maps.{at_itself}
 use Rattle.fx_plain.proofs.WorldStamps.{stamps_beside}
 use Rattle.fx_plain.proofs.ClassSets.{class_at_set}
 use Rattle.fx_plain.proofs.ReadyFibers.{IsGoing}
 use Rattle.fx_plain.proofs.LawfulRuns.{run_keeps}
 use Rattle.fx_plain.proofs.WorldClasses.{ready_goes, ready_can, wake_tells}
+
+less_apart : (g f : ℕ) → g < f → g ≡ f → ⊥
+less_apart g f lt e = absurd (omega arith)
 
 able_class : (k : Class) → is_able k ≡ true → k ≡ Able
 able_class Able e = refl
@@ -45,7 +50,7 @@ module _ {J : Type 0} (nodes : List Node) (p : PlainMachine J) (f : ℕ) (w' : W
     going : IsGoing m f
     going = ready_goes s p.world (all_held nodes p) m so.stands so.tells f ready
 
-    below : f < total s
+    pub below : f < total s
     below = (run_keeps s so.moves m so.run).ranges.started_below f going.fiber going.at
 
     pub woken_stands : StandsForRun nodes s woken m
@@ -70,10 +75,20 @@ module _ {J : Type 0} (nodes : List Node) (p : PlainMachine J) (f : ℕ) (w' : W
       stamped = so.stamped;
     }
 
-    is_woken : is_able (class_at w'.classes f) ≡ true
+    pub is_woken : is_able (class_at w'.classes f) ≡ true
     is_woken =
         rw world (ap is_able (class_at_set p.world.classes f Able (let lt = below in let n = so.tells.long in omega arith) f
         ∙ at_itself f Able (class_at p.world.classes)))
+
+    -- it is the least one that is ready, if it was
+    pub least_woken : ((g : ℕ) → g < f → is_ready_in p.world g ≡ false) → IsLeastOf (is_ready_in w') (Some f)
+    least_woken least =
+        let long : f < length p.world.classes = let lt = below in let n = so.tells.long in omega arith in
+        let test = is_ready (have_room p.world.queues) (have_element p.world.queues) in
+        rw world (
+          ap test (class_at_set p.world.classes f Able long f ∙ at_itself f Able (class_at p.world.classes)),
+          λ g lt. ap test (class_at_set p.world.classes f Able long g ∙ at_other f Able (class_at p.world.classes) g (less_apart g f lt)) ∙ least g lt,
+        )
 
     -- one that was able is as it was
     as_many : is_able (class_at p.world.classes f) ≡ true → able_count w'.classes ≡ able_count p.world.classes

@@ -45,7 +45,7 @@ turn_less (suc w) (suc w') k lt =
     let rest = turn_less w w' k (omega arith) in
     omega arith
 
-less_left : (w w' n a a' : ℕ) → w' < w → a' ≤ n → w' * (n + 1) + a' < w * (n + 1) + a
+pub less_left : (w w' n a a' : ℕ) → w' < w → a' ≤ n → w' * (n + 1) + a' < w * (n + 1) + a
 less_left w w' n a a' lt le = let turn = turn_less w w' (n + 1) lt in omega arith
 
 held_work_is : (z : Option StartedFiber) → work_of_held (option_map held_of z) ≡ work_of_fiber z
@@ -71,7 +71,7 @@ module _ {J : Type 0} (nodes : List Node) where
         (λ f low high. ap work_of_held (so.stands.fibers f) ∙ held_work_is (m.fibers f))
         ∙ ap (sum_from (λ f. work_of_fiber (m.fibers f)) 0) places
 
-    able_few : able_count p.world.classes ≤ total s
+    pub able_few : able_count p.world.classes ≤ total s
     able_few = let a = able_at_most p.world.classes in let e = so.tells.long in omega arith
 
   -- each step leaves less

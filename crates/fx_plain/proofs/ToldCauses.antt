@@ -1,5 +1,5 @@
 -- A step that is told to have learned of the end of a fiber stands on that end, which is the last event that the fiber has shown until then.
-use Rattle.std.proofs.Common.{◌≡◌, ℕ, suc, ◌+◌, Bool, true, Option, Some, None, List, [], ◌∷◌, ◌++◌, length, refl, sym, ◌∙◌, ap, subst, arith}
+use Rattle.std.proofs.Common.{◌≡◌, ℕ, suc, ◌+◌, Some, List, [], ◌∷◌, ◌++◌, length, sym, ◌∙◌, ap, subst, arith}
 use Rattle.std.specs.Prelude.{◌==◌, if◌then◌else◌, slice_get}
 use Rattle.std.proofs.lemmas.Option.{none-some, same_Some}
 use Rattle.std.proofs.lemmas.List.{length-append}
@@ -11,9 +11,7 @@ use Rattle.fx_term.specs.Script.{ScriptView}
 use Rattle.fx_model.specs.Row.{Label, Silent, Shows, Learns, Starts}
 use Rattle.fx_model.specs.Run.{events, shown}
 use Rattle.fx_model.specs.Causes.{LearnsOfEnd}
-use Rattle.fx_model.specs.LawfulReport.{EndsWith}
 use Rattle.fx_model.specs.Report.{ReportView, trace_in}
-use Rattle.fx_model.specs.ReportStamps.{IsStampedReport}
 use Rattle.fx_model.proofs.Appended.{still_at, at_seam}
 use Rattle.fx_model.proofs.Runs.{events_append}
 use Rattle.fx_model.proofs.ShownLabels.{shown_length, shown_append}
@@ -21,7 +19,7 @@ use Rattle.fx_text.specs.declared.pick.Pick.{Pick}
 use Rattle.fx_plain.specs.declared.told.MadeStep.{MadeStep}
 use Rattle.fx_plain.specs.declared.told.Told.{Told}
 use Rattle.fx_plain.specs.declared.told.Told.TheVariants.{Step, Request, Passed}
-use Rattle.fx_plain.specs.WholeMachine.{WholeMachine, Move, opening, outcome_of, FiberSteps, IsAnswered}
+use Rattle.fx_plain.specs.WholeMachine.{WholeMachine, Move, opening, FiberSteps}
 use Rattle.fx_plain.specs.SettledRun.{IsReportOf}
 use Rattle.fx_plain.specs.Chosen.{IsChosen, IsReplay}
 use Rattle.fx_plain.specs.Chosen as chosen

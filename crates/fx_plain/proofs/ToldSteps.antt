@@ -3,7 +3,6 @@ use Rattle.std.proofs.Common.{◌≡◌, ℕ, true, false, Option, Some, None, o
 use Rattle.std.specs.Prelude.{is_some, MatchOption, option_and_then, slice_get}
 use Rattle.std.proofs.lemmas.Option.{none-some, same_Some}
 use Rattle.fx_term.specs.declared.node.Node.{Node}
-use Rattle.fx_term.specs.declared.node.NodeId.{NodeId}
 use Rattle.fx_term.specs.declared.event.Event.{Event}
 use Rattle.fx_term.specs.Script.{ScriptView}
 use Rattle.fx_term.specs.Term.{Term}

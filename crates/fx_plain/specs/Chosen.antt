@@ -28,6 +28,11 @@ pub record ChosenStep (s : ScriptView) (m : WholeMachine) (f : ℕ) (l : Label) 
 abbrev pub IsLeast : ScriptView → WholeMachine → ℕ → Type 0
 IsLeast s m f = (g : ℕ) → g < f → can_step_in s m g ≡ false
 
+-- so many steps, one after the other, each of the least fiber that can make one
+pub data LeastSteps (s : ScriptView) (m : WholeMachine) : ℕ → WholeMachine → Type 0 where
+  none : LeastSteps s m 0 m
+  more : {n f : ℕ} {l : Label} {k m' : WholeMachine} → LeastSteps s m n k → IsLeast s k f → ChosenStep s k f l m' → LeastSteps s m (suc n) m'
+
 -- The run that the picks choose. Each pick makes its step, or is skipped where the fiber cannot step, or where no fiber of the script has that number.
 -- After the last pick the fiber with the least number that can step makes one step, again and again, until none can
 pub data IsChosen (s : ScriptView) : List Pick → WholeMachine → List Move → WholeMachine → Type 0 where

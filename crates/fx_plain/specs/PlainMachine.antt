@@ -11,15 +11,16 @@ use Rattle.fx_fiber.specs.Fiber.{progress}
 use Rattle.fx_fiber.specs.declared.stepped.Stepped.{Stepped}
 use Rattle.fx_fiber.specs.MakesStep.{DoesStep}
 use Rattle.fx_fiber.specs.Bursts.{Bursts}
+use Rattle.fx_fiber.specs.QueueSteps.{StandsAtQueue, is_due}
 use Rattle.fx_model.specs.Step.{has_ended}
 use Rattle.fx_model.specs.Report.{FiberReportView}
 use Rattle.fx_text.specs.declared.pick.Pick.{Pick}
 use Rattle.fx_report.specs.declared.wait.Wait.{Wait}
-use Rattle.fx_plain.specs.Started.{StartedView, reported, wait_of}
+use Rattle.fx_plain.specs.Started.{StartedView, FlowsFrom, reported, wait_of}
 use Rattle.fx_plain.specs.declared.plain_machine.PlainMachine.{PlainMachine}
 use Rattle.fx_plain.specs.MachineStamps.{MachineStamps}
 use Rattle.fx_plain.specs.WholeMachine.{WholeMachine, Move, can_step_in, IsWholeMachineRun}
-use Rattle.fx_plain.specs.Chosen.{ChosenStep}
+use Rattle.fx_plain.specs.Chosen.{ChosenStep, LeastSteps}
 use Rattle.fx_plain.specs.declared.class.Class.{Class}
 use Rattle.fx_plain.specs.Classes.{awaited}
 use Rattle.fx_plain.specs.ClassSets.{class_at, is_able}
@@ -99,6 +100,23 @@ module _ {J : Type 0} (nodes : List Node) where
     pub does : Bursts (plain_theory nodes) most n before.fiber world after.fiber world'
     pub parent : after.parent ≡ before.parent
 
+  -- the fiber of the place stands at an `offer` or a `take`, and cancellation is not due there
+  abbrev pub IsAtQueue : Option (StartedView J) → Type 0
+  IsAtQueue None = ⊥
+  IsAtQueue (Some x) = StandsAtQueue nodes x.fiber.focus (is_due x.fiber)
+
+  -- the fiber of the place made the steps of a flow, which came to this, and stands there as before
+  pub record FlowsAt (old : Option (StartedView J)) (world : WorldView) (wait : Option Source) (new : Option (StartedView J)) (world' : WorldView) : Type 0
+    where
+      pub before : StartedView J
+      pub after : StartedView J
+      pub from : old ≡ Some before
+      pub to : new ≡ Some after
+      pub does : FlowsFrom nodes before.fiber world wait after.fiber world'
+      pub parent : after.parent ≡ before.parent
+      pub number : after.fiber.port.number ≡ before.fiber.port.number
+      pub beginning : after.fiber.port.beginning ≡ before.fiber.port.beginning
+
   -- it stands for that whole machine, to which some run leads
   pub record StandsForRun (s : ScriptView) (p : PlainMachine J) (m : WholeMachine) : Type 0 where
     pub moves : List Move
@@ -131,6 +149,14 @@ module _ {J : Type 0} (nodes : List Node) where
     steps : {l : Label} {m' : WholeMachine} → ChosenStep s m f l m' → StandsForRun s p' m' → awaited (class_at p'.world.classes f) ≡ None → Tries s m f p p'
     waits : {source : Source} → can_step_in s m f ≡ false → StandsForRun s p' m → able_count p'.world.classes < able_count p.world.classes
         → awaited (class_at p'.world.classes f) ≡ Some source → Tries s m f p p'
+
+  -- it goes on by steps of the least fiber that can make one, each time; where there was none, one fiber less is able
+  pub record GoesByLeast (s : ScriptView) (m : WholeMachine) (p p' : PlainMachine J) : Type 0 where
+    pub count : ℕ
+    pub machine : WholeMachine
+    pub steps : LeastSteps s m count machine
+    pub stands : StandsForRun s p' machine
+    pub fewer : count ≡ 0 → able_count p'.world.classes < able_count p.world.classes
 
   -- it stands for what the pick makes of the whole machine, which is passed over if there is a reason
   pub record IsTaken (s : ScriptView) (m : WholeMachine) (pick : Pick) (why : Option Why) (p' : PlainMachine J) : Type 0 where

@@ -1,16 +1,19 @@
 -- A fiber that has started: who started it, and what it is, also where only its report is kept.
-use Rattle.std.specs.Prelude.{◌≡◌, ℕ, true, Option, option_map, option_and_then, List}
+use Rattle.std.specs.Prelude.{◌≡◌, ℕ, ◌<◌, true, Option, Some, None, option_map, option_and_then, List}
 use Rattle.fx_term.specs.declared.node.Node.{Node}
 use Rattle.fx_term.specs.Stamped.{events_in, stamps_in}
 use Rattle.fx_model.specs.Step.{has_ended, leaf_at}
 use Rattle.fx_model.specs.Waiting.{wait_at}
 use Rattle.fx_model.specs.Report.{FiberReportView}
+use Rattle.fx_model.specs.declared.source.Source.{Source}
 use Rattle.fx_fiber.specs.Fiber.{FiberView, progress}
+use Rattle.fx_fiber.specs.Flows.{FlowsAndStops, FlowsAndWaits}
 use Rattle.fx_report.specs.declared.wait.Wait.{Wait}
 use Rattle.fx_plain.specs.declared.started.Ended.{Ended}
 use Rattle.fx_plain.specs.declared.started.Stage.{Stage}
 use Rattle.fx_plain.specs.declared.started.Stage.TheVariants.{Going, Over}
-use Rattle.fx_plain.specs.PlainCalls.{PortView}
+use Rattle.fx_plain.specs.PlainCalls.{PortView, plain_theory}
+use Rattle.fx_plain.specs.World.{WorldView}
 
 -- a fiber that has started, and who started it, of the code of this brand
 pub record StartedView (J : Type 0) : Type 0 where
@@ -33,6 +36,12 @@ pub record IsKeptOf {J : Type 0} (nodes : List Node) (kept : Ended J) (fiber : F
 abbrev pub IsKeptWell : {J : Type 0} → List Node → Stage J → Type 0
 IsKeptWell nodes (Going fiber) = Unit {0}
 IsKeptWell nodes (Over kept) = IsKeptOf nodes kept kept.was.value
+
+-- what a fiber does in a flow that comes to this: it makes a step or more, or waits for that then
+abbrev pub FlowsFrom : List Node → FiberView PortView → WorldView → Option Source → FiberView PortView → WorldView → Type 0
+FlowsFrom nodes old world None new world' = (n : ℕ) × (0 < n) × FlowsAndStops (plain_theory nodes) old world n new world'
+FlowsFrom nodes old world (Some source) new world' =
+    (n : ℕ) × (flows : FlowsAndWaits (plain_theory nodes) n old world new world') × (flows.wait ≡ source)
 
 module _ {J : Type 0} (nodes : List Node) where
   -- what is reported of a fiber

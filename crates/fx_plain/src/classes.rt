@@ -130,6 +130,7 @@ impl Classes {
     }
 
     /// The fiber waits for that.
+    #[inline(always)]
     pub fn wait(&mut self, fiber: u32, source: Source)
         requires { fiber < length self.old.of }
         ensures { self.new

@@ -1,6 +1,7 @@
 //! All fibers of a script on one thread.
 ghost use Rattle.std.specs.Prelude.{◌≡◌, ℕ, ◌<◌, ◌-◌, ◌^◌, ◌∷◌, [], true, false, Some, None, List, IfOk, IfSome, IfNone, OnOk};
-ghost use Rattle.std.specs.Prelude.{length, option_and_then, replicate, slice_index_or, slice_set};
+ghost use Rattle.std.specs.Prelude.{MatchBool, length, option_and_then, replicate, slice_index_or, slice_set};
+ghost use Rattle.std.specs.Bool.{OnTrue};
 ghost use Rattle.fx_term.specs.Code.{IsCode};
 ghost use Rattle.fx_term.specs.Script.{ScriptView};
 ghost use Rattle.fx_text.specs.View.{meaning};
@@ -12,7 +13,7 @@ ghost use Rattle.fx_plain.specs.ClassSets.{class_at, is_able};
 ghost use Rattle.fx_plain.specs.NumberSet.{IsLeastOf};
 ghost use Rattle.fx_plain.specs.World.{is_ready_in};
 ghost use Rattle.fx_plain.specs.PlainMachine.{all_reported, StandsForRun, StandsForSome, Tries, IsUnderWay, Halts};
-ghost use Rattle.fx_plain.specs.PlainMachine.{IsGoingAt, StepsAt, BurstsAt, GoesOn, IsTaken};
+ghost use Rattle.fx_plain.specs.PlainMachine.{IsGoingAt, IsAtQueue, StepsAt, BurstsAt, FlowsAt, GoesOn, GoesByLeast, IsTaken};
 ghost use Rattle.fx_plain.specs.PlainMachine.{all_waits};
 ghost use Rattle.fx_plain.specs.Started.{wait_of};
 ghost use Rattle.fx_plain.specs.declared.plain_machine.Next.TheVariants.{Step};
@@ -25,7 +26,7 @@ use crate::passed::Why;
 use crate::plain_port::PlainPort;
 use crate::plain_world::PlainWorld;
 use crate::started::Started;
-use fx_fiber::{Fiber, FiberReport, Report, Stepped};
+use fx_fiber::{Fiber, FiberReport, Report, Source, Stepped};
 use fx_report::Wait;
 use fx_term::{Code, CodeBrand, Memory};
 use fx_text::{Pick, Script};
@@ -143,6 +144,43 @@ fn burst_at<J: CodeBrand>(
     Ok(())
 }
 
+/// Lets the fiber of this place make rules in one go that need no other fiber, if it stands with a result.
+#[inline(always)]
+fn burst_from_result_at<J: CodeBrand>(
+    place: &mut Option<Started<J>>,
+    code: &Code,
+    world: &mut PlainWorld,
+) -> Result<(), Memory>
+    requires code { code.now.nodes ≡ J.nodes }
+    requires going { IsGoingAt J.nodes place.old }
+    ensures { OnOk result (BurstsAt J.nodes (2 ^ 32 - 1) place.old world.old place.new world.new) }
+{
+    let Some(started) = place else {
+        unreachable!();
+    };
+    let _ = started.burst_from_result(code, world)?;
+    Ok(())
+}
+
+/// Lets the fiber of this place make steps in one go from an `offer` or a `take` on, and answers what it waits for
+/// then, if it does.
+#[inline(always)]
+fn flow_at<J: CodeBrand>(
+    place: &mut Option<Started<J>>,
+    code: &Code,
+    world: &mut PlainWorld,
+) -> Result<Option<Source>, Memory>
+    requires code { code.now.nodes ≡ J.nodes }
+    requires going { IsGoingAt J.nodes place.old }
+    requires stands { IsAtQueue J.nodes place.old }
+    ensures { IfOk result (λ wait. FlowsAt J.nodes place.old world.old wait place.new world.new) }
+{
+    let Some(started) = place else {
+        unreachable!();
+    };
+    started.flow(code, world)
+}
+
 /// What the next try of a fiber begins with.
 #[derive(Clone, Copy)]
 enum Next {
@@ -236,6 +274,92 @@ impl<J: CodeBrand> PlainMachine<J> {
         self.step_able(code, id)
     }
 
+    /// Lets the least fiber that is ready, which stands at a queue, make steps in one go for as long as it is that; or
+    /// notes that it waits. One that waited there may step, and does.
+    #[inline(always)]
+    fn flow(&mut self, code: &Code, id: u32) -> Result<(), Memory>
+        requires code { code.now.nodes ≡ J.nodes }
+        requires least { IsLeastOf (is_ready_in self.old.world) (Some id) }
+        requires queue { IsAtQueue J.nodes (slice_index_or self.old.fibers.items id None) }
+        requires stands { StandsForSome J.nodes self.old }
+        ensures goes { OnOk result ((s : ScriptView) (m : WholeMachine)
+            → StandsForRun J.nodes s self.old m → GoesByLeast J.nodes s m self.old self.new) }
+    {
+        self.world.wake(id);
+        if let Some(source) = flow_at(&mut self.fibers[id as usize], code, &mut self.world)? {
+            self.world.wait(id, source);
+        }
+        Ok(())
+    }
+
+    /// Whether the fiber has started and stands at an `offer` or a `take`, and cancellation is not due there.
+    #[inline(always)]
+    fn is_at_queue(&self, code: &Code, id: u32) -> bool
+        requires { code.now.nodes ≡ J.nodes }
+        ensures { OnTrue result (IsAtQueue J.nodes (slice_index_or self.now.fibers.items id None)) }
+    {
+        match self.fibers.get(id as usize) {
+            Some(Some(started)) => started.stands_at_queue(code),
+            _ => false,
+        }
+    }
+
+    /// Lets a fiber that is ready make rules in one go that need no other fiber, where it is able and stands with a result.
+    #[inline(always)]
+    fn burst_from_result(&mut self, code: &Code, id: u32) -> Result<(), Memory>
+        requires code { code.now.nodes ≡ J.nodes }
+        requires stands { StandsForSome J.nodes self.old }
+        ensures goes { OnOk result ((s : ScriptView) (m : WholeMachine) → StandsForRun J.nodes s self.old m
+            → (m' : WholeMachine) × GoesOn J.nodes s id m self.old m' self.new) }
+    {
+        if !self.world.is_able(id) {
+            return Ok(());
+        }
+        burst_from_result_at(&mut self.fibers[id as usize], code, &mut self.world)?;
+        Ok(())
+    }
+
+    /// Lets the least fiber that is ready, which stands at a queue, make steps in one go, and then again whoever is the
+    /// least, while it comes to one.
+    // (not laid into the loop that makes each step, which would be dearer so)
+    #[inline(never)]
+    fn flow_rounds(&mut self, code: &Code, first: u32) -> Result<(), Memory>
+        requires code { code.now.nodes ≡ J.nodes }
+        requires least { IsLeastOf (is_ready_in self.old.world) (Some first) }
+        requires queue { IsAtQueue J.nodes (slice_index_or self.old.fibers.items first None) }
+        requires stands { StandsForSome J.nodes self.old }
+        ensures goes { OnOk result ((s : ScriptView) (m : WholeMachine)
+            → StandsForRun J.nodes s self.old m → GoesByLeast J.nodes s m self.old self.new) }
+    {
+        self.flow(code, first)?;
+        while let Some(fiber) = self.world.least() {
+            self.burst_from_result(code, fiber)?;
+            if !self.is_at_queue(code, fiber) {
+                return Ok(());
+            }
+            self.flow(code, fiber)?;
+        }
+        Ok(())
+    }
+
+    /// Lets the fiber that is chosen, where it is the least one that is ready and stands at a queue, make steps in one
+    /// go, and whoever is the least after it; and answers whether it did. Where a burst would hardly make a rule, the
+    /// fiber hardly stands at a queue, so that is not asked.
+    #[inline(always)]
+    fn flows(&mut self, code: &Code, only: Option<u32>, id: u32, next: Next) -> Result<bool, Memory>
+        requires code { code.now.nodes ≡ J.nodes }
+        requires least { IfNone only (IsLeastOf (is_ready_in self.old.world) (Some id)) }
+        requires stands { StandsForSome J.nodes self.old }
+        ensures goes { IfOk result (λ went. MatchBool went ((only ≡ None) × ((s : ScriptView) (m : WholeMachine)
+            → StandsForRun J.nodes s self.old m → GoesByLeast J.nodes s m self.old self.new)) (self.new ≡ self.old)) }
+    {
+        if matches!(next, Next::Step) || only.is_some() || !self.is_at_queue(code, id) {
+            return Ok(false);
+        }
+        self.flow_rounds(code, id)?;
+        Ok(true)
+    }
+
     /// Who makes the next step: the fiber that is given, or else the least one that is ready.
     // (what tells a run calls it too, and then LLVM lays it into the loop of a replay by this hint alone)
     #[inline(always)]
@@ -270,9 +394,14 @@ impl<J: CodeBrand> PlainMachine<J> {
         };
         while let Some(fiber) = self.chosen(only) {
             self.burst(code, fiber, next)?;
-            next = self.try_step(code, fiber)?;
-            if only.is_some() {
-                return Ok(());
+            let went = self.flows(code, only, fiber, next)?;
+            if went {
+                next = Next::Burst;
+            } else {
+                next = self.try_step(code, fiber)?;
+                if only.is_some() {
+                    return Ok(());
+                }
             }
         }
         Ok(())

@@ -1,17 +1,19 @@
 //! A fiber that has started.
 ghost use Rattle.std.specs.Prelude.{◌≡◌, ◌^◌, ◌-◌, true, false, IfOk, slice_get};
+ghost use Rattle.std.specs.Bool.{OnTrue};
 ghost use Rattle.fx_term.specs.Stamped.{events_in};
 ghost use Rattle.fx_model.specs.Step.{has_ended};
 ghost use Rattle.fx_fiber.specs.Fiber.{progress};
 ghost use Rattle.fx_fiber.specs.MakesStep.{DoesStep};
 ghost use Rattle.fx_fiber.specs.Bursts.{Bursts};
+ghost use Rattle.fx_fiber.specs.QueueSteps.{StandsAtQueue, is_due};
 ghost use Rattle.fx_plain.specs.PlainCalls.{plain_theory};
-ghost use Rattle.fx_plain.specs.Started.{reported, wait_of};
+ghost use Rattle.fx_plain.specs.Started.{FlowsFrom, reported, wait_of};
 ghost use Rattle.fx_plain.specs.ToldWay.{IsBeforeStep};
 
 use crate::plain_port::PlainPort;
 use crate::plain_world::PlainWorld;
-use fx_fiber::{Fiber, FiberReport, State, Stepped};
+use fx_fiber::{Fiber, FiberReport, Flow, State, Stepped};
 use fx_model::Source;
 use fx_report::{Wait, state_at_halt};
 use fx_term::{Code, CodeBrand, Event, Memory, NodeId, Stamped};
@@ -59,6 +61,43 @@ pub(crate) enum Stage<J: CodeBrand> {
     Going(Fiber<PlainPort<J>>),
     /// It has ended, and has given back all memory but that of its trace.
     Over(Ended<J>),
+}
+
+/// Lets the fiber make rules in one go that need no other fiber, if it stands with a result, and answers how many it made.
+#[inline(always)]
+fn burst_from_result<J: CodeBrand>(
+    fiber: &mut Fiber<PlainPort<J>>,
+    code: &Code,
+    world: &mut PlainWorld,
+) -> Result<u32, Memory>
+    requires code { code.now.nodes ≡ J.nodes }
+    ensures ok { IfOk result (λ n. Bursts (plain_theory J.nodes) (2 ^ 32 - 1) n
+        fiber.old world.old fiber.new world.new) }
+{
+    if !fiber.stands_with_result() {
+        return Ok(0);
+    }
+    fiber.burst_from_result(code, world, u32::MAX)
+}
+
+/// Lets the fiber make steps in one go from an `offer` or a `take` on, and answers what it waits for then, if it does.
+#[inline(always)]
+fn flow<J: CodeBrand>(
+    fiber: &mut Fiber<PlainPort<J>>,
+    code: &Code,
+    world: &mut PlainWorld,
+) -> Result<Option<Source>, Memory>
+    requires code { code.now.nodes ≡ J.nodes }
+    requires stands { StandsAtQueue J.nodes fiber.old.focus (is_due fiber.old) }
+    ensures ok { IfOk result (λ wait. FlowsFrom J.nodes fiber.old world.old wait fiber.new world.new) }
+    ensures number { fiber.new.port.number ≡ fiber.old.port.number }
+    ensures beginning { fiber.new.port.beginning ≡ fiber.old.port.beginning }
+{
+    match fiber.flow(code, world, u32::MAX) {
+        Flow::Stops(_) => Ok(None),
+        Flow::Waits(_) => Ok(fiber.waits_at_queue(code)),
+        Flow::Memory => Err(Memory),
+    }
 }
 
 /// A fiber that has started, and who started it.
@@ -175,6 +214,52 @@ impl<J: CodeBrand> Started<J> {
             unreachable!();
         };
         fiber.burst(code, world, u32::MAX)
+    }
+
+    /// Whether it stands at an `offer` or a `take`, and cancellation is not due there.
+    #[inline(always)]
+    pub fn stands_at_queue(&self, code: &Code) -> bool
+        requires { code.now.nodes ≡ J.nodes }
+        ensures { OnTrue result (StandsAtQueue J.nodes self.now.fiber.focus (is_due self.now.fiber)) }
+    {
+        match &self.stage {
+            Stage::Going(fiber) => fiber.stands_at_queue(code),
+            Stage::Over(_) => false,
+        }
+    }
+
+    /// Lets it make rules in one go that need no other fiber, if it stands with a result, and answers how many it made.
+    #[inline(always)]
+    pub fn burst_from_result(&mut self, code: &Code, world: &mut PlainWorld) -> Result<u32, Memory>
+        requires code { code.now.nodes ≡ J.nodes }
+        requires going { has_ended (progress J.nodes self.old.fiber) ≡ false }
+        ensures ok { IfOk result (λ n. Bursts (plain_theory J.nodes) (2 ^ 32 - 1) n
+            self.old.fiber world.old self.new.fiber world.new) }
+        ensures same { self.new ≡ record self.old { fiber = self.new.fiber } }
+    {
+        let Stage::Going(fiber) = &mut self.stage else {
+            unreachable!();
+        };
+        burst_from_result(fiber, code, world)
+    }
+
+    /// Lets it make steps in one go from an `offer` or a `take` on, for as long as it is the least one that is ready, and
+    /// answers what it waits for then, if it does.
+    #[inline(always)]
+    pub fn flow(&mut self, code: &Code, world: &mut PlainWorld) -> Result<Option<Source>, Memory>
+        requires code { code.now.nodes ≡ J.nodes }
+        requires going { has_ended (progress J.nodes self.old.fiber) ≡ false }
+        requires stands { StandsAtQueue J.nodes self.old.fiber.focus (is_due self.old.fiber) }
+        ensures ok { IfOk result (λ wait. FlowsFrom J.nodes
+            self.old.fiber world.old wait self.new.fiber world.new) }
+        ensures same { self.new ≡ record self.old { fiber = self.new.fiber } }
+        ensures number { self.new.fiber.port.number ≡ self.old.fiber.port.number }
+        ensures beginning { self.new.fiber.port.beginning ≡ self.old.fiber.port.beginning }
+    {
+        let Stage::Going(fiber) = &mut self.stage else {
+            unreachable!();
+        };
+        flow(fiber, code, world)
     }
 
     /// The same fiber, without the memory that it does not need once it has ended: the next one to start

@@ -137,6 +137,7 @@ impl WokenClasses {
     }
 
     /// The fiber waits for that.
+    #[inline(always)]
     pub fn wait(&mut self, fiber: u32, source: Source)
         requires { fiber < length self.old.of }
         ensures { self.new
