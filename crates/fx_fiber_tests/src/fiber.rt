@@ -68,6 +68,7 @@ mod binding;
 mod can_step;
 mod cases;
 mod fibers;
+mod flows;
 mod forking;
 mod leaves;
 mod loops;
