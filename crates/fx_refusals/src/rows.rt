@@ -107,7 +107,7 @@ static OF_TWO: [Line; 2] = [
 ];
 
 /// Those of each worked script.
-static OF_WORKED: [Line; 21] = [
+static OF_WORKED: [Line; 19] = [
     ("parse", "", Row::Text(TextCall::Parse)),
     (
         "PlainWorld::new",
@@ -156,11 +156,6 @@ static OF_WORKED: [Line; 21] = [
         Row::OnScript(OnScript::Plain(FiberCall::Steps(Part::Burst))),
     ),
     (
-        "Fiber::flow over PlainPort",
-        "",
-        Row::OnScript(OnScript::Plain(FiberCall::Steps(Part::Flow))),
-    ),
-    (
         "gated_turn over PlainPort",
         "",
         Row::OnScript(OnScript::Plain(FiberCall::Steps(Part::Turn))),
@@ -169,11 +164,6 @@ static OF_WORKED: [Line; 21] = [
         "Fiber::step over ThreadPort",
         "",
         Row::OnScript(OnScript::Threads(FiberCall::Steps(Part::Step))),
-    ),
-    (
-        "Fiber::flow over ThreadPort",
-        "",
-        Row::OnScript(OnScript::Threads(FiberCall::Steps(Part::Flow))),
     ),
     (
         "gated_turn over ThreadPort",

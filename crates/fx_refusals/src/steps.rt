@@ -7,7 +7,7 @@ use crate::given::Given;
 use crate::harness::{Answer, Call, OTHER};
 use crate::refuser::Refuser;
 use futures::task::{Poll, Solo};
-use fx_fiber::{Fiber, Flow, Port, Report, Source, Stepped, Turned};
+use fx_fiber::{Fiber, Port, Report, Stepped, Turned};
 use fx_sched::{Free, Resting, gated_turn, leave};
 use fx_term::{Code, Memory, Stamped};
 use std::alloc::Global;
@@ -19,7 +19,6 @@ pub enum Part {
     None,
     Step,
     Burst,
-    Flow,
     Turn,
 }
 
@@ -127,7 +126,7 @@ fn came_to<P: Port + Drop>(
     }
 }
 
-/// A step, a burst, a flow or a turn.
+/// A step, a burst or a turn.
 fn moves<P: Port + Drop>(
     part: Part,
     fiber: &mut Fiber<P>,
@@ -148,7 +147,6 @@ fn moves<P: Port + Drop>(
             stepped
         }
         Part::Burst => bursts(fiber, code, shared, refuser),
-        Part::Flow => flows(fiber, code, shared, refuser),
         Part::Turn => turns(&given.solo, fiber, code, shared, refuser),
     }
 }
@@ -173,37 +171,6 @@ fn bursts<P: Port + Drop>(
     match made {
         Ok(_) => stepped,
         Err(Memory) => Err(Memory),
-    }
-}
-
-/// A flow, where the fiber stands at a queue, or else a step and a burst with ample memory.
-fn flows<P: Port + Drop>(
-    fiber: &mut Fiber<P>,
-    code: &Code,
-    shared: &mut P::Shared,
-    refuser: &Refuser,
-) -> Result<Stepped<P>, Memory>
-    requires code { code.now.nodes ≡ P.theory.code }
-    requires going { has_ended (progress P.theory.code fiber.now) ≡ false }
-{
-    if !fiber.stands_at_queue(code) {
-        let stepped = fiber.step(code, shared);
-        if matches!(&stepped, Ok(Stepped::Went)) {
-            let _ = fiber.burst(code, shared, 63)?;
-        }
-        return stepped;
-    }
-    refuser.go_on();
-    let flowed = fiber.flow(code, shared, 63);
-    refuser.hold();
-    match flowed {
-        Flow::Stops(_) => Ok(Stepped::Went),
-        Flow::Waits(made) => Ok(if made > 0 {
-            Stepped::Went
-        } else {
-            Stepped::Waits(Source::Nothing)
-        }),
-        Flow::Memory => Err(Memory),
     }
 }
 
@@ -268,7 +235,7 @@ impl<'a, P: Port + Drop> Call for Steps<'a, P> {
         match self.part {
             Part::None | Part::Step => events == self.events,
             // what was made before memory was refused stays
-            Part::Burst | Part::Flow | Part::Turn => events >= self.events,
+            Part::Burst | Part::Turn => events >= self.events,
         }
     }
 }
