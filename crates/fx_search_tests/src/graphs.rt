@@ -1,7 +1,7 @@
 //! Small graphs, searched.
 
 use crate::numbered::{Numbered, rows_are, state_of};
-use fx_search::{Ending, Nobody, Progress, SoFar, Space, search};
+use fx_search::{Ending, MoveSet, Nobody, Progress, SoFar, Space, Successor, search};
 use fx_term::Memory;
 use std::alloc::Global;
 use std::test::Fail;
@@ -17,22 +17,26 @@ impl Space<Numbered> for Graph {
 
     ghost leads = { λ graph from to. Unit {0} };
 
-    ghost covers = { λ graph from to. Unit {0} };
+    ghost covers = { λ graph from asleep next. Unit {0} };
 
     fn successors(
         &mut self,
         alloc: Global,
         state: &Numbered,
+        _asleep: MoveSet,
         _spares: &mut Vec<Numbered>,
-    ) -> Result<Vec<Numbered>, Memory> {
+    ) -> Result<Vec<Successor<Numbered>>, Memory> {
         let Some(list) = self.lists.get(state.first() as usize) else {
             return Err(Memory);
         };
-        let mut states = Vec::new(alloc);
+        let mut next = Vec::new(alloc);
         for &number in *list {
-            states.push(state_of(alloc, &[number])?)?;
+            next.push(Successor {
+                state: state_of(alloc, &[number])?,
+                asleep: MoveSet::none(),
+            })?;
         }
-        Ok(states)
+        Ok(next)
     }
 
     ghost has_rows = { λ graph from to same has. tt };

@@ -7,3 +7,5 @@ mod graphs;
 mod numbered;
 #[cfg(test)]
 mod sets;
+#[cfg(test)]
+mod sleeping;

@@ -1,7 +1,7 @@
 //! Sets of rows.
 ghost use Rattle.std.specs.Prelude.{◌<◌};
 
-use fx_search::RowSet;
+use fx_search::{Inserted, RowSet};
 use fx_term::Memory;
 use std::alloc::Global;
 use std::test::Fail;
@@ -36,10 +36,10 @@ fn is_read(alloc: Global, set: &RowSet, index: usize) -> Result<bool, Memory>
 fn rows_are_told_apart_and_read_again(rt: HostRuntime) -> Result<(), Fail> {
     let mut set = RowSet::new(rt.alloc())?;
     for row in &ROWS {
-        assert!(rt; set.insert(row)?);
+        assert!(rt; set.insert(row)? == Inserted::New);
     }
     for index in 0..12 {
-        assert!(rt; !set.insert(ROWS[index])?);
+        assert!(rt; set.insert(ROWS[index])? == Inserted::There(index));
         assert!(rt; is_read(rt.alloc(), &set, index)?);
     }
     assert!(rt; set.len() == 12 && set.get(rt.alloc(), 12)?.is_none());
@@ -50,10 +50,10 @@ fn rows_are_told_apart_and_read_again(rt: HostRuntime) -> Result<(), Fail> {
 fn rows_are_found_once_there_are_more_slots(rt: HostRuntime) -> Result<(), Fail> {
     let mut set = RowSet::new(rt.alloc())?;
     for number in 0..1_000u32 {
-        assert!(rt; set.insert(&[number, 7 * number])?);
+        assert!(rt; set.insert(&[number, 7 * number])? == Inserted::New);
     }
     for number in 0..1_000u32 {
-        assert!(rt; !set.insert(&[number, 7 * number])?);
+        assert!(rt; set.insert(&[number, 7 * number])? == Inserted::There(number as usize));
     }
     assert!(rt; set.len() == 1_000);
     Ok(())
