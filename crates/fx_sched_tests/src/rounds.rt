@@ -144,7 +144,7 @@ impl Gate for Pair {
             turns.fetch_add(1, Ordering::SeqCst);
         }
         if fiber == 1 {
-            for _ in 0..1_000_000u32 {
+            for _ in 0..20_000_000u32 {
                 if self.workers() > 1 {
                     break;
                 }
