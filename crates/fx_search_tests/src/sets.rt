@@ -40,8 +40,10 @@ fn rows_are_told_apart_and_read_again(rt: HostRuntime) -> Result<(), Fail> {
     }
     for index in 0..12 {
         assert!(rt; set.insert(ROWS[index])? == Inserted::There(index));
+        assert!(rt; set.index_of(ROWS[index]) == Some(index));
         assert!(rt; is_read(rt.alloc(), &set, index)?);
     }
+    assert!(rt; set.index_of(&[1]).is_none() && set.index_of(&[0, 0, 0, 0]).is_none());
     assert!(rt; set.len() == 12 && set.get(rt.alloc(), 12)?.is_none());
     Ok(())
 }
