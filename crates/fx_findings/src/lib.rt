@@ -9,7 +9,8 @@
 //! 2. Each state at rest that was met is told once, in the order of the search: those first in which a fiber
 //!    is blocked.
 //! 3. A schedule is looked for by going back from a state to the start, and it is followed before it is told:
-//!    it leads where it says. Its last picks are left out, as far as their steps are made without them.
+//!    it leads where it says. Its last picks are left out, as far as their steps are made without them. The
+//!    picks along what its way shares with the last one are not looked for again.
 //! 4. What was found has a text. A finding is the line of its schedule, its report in the lines of a replay,
 //!    and an empty line; then one line says how many there are, from how many states the search went on, and
 //!    whether these are all. What stands after the first word in the line of a schedule is the text of a
@@ -34,6 +35,7 @@ mod schedules;
 mod states;
 mod status;
 mod telling;
+mod trail;
 mod write;
 
 pub use compared::{Compared, UNEXPECTED, compare};
