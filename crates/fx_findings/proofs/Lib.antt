@@ -1,5 +1,6 @@
 pub mod Findings
 pub mod Followed
+pub mod FoundRows
 pub mod FoundStates
 pub mod Learned
 pub mod Reports

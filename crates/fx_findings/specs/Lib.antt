@@ -2,6 +2,7 @@ pub mod Explored
 pub mod Findings
 pub mod Searched
 pub mod StatesTold
+pub mod ToldRows
 pub mod Status
 pub mod Text
 pub mod Printed

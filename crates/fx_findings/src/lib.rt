@@ -7,7 +7,8 @@
 //! 1. A search by the steps that a schedule makes comes first. Where it has left out a step, and was not cut
 //!    short, a second one makes all steps.
 //! 2. Each state at rest that was met is told once, in the order of the search: those first in which a fiber
-//!    is blocked.
+//!    is blocked. What is told of it has a row of numbers, and it is compared with what was told before only
+//!    where that row is known.
 //! 3. A schedule is looked for by going back from a state to the start, and it is followed before it is told:
 //!    it leads where it says. Its last picks are left out, as far as their steps are made without them. The
 //!    picks along what its way shares with the last one are not looked for again.
@@ -35,6 +36,7 @@ mod schedules;
 mod states;
 mod status;
 mod telling;
+mod told_row;
 mod trail;
 mod write;
 
