@@ -13,5 +13,6 @@ pub mod FoundReplays
 pub mod MappedSplits
 pub mod LentLines
 pub mod ReadBlocks
+pub mod Joined
 pub mod Judged
 pub mod Heard

@@ -4,14 +4,15 @@
 //!
 //! Its rules:
 //!
-//! 1. A search by the steps that a schedule makes comes first. Where it has left out a step, and was not cut
-//!    short, a second one makes all steps.
+//! 1. A search makes all steps. Where it has found a report without a schedule, a second one makes the steps that a
+//!    schedule makes, and the findings of that one come first.
 //! 2. Each state at rest that was met is told once, in the order of the search: those first in which a fiber
 //!    is blocked. What is told of it has a row of numbers, and it is compared with what was told before only
 //!    where that row is known.
 //! 3. A schedule is looked for by going back from a state to the start, and it is followed before it is told:
-//!    it leads where it says. Its last picks are left out, as far as their steps are made without them. The
-//!    picks along what its way shares with the last one are not looked for again.
+//!    it leads where it says. Where a fiber learns of the right one of two that have both ended, which no schedule makes,
+//!    the end of the left one is put behind that step. The last picks are left out, as far as their steps are made without
+//!    them. The picks along what its way shares with the last one are not looked for again.
 //! 4. What was found has a text. A finding is the line of its schedule, its report in the lines of a replay,
 //!    and an empty line; then one line says how many there are, from how many states the search went on, and
 //!    whether these are all. What stands after the first word in the line of a schedule is the text of a

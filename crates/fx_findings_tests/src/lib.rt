@@ -7,4 +7,6 @@ mod by_the_rules;
 #[cfg(test)]
 mod printed;
 #[cfg(test)]
+mod searched_once;
+#[cfg(test)]
 mod small_scripts;

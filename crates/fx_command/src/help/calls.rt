@@ -261,7 +261,7 @@ it found are, and else 0, also where a fiber is blocked.
 With the word progress at the end standard error has a line for each second but
 the first: from how many states the search has gone on, and from how many more
 that it has met it is still to do so. A second search, which is made where the
-first one has left out a step of a first, begins at none again.
+first one has found a report without a schedule, begins at none again.
 ";
 
 const SCHEDULE: &str = "\
