@@ -1,12 +1,9 @@
 //! Two pairs of fibers, each at a queue of its own.
-ghost use Rattle.std.specs.Prelude.{◌≡◌};
 
-use fx_search::{Ending, Met, MoveSet, Nobody, search};
-use fx_space::{Choices, Runs};
-use fx_term::{CodeBrand, Memory};
-use fx_text::{Script, parse};
-use std::alloc::Global;
-use std::marker::Brand;
+use crate::searched::{searched, set_of};
+use fx_search::Ending;
+use fx_space::Choices;
+use fx_text::parse;
 use std::test::Fail;
 
 /// The main fiber and the third one put something into the one queue, the two others into the other one. Each pair can do so
@@ -36,42 +33,10 @@ const ASLEEP: [&[u32]; 10] = [
 /// was never made before, and those at rest.
 const NOTED: &[usize] = &[0, 6, 7, 8, 9];
 
-/// The set of these numbers.
-fn set_of(numbers: &[u32]) -> MoveSet {
-    let mut set = MoveSet::none();
-    for &number in numbers {
-        set = set.with(number);
-    }
-    set
-}
-
-/// What a search of the script whose code the type names meets, and which states of these were noted.
-fn searched_named<J: CodeBrand>(alloc: Global, script: &Script) -> Result<(Met, Vec<usize>), Memory>
-    requires code { script.now.code.nodes ≡ J.nodes }
-{
-    let (mut runs, start) = Runs::<J>::opening(alloc, script, None, Choices::Scheduled)?;
-    let met = search(alloc, &mut runs, start, 100, &mut Nobody)?;
-    let mut noted = Vec::new(alloc);
-    for index in 0..met.states.len() {
-        let Some(row) = met.states.get(alloc, index)? else {
-            return Err(Memory);
-        };
-        if runs.resting().index_of(&row).is_some() {
-            noted.push(index)?;
-        }
-    }
-    Ok((met, noted))
-}
-
-/// What a search of the script meets, and which states of these were noted.
-fn searched(alloc: Global, script: &Script) -> Result<(Met, Vec<usize>), Memory> {
-    searched_named::<Brand>(alloc, script)
-}
-
 #[test]
 fn fibers_sleep_after_steps_that_can_be_made_before_theirs(rt: HostRuntime) -> Result<(), Fail> {
     let script = parse(rt.alloc(), PAIRS)?;
-    let (met, _) = searched(rt.alloc(), &script)?;
+    let (met, _) = searched(rt.alloc(), &script, Choices::Scheduled)?;
     assert!(rt; met.ending == Ending::Exhausted && met.states.len() == ASLEEP.len());
     for index in 0..ASLEEP.len() {
         assert!(rt; met.asleep.get(index) == Some(&set_of(ASLEEP[index])));
@@ -82,7 +47,7 @@ fn fibers_sleep_after_steps_that_can_be_made_before_theirs(rt: HostRuntime) -> R
 #[test]
 fn states_are_noted_in_which_nobody_is_known_to_step(rt: HostRuntime) -> Result<(), Fail> {
     let script = parse(rt.alloc(), PAIRS)?;
-    let (_, noted) = searched(rt.alloc(), &script)?;
+    let (_, noted) = searched(rt.alloc(), &script, Choices::Scheduled)?;
     assert!(rt; noted.as_slice() == NOTED);
     Ok(())
 }
