@@ -36,3 +36,42 @@ fn fibers_sleep_after_a_step_that_learns_of_the_one_end_that_has_come(
     }
     Ok(())
 }
+
+/// The same in a search by the steps of a schedule, in which each end but the main fiber's is left to its turn: whoever learns
+/// of an end is followed by states in which none sleeps, since an end before that step could have taken it from it.
+const ASLEEP_BY_SCHEDULES: [&[u32]; 13] = [
+    // before any step; and as the first one can end, and two can put
+    &[],
+    &[],
+    // after both puts, the main fiber's first; after the end of the first one, before which the main fiber can put; after both
+    // puts, the fourth one's first, before which the first one can end
+    &[],
+    &[0],
+    &[1],
+    // after both puts and then the end of the first one; and at rest
+    &[],
+    &[],
+    // after the end of the first one of which the third one has learnt; and after both puts
+    &[],
+    &[],
+    // at rest, where the fourth one put first
+    &[],
+    // after both puts, as the third one has learnt of the end
+    &[],
+    // after the end of the third one, before which the main fiber can put; and after both puts instead of that
+    &[0],
+    &[],
+];
+
+#[test]
+fn no_fiber_sleeps_by_schedules_after_a_step_that_learns_of_an_end(
+    rt: HostRuntime,
+) -> Result<(), Fail> {
+    let script = parse(rt.alloc(), ONE_END)?;
+    let (met, _) = searched(rt.alloc(), &script, Choices::Scheduled)?;
+    assert!(rt; met.ending == Ending::Exhausted && met.states.len() == ASLEEP_BY_SCHEDULES.len());
+    for index in 0..ASLEEP_BY_SCHEDULES.len() {
+        assert!(rt; met.asleep.get(index) == Some(&set_of(ASLEEP_BY_SCHEDULES[index])));
+    }
+    Ok(())
+}
