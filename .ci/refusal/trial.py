@@ -2,7 +2,6 @@
 import os
 import shutil
 import tempfile
-import time
 from collections import Counter
 
 from refusal import edit as edits
@@ -18,17 +17,16 @@ MOST_CONTROLS = 4
 
 
 class Trial:
-    """The edits of a crate, and how many of them, and of the controls, have passed and failed, and how many were skipped since
-    the time was up."""
+    """The edits of a crate, and how many of them, and of the controls, have passed and failed."""
 
-    def __init__(self, crate, folder, until):
-        self.crate, self.name, self.until = crate, crate.name, until
+    def __init__(self, crate, folder):
+        self.crate, self.name = crate, crate.name
         self.texts = sources(crate.folder)
         self.found = functions(self.texts)
         self.calls = callees(self.found, self.texts)
         folder = f"{crate.folder}/{folder}"
         self.edits = sorted(f"{folder}/{it}" for it in os.listdir(folder) if it.endswith(".edit")) if os.path.isdir(folder) else []
-        self.passed, self.failed, self.skipped, self.rounds, self.tried = 0, 0, 0, 0, set()
+        self.passed, self.failed, self.rounds, self.tried = 0, 0, 0, set()
 
     def lines(self):
         return sum(text.count("\n") for text in self.texts.values())
@@ -41,20 +39,16 @@ class Trial:
         self.failed += 1
         self.say(f"{what}: FAILED: {why}")
 
-    def skips(self, what):
-        self.skipped += 1
-        self.say(f"{what}: skipped: there is no time for it")
-
     def say(self, text):
         print(f"{self.name} {text}", flush=True)
 
     def run(self):
-        """Tries all edits, and gives how many passed, how many failed, and how many were skipped."""
+        """Tries all edits, and gives how many passed and how many failed."""
         left = self.readable()
         with tempfile.TemporaryDirectory(prefix="refused-kept-") as room:
             first, later = f"{room}/first", f"{room}/later"
             os.mkdir(first)
-            while left and time.time() < self.until:
+            while left:
                 chosen = self.next_round(left)
                 left = [it for it in left if it not in chosen]
                 self.rounds += 1
@@ -63,9 +57,7 @@ class Trial:
                     shutil.rmtree(later, ignore_errors=True)
                     shutil.copytree(first, later)
                 self.round(chosen, first if self.rounds == 1 else later)
-        for it in left:
-            self.skips(it.name)
-        return self.passed, self.failed, self.skipped
+        return self.passed, self.failed
 
     def readable(self):
         """The edits that apply to the crate."""

@@ -37,8 +37,8 @@ fn fibers_sleep_after_a_step_that_learns_of_the_one_end_that_has_come(
     Ok(())
 }
 
-/// The same in a search by the steps of a schedule, in which each end but the main fiber's is left to its turn: whoever learns
-/// of an end is followed by states in which none sleeps, since an end before that step could have taken it from it.
+/// The same in a search by the steps of a schedule, in which each end but the main fiber's is left to its turn. After a step
+/// that learns of an end none sleeps: another end before that step could have taken it from it.
 const ASLEEP_BY_SCHEDULES: [&[u32]; 13] = [
     // before any step; and as the first one can end, and two can put
     &[],
