@@ -24,6 +24,7 @@ mod Fetched
 mod CommandAnswer
 mod FoundAnswers
 mod ExpectedAnswers
+mod PrintedAnswers
 pub mod ToldTextLaws
 mod ShortCalls
 pub mod Heard

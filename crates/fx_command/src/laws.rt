@@ -12,12 +12,14 @@ ghost use Rattle.fx_text.specs.Meaning.{Meaning};
 ghost use Rattle.fx_text.specs.Grammar.{IsScript};
 ghost use Rattle.fx_report.specs.Script.{script_of};
 ghost use Rattle.fx_report.specs.Text.{queue_names, report_text};
-ghost use Rattle.fx_report.specs.declared.status.TheConstants.{ENDED};
+ghost use Rattle.fx_report.specs.Status.{status_of};
+ghost use Rattle.fx_report.specs.declared.status.TheConstants.{ENDED, REFUSED};
 ghost use Rattle.fx_explore.specs.Setting.{setting};
 ghost use Rattle.fx_findings.specs.declared.explored.Finding.{Finding};
 ghost use Rattle.fx_findings.specs.Explored.{view_told, schedule_of, IsFinding, IsReportWithin};
 ghost use Rattle.fx_findings.specs.Expected.{reports_of};
 ghost use Rattle.fx_findings.specs.Printed.{TellsSo, HasSmallNumber};
+ghost use Rattle.fx_findings.specs.PrintedReports.{SaysComplete, IsPrinted};
 ghost use Rattle.fx_findings.specs.Text.{picks_text};
 ghost use Rattle.fx_command.specs.declared.call.Command.TheVariants as command;
 ghost use Rattle.fx_command.specs.declared.call.Search.{Search};
@@ -77,6 +79,30 @@ pub fn passed_expectation_says_each_report()
         → IsCommandAnswer (command.Expect search) script schedule expected words ENDED text
         → (r : ReportView) → IsReportWithin (setting (script_of m) search.target) r
         → Among (report_text (queue_names m) r) (reports_of expected) }
+{}
+
+/// Where a search is not refused, and the last line of its answer says that it is complete, the report of each run of the script
+/// in which nobody but its target is requested from outside stands there, byte for byte, behind the line of its schedule, or the
+/// line that none is known.
+pub fn complete_answer_prints_each_report()
+    ensures { (search : Search) (script schedule expected words text : List ℕ) (m : Meaning) (status : ℕ)
+        → IsScript script m
+        → IsCommandAnswer (command.Explore search) script schedule expected words status text
+        → (status ≡ REFUSED → ⊥) → SaysComplete text
+        → (r : ReportView) → IsReportWithin (setting (script_of m) search.target) r
+        → IsPrinted (queue_names m) r text }
+{}
+
+/// Where a search is answered with status 0, its last line says so, and in no such run a fiber is blocked.
+pub fn passed_answer_is_complete()
+    ensures complete { (search : Search) (script schedule expected words text : List ℕ) (m : Meaning)
+        → IsScript script m
+        → IsCommandAnswer (command.Explore search) script schedule expected words ENDED text
+        → SaysComplete text }
+    ensures ended { (search : Search) (script schedule expected words text : List ℕ) (m : Meaning)
+        → IsScript script m
+        → IsCommandAnswer (command.Explore search) script schedule expected words ENDED text
+        → (r : ReportView) → IsReportWithin (setting (script_of m) search.target) r → status_of r ≡ ENDED }
 {}
 
 /// What a replay tells of each get as its cause is the put of the element that it took: each get has one, the causes of the

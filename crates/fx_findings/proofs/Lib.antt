@@ -15,4 +15,5 @@ pub mod LentLines
 pub mod ReadBlocks
 pub mod Joined
 pub mod Judged
+pub mod PrintedReports
 pub mod Heard

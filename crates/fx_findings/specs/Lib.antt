@@ -6,6 +6,7 @@ pub mod ToldRows
 pub mod Status
 pub mod Text
 pub mod Printed
+pub mod PrintedReports
 pub mod Expected
 pub mod Compared
 pub mod Heard

@@ -22,7 +22,9 @@ ghost use Rattle.fx_findings.specs.Expected.{report_of, reports_of};
 ghost use Rattle.fx_findings.specs.Compared.{compared_status, TellsUnexpected};
 ghost use Rattle.fx_findings.specs.Explored.{view_told, schedule_of, IsFinding, IsReportWithin, IsExplored};
 ghost use Rattle.fx_findings.specs.Printed.{TellsSo, HasSmallNumber};
-ghost use Rattle.fx_findings.specs.Text.{picks_text};
+ghost use Rattle.fx_findings.specs.PrintedReports.{SaysComplete, IsPrinted};
+ghost use Rattle.fx_findings.specs.Status.{explored_status};
+ghost use Rattle.fx_findings.specs.Text.{picks_text, explored_text};
 
 /// What is printed of a report is what is told of it, and its status is that of a fiber that waits for good
 /// exactly where one is told as blocked.
@@ -70,6 +72,23 @@ pub fn report_is_read()
         → (length (report_of lines) == 0) ≡ false
         → reports_of (flat_map (λ (line : List ℕ). line ++ line_end) lines ++ line_end ++ rest)
         ≡ report_of lines ∷ reports_of rest }
+{}
+
+/// Where the last line that is printed of a search says that it is complete, the report of each run in which nobody but the
+/// target is requested from outside stands there, byte for byte, behind the line of its schedule, or the line that none is known.
+pub fn complete_search_prints_each_report()
+    ensures { (s : Setting) (most : ℕ) (e : Explored) (names : List (List ℕ))
+        → IsExplored s most e → SaysComplete (explored_text names e)
+        → (r : ReportView) → IsReportWithin s r → IsPrinted names r (explored_text names e) }
+{}
+
+/// Status 0 after a search says that its last line says so, and that in no such run a fiber is blocked.
+pub fn passed_search_is_complete()
+    ensures complete { (s : Setting) (most : ℕ) (e : Explored) (names : List (List ℕ))
+        → IsExplored s most e → explored_status e ≡ ENDED → SaysComplete (explored_text names e) }
+    ensures ended { (s : Setting) (most : ℕ) (e : Explored)
+        → IsExplored s most e → explored_status e ≡ ENDED
+        → (r : ReportView) → IsReportWithin s r → status_of r ≡ ENDED }
 {}
 
 /// The numbers of the statuses, which never change.
