@@ -131,8 +131,8 @@ fn follow_named<J: CodeBrand>(
 /// it: fiber by fiber, in the order of the report, and event by event. It is told by runs that have these traces and ends, and
 /// come to what is left: each fiber is made to step again from what it began with, and is answered what its trace says. A trace
 /// does not tell at which open place a request was seen, so these are tried one after the other, and another run may have seen
-/// it elsewhere. None where no such run is found: a report that is not lawful has none, and 20,000,000 steps are made at the
-/// most.
+/// it elsewhere. None where no such run is found, for which 20,000,000 steps are made at the most. One that is found says
+/// nothing of queues: it may be there for a report that is not lawful, too.
 pub fn follow(
     alloc: Global,
     script: &Script,
