@@ -20,7 +20,7 @@ use Rattle.fx_command.proofs.FoundAnswers.{one_meaning}
 
 -- the text has the report of each run of the script in which nobody but the target is requested from outside
 abbrev pub PrintsEach : Meaning → Option ℕ → List ℕ → Type 0
-PrintsEach m target text = (r : ReportView) → IsReportWithin (setting (script_of m) target) r → IsPrinted (queue_names m) r text
+PrintsEach m target text = (r : ReportView) → IsReportWithin (setting (script_of m) target) r → IsPrinted (script_of m) (queue_names m) r text
 
 -- in none of these a fiber is blocked, and the text says that there are no others
 pub record Passes (m : Meaning) (target : Option ℕ) (text : List ℕ) : Type 0 where

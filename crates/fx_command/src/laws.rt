@@ -82,15 +82,15 @@ pub fn passed_expectation_says_each_report()
 {}
 
 /// Where a search is not refused, and the last line of its answer says that it is complete, the report of each run of the script
-/// in which nobody but its target is requested from outside stands there, byte for byte, behind the line of its schedule, or the
-/// line that none is known.
+/// in which nobody but its target is requested from outside stands there, byte for byte, behind the line of a schedule by which a
+/// replay prints it, or the line that none is known.
 pub fn complete_answer_prints_each_report()
     ensures { (search : Search) (script schedule expected words text : List ℕ) (m : Meaning) (status : ℕ)
         → IsScript script m
         → IsCommandAnswer (command.Explore search) script schedule expected words status text
         → (status ≡ REFUSED → ⊥) → SaysComplete text
         → (r : ReportView) → IsReportWithin (setting (script_of m) search.target) r
-        → IsPrinted (queue_names m) r text }
+        → IsPrinted (script_of m) (queue_names m) r text }
 {}
 
 /// Where a search is answered with status 0, its last line says so, and in no such run a fiber is blocked.

@@ -75,11 +75,12 @@ pub fn report_is_read()
 {}
 
 /// Where the last line that is printed of a search says that it is complete, the report of each run in which nobody but the
-/// target is requested from outside stands there, byte for byte, behind the line of its schedule, or the line that none is known.
+/// target is requested from outside stands there, byte for byte, behind the line of a schedule by which a replay prints it, or the line that
+/// none is known.
 pub fn complete_search_prints_each_report()
     ensures { (s : Setting) (most : ℕ) (e : Explored) (names : List (List ℕ))
         → IsExplored s most e → SaysComplete (explored_text names e)
-        → (r : ReportView) → IsReportWithin s r → IsPrinted names r (explored_text names e) }
+        → (r : ReportView) → IsReportWithin s r → IsPrinted s.script names r (explored_text names e) }
 {}
 
 /// Status 0 after a search says that its last line says so, and that in no such run a fiber is blocked.
