@@ -1,8 +1,9 @@
 -- Where a machine stands, from the leaf below it or what stands inside all contexts.
-use Rattle.std.proofs.Common.{◌≡◌, ℕ, false, Option, Some, None, List, [], length, refl, sym, ◌∙◌, ap}
+use Rattle.std.proofs.Common.{◌≡◌, ℕ, false, Option, Some, None, List, [], length, refl, sym, ◌∙◌, ap, subst}
 use Rattle.std.specs.Prelude.{MatchOption, slice_get}
 use Rattle.fx_term.specs.declared.node.NodeId.{NodeId}
 use Rattle.fx_term.specs.declared.node.Node.{Node}
+use Rattle.fx_term.specs.declared.node.Node.TheVariants as node
 use Rattle.fx_term.specs.declared.done.Done.{Done}
 use Rattle.fx_term.specs.declared.outcome.Outcome.{Outcome}
 use Rattle.fx_term.specs.Term.{Term, Finished}
@@ -17,7 +18,7 @@ use Rattle.fx_fiber.specs.declared.machine.unwound.Unwound.{Unwound}
 use Rattle.fx_fiber.specs.declared.machine.Machine.{Machine}
 use Rattle.fx_fiber.specs.declared.machine.leaf_below.LeafBelow.{LeafBelow}
 use Rattle.fx_fiber.specs.Machine.{filled, loop_at, inner, within, running, unwinding, progress_of}
-use Rattle.fx_fiber.specs.Sound.{closed_outside, AreClosedBy, IsSoundMachine}
+use Rattle.fx_fiber.specs.Sound.{IsLoopIn, IsFocusIn, closed_outside, AreClosedBy, IsSoundMachine}
 use Rattle.fx_fiber.specs.Leaves.{IsLeafNode}
 use Rattle.fx_fiber.specs.LeafBelow.{IsLeafBelow}
 use Rattle.fx_fiber.specs.NodePlaces.{is_open_at, IsPlaceOf, at_leaf, at_turn, HasNoNode}
@@ -71,7 +72,7 @@ module _ (nodes : List Node) (s : Machine) (leaf : LeafBelow) (below : IsLeafBel
 
   pub leaf_place : IsPlaceOf nodes s.registers (leaf_at (progress_of nodes s)) leaf.id
   leaf_place =
-      at_leaf (place_inside nodes s below.down.inside leaf.id leaf.node below.down.same below.down.focus below.node below.is_leaf
+      at_leaf below.node (place_inside nodes s below.down.inside leaf.id leaf.node below.down.same below.down.focus below.node below.is_leaf
       ∙ ap (λ (ns : List ℕ). Some (filled nodes ns leaf.id)) below.down.registers)
 
 module _ (nodes : List Node) (s : Machine) (sound : IsSoundMachine nodes s) where
@@ -107,9 +108,16 @@ module _ (nodes : List Node) (s : Machine) where
   inside_leaf_at None u = ap Some (leaf_within nodes s.registers s.frames s.masks.regions u)
   inside_leaf_at (Some left) u = ap Some (leaf_within nodes s.registers s.frames s.masks.regions u)
 
-  pub turn_place : (id : NodeId) (turn : ℕ) → s.focus ≡ Turn id turn → IsPlaceOf nodes s.registers (leaf_at (progress_of nodes s)) id
-  turn_place id turn e =
-      at_turn turn (rw e (inside_leaf_at s.cleanups (loop_at nodes s.registers id turn))
+  -- whose turn comes next is a `for`
+  is_loop : (bound : ℕ) (found : Option Node) → IsLoopIn nodes bound found → (i : ℕ) × (count : ℕ) × (a : NodeId) × (found ≡ Some (node.For i count a))
+  is_loop bound (Some (node.For i count a)) is = (i, count, a, refl)
+  is_loop bound _ is = absurd is
+
+  pub turn_place : IsSoundMachine nodes s → (id : NodeId) (turn : ℕ) → s.focus ≡ Turn id turn
+      → IsPlaceOf nodes s.registers (leaf_at (progress_of nodes s)) id
+  turn_place sound id turn e =
+      let loop = is_loop sound.bound (slice_get nodes id.0) (subst (IsFocusIn nodes sound.bound) e sound.focus_in) in
+      at_turn {a = loop.2} turn loop.3 (rw e (inside_leaf_at s.cleanups (loop_at nodes s.registers id turn))
       ∙ ap Some (loop_term nodes s.registers s.masks.regions (slice_get nodes id.0) turn).is_leaf)
 
   pub result_has_none : (v : Done) → s.focus ≡ Return v → HasNoNode (leaf_at (progress_of nodes s))

@@ -6,7 +6,7 @@ pub returns-in-Eval : goal.returns-in-Eval
 returns-in-Eval g c = leaf_place g.nodes c.args.self.now c.leaf_below.result c.leaf_below.ensures
 
 pub returns-in-Turn : goal.returns-in-Turn
-returns-in-Turn g c = turn_place g.nodes c.args.self.now c.in-Turn.id _ c.in-Turn.is
+returns-in-Turn g c = turn_place g.nodes c.args.self.now c.requires.1 c.in-Turn.id _ c.in-Turn.is
 
 pub returns-in-Return : goal.returns-in-Return
 returns-in-Return g c =
