@@ -19,7 +19,7 @@ use Rattle.fx_report.specs.Status.{status_of}
 use Rattle.fx_report.specs.Waits.{blocked_text}
 use Rattle.fx_report.specs.declared.blocked.Blocked.{Blocked}
 use Rattle.fx_findings.specs.declared.explored.Explored.{Explored}
-use Rattle.fx_findings.specs.Explored.{IsExplored}
+use Rattle.fx_findings.specs.Answer.{IsExplored}
 use Rattle.fx_findings.specs.Status.{explored_status}
 use Rattle.fx_findings.specs.Text.{explored_text}
 use Rattle.fx_findings.specs.Compared.{compared_text, compared_status}

@@ -23,7 +23,7 @@ use Rattle.fx_follow.specs.declared.stand.Stand.{Stand}
 use Rattle.fx_order.specs.declared.occurrence.Occurrence.{Occurrence}
 use Rattle.fx_counts.specs.declared.at_queue.AtQueue.{AtQueue}
 use Rattle.fx_findings.specs.declared.explored.Explored.{Explored}
-use Rattle.fx_findings.specs.Explored.{IsExplored}
+use Rattle.fx_findings.specs.Answer.{IsExplored}
 use Rattle.fx_findings.specs.Status.{explored_status}
 use Rattle.fx_findings.specs.Text.{explored_text}
 use Rattle.fx_findings.specs.Compared.{compared_text, compared_status}

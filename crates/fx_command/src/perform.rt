@@ -9,7 +9,7 @@ ghost use Rattle.fx_text.specs.Grammar.{IsScript};
 ghost use Rattle.fx_places.specs.Places.{positions_of};
 ghost use Rattle.fx_plain.specs.PassedPicks.{IsWhyAtQueueBelow};
 ghost use Rattle.fx_explore.specs.Setting.{setting};
-ghost use Rattle.fx_findings.specs.Explored.{IsExplored};
+ghost use Rattle.fx_findings.specs.Answer.{IsExplored};
 ghost use Rattle.fx_report.specs.Script.{script_of};
 ghost use Rattle.fx_command.specs.Heard.{HearsCommand, HearsTelling};
 ghost use Rattle.fx_command.specs.Passed.{replay_words};

@@ -6,6 +6,7 @@ pub mod Learned
 pub mod Reports
 pub mod SameTold
 pub mod Searched
+pub mod DistinctRows
 pub mod StepsThere
 pub mod WholeAnswers
 pub mod PrintedSchedules

@@ -1,6 +1,8 @@
 pub mod Explored
 pub mod Findings
 pub mod Searched
+pub mod Met
+pub mod Answer
 pub mod StatesTold
 pub mod ToldRows
 pub mod Status
