@@ -11,6 +11,7 @@ use Rattle.fx_command.specs.declared.command_fault.CommandFault.TheVariants.{Ref
 use Rattle.fx_command.specs.Fetched.{ReadsScript, FetchesScript, FetchesSchedule, FetchesAll, FetchesNoScript, FetchesNoSchedule, FetchesNone}
 use Rattle.fx_command.specs.declared.perform.Performed.{Performed}
 use Rattle.fx_command.specs.Performed.{IsPerformed, Performs}
+use Rattle.fx_command.specs.Heard.{IsAnswered}
 use Rattle.fx_command.specs.Stream.{StreamView, PrintsAnswer}
 use Rattle.fx_command.specs.declared.call.Call.{Call}
 use Rattle.fx_command.specs.Call.{CallView, view_call, call_of}
@@ -139,6 +140,12 @@ refusal_runs words holds call r old mid new said says status is left (line_not_t
     subst (λ o. Runs words holds o new said says status) left.1
     (not_taken call is (record { status = REFUSED; text = string_bytes r.line; answer = left.0; taken = part }) line)
 
+-- which is no status of an answer
+pub refused_is : (line remark : List ℕ) (old new said says : StreamView) (status : ℕ) → TellsRefusal line remark old new said says status
+    → IsAnswered status → ⊥
+refused_is line remark old new said says _ (told taken remarks) ends = ends.0 refl
+refused_is line remark old new said says _ (line_not_taken part says_so) ends = ends.2 refl
+
 -- it was said that a text cannot be read
 pub unread_runs : (words : List (List ℕ)) (holds : List ℕ → Option (List ℕ)) (call : CallView) (name : List ℕ) (old new said says : StreamView)
     (status : ℕ) → call_of words ≡ Some call → ComesToRead holds call name × (new ≡ old) → TellsUnreadable name said says status
@@ -156,3 +163,12 @@ run_fault_runs words holds call fault old new said says _ is left (fault_no_memo
 -- the call that the words make
 pub call_is : (words : List (List ℕ)) (o : Option Call) (c : Call) → option_map view_call o ≡ call_of words → o ≡ Some c → call_of words ≡ Some (view_call c)
 call_is words o c made is = sym made ∙ ap (option_map view_call) is
+
+-- nor is that of a text that cannot be read, or of a fault of a run
+pub unread_is : (name : List ℕ) (said says : StreamView) (status : ℕ) → TellsUnreadable name said says status → IsAnswered status → ⊥
+unread_is name said says _ (unread_told line) ends = ends.1 refl
+unread_is name said says _ (unread_no_memory line) ends = ends.2 refl
+
+pub run_fault_is : (fault : RunFault) (said says : StreamView) (status : ℕ) → TellsRunFault fault said says status → IsAnswered status → ⊥
+run_fault_is fault said says _ (fault_told line) ends = ends.2 refl
+run_fault_is fault said says _ (fault_no_memory line) ends = ends.2 refl

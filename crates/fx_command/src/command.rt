@@ -1,12 +1,13 @@
 //! Does what the words after the program's name ask for.
-ghost use Rattle.std.specs.Prelude.{◌≡◌, ◌≢◌, IfSome, IfOk, IfErr, codes, map, option_map, string_bytes, length};
+ghost use Rattle.std.specs.Prelude.{◌≡◌, ◌≢◌, Some, None, IfSome, IfOk, IfErr, codes, map, option_map, string_bytes, length};
 ghost use Rattle.fx_text.specs.View.{meaning};
 ghost use Rattle.fx_command.specs.CommandFault.{IsUnread};
 ghost use Rattle.fx_command.specs.Fetched.{IsPrefixOf, ReadsScript, FetchesNoScript};
 ghost use Rattle.fx_command.specs.Fetched.{FetchesSchedule, FetchesNoSchedule, KeepsFiles};
 ghost use Rattle.fx_command.specs.Fetched.{FetchesAll, FetchesNone};
-ghost use Rattle.fx_command.specs.Call.{call_of, view_call};
-ghost use Rattle.fx_command.specs.Heard.{HearsCall, HearsCommand};
+ghost use Rattle.fx_command.specs.Call.{CallView, call_of, view_call};
+ghost use Rattle.fx_command.specs.Heard.{HearsCall, HearsCommand, HearsAnswer, IsAnswered};
+ghost use Rattle.fx_command.specs.Help.{topic_of};
 ghost use Rattle.fx_command.specs.CommandAnswer.{known_text, AnswersToCall, Leaves};
 ghost use Rattle.fx_command.specs.CommandAnswer.{TellsPage, TellsRefusal, TellsUnreadable, TellsRunFault, Runs};
 ghost use Rattle.fx_command.specs.Said.{Says, run_fault_line, unreadable_line};
@@ -153,6 +154,8 @@ fn answer<
     ensures fault { IfErr result
         (λ fault. Leaves (F.holds files.old) (view_call call.entry) fault out.old out.new) }
     ensures hears { HearsCommand G.hears progress.old progress.new (view_call call.entry).command }
+    ensures tells { IfOk result (λ _. HearsAnswer G.hears progress.old progress.new (F.holds files.old)
+        (view_call call.entry) out.old out.new) }
 {
     let (script, source) = script_of(alloc, files, call.script)?;
     let picks = schedule_of(alloc, files, call.schedule)?;
@@ -301,6 +304,9 @@ pub fn command<
     ensures runs { Runs (map string_bytes words.now) (F.holds files.old) out.old out.new err.old err.new
         result }
     ensures hears { HearsCall G.hears progress.old progress.new (call_of (map string_bytes words.now)) }
+    ensures tells { (call : CallView) → topic_of (map string_bytes words.now) ≡ None
+        → call_of (map string_bytes words.now) ≡ Some call → IsAnswered result
+        → HearsAnswer G.hears progress.old progress.new (F.holds files.old) call out.old out.new }
 {
     if let Some(topic) = topic_of(words) {
         return tell_page(topic, out, err);

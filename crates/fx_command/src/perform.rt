@@ -11,7 +11,11 @@ ghost use Rattle.fx_plain.specs.PassedPicks.{IsWhyAtQueueBelow};
 ghost use Rattle.fx_explore.specs.Setting.{setting};
 ghost use Rattle.fx_findings.specs.Answer.{IsExplored};
 ghost use Rattle.fx_report.specs.Script.{script_of};
-ghost use Rattle.fx_command.specs.Heard.{HearsCommand, HearsTelling};
+ghost use Rattle.fx_findings.specs.Compared.{compared_text};
+ghost use Rattle.fx_findings.specs.Heard.{HearsFirst};
+ghost use Rattle.fx_findings.specs.Text.{explored_text};
+ghost use Rattle.fx_command.specs.Heard.{HearsCommand, HearsTelling, HearsFound, HearsPrinted};
+ghost use Rattle.fx_command.specs.declared.call.Telling.TheVariants.{Aloud};
 ghost use Rattle.fx_command.specs.Passed.{replay_words};
 ghost use Rattle.fx_command.specs.Performed.{counts_text, check_text, Performs};
 
@@ -244,6 +248,8 @@ fn explored_by<G: Progress>(
     ensures explored { IfOk result
         (λ explored. IsExplored (setting (script_of (meaning script.now)) search.target) search.most explored) }
     ensures hears { HearsTelling G.hears progress.old progress.new search.telling }
+    ensures tells { IfOk result (λ explored. search.telling ≡ Aloud
+        → HearsFirst G.hears progress.old progress.new explored.ending explored.states) }
 {
     let most = search.most as usize;
     match search.telling {
@@ -264,6 +270,8 @@ fn find<'a, W: Write, G: Progress>(
         → Performs (command.Explore search) source (meaning script.now) picks expected result
         out.old out.new }
     ensures hears { HearsTelling G.hears progress.old progress.new search.telling }
+    ensures tells { IfOk result (λ _. HearsFound G.hears progress.old progress.new (meaning script.now) search
+        (explored_text (queue_names (meaning script.now))) out.old out.new) }
 {
     let explored = explored_by(alloc, script, search, progress)?;
     let text = format_explored(alloc, script, &explored)?;
@@ -287,6 +295,8 @@ fn expect<'a, W: Write, G: Progress>(
     ensures performs { (source : List ℕ) (picks : List pick.Pick) → Performs (command.Expect search) source
         (meaning script.now) picks expected.now result out.old out.new }
     ensures hears { HearsTelling G.hears progress.old progress.new search.telling }
+    ensures tells { IfOk result (λ _. HearsFound G.hears progress.old progress.new (meaning script.now) search
+        (compared_text (queue_names (meaning script.now)) expected.now) out.old out.new) }
 {
     let found = explored_by(alloc, script, search, progress)?;
     let Compared { text, status } = compare(alloc, script, &found, expected)?;
@@ -327,6 +337,8 @@ pub(crate) fn perform<
     ensures performs { Performs command source.now (meaning script.now) picks.now expected.now result
         out.old out.new }
     ensures hears { HearsCommand G.hears progress.old progress.new command }
+    ensures tells { IfOk result (λ _. HearsPrinted G.hears progress.old progress.new command (meaning script.now)
+        expected.now out.old out.new) }
 {
     match command {
         Command::Check => check(alloc, script, picks, out),

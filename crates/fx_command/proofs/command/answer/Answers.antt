@@ -3,7 +3,7 @@ use Rattle.std.proofs.Common.{◌∙◌}
 use Rattle.fx_command.specs.Call.{view_call}
 use Rattle.fx_command.proofs.Fetched.{text_kept}
 use Rattle.fx_command.proofs.CommandAnswer.{fetches, leaves_no_script, leaves_no_schedule, leaves_no_expected, leaves_unwritten, writes_answer}
-use Rattle.fx_command.proofs.Heard.{silent_command}
+use Rattle.fx_command.proofs.Heard.{silent_command, heard_answer}
 use Rattle.fx_command.proofs.command.answer.Goals as goal
 
 pub returns-in_err-script-clause-fault : goal.returns-in_err-script-clause-fault
@@ -61,3 +61,13 @@ returns-in_err-picks-clause-hears g c = silent_command g.G.Progress.hears c.args
 
 pub returns-in_err-expected-clause-hears : goal.returns-in_err-expected-clause-hears
 returns-in_err-expected-clause-hears g c = silent_command g.G.Progress.hears c.args.progress.now (view_call c.args.call).command
+
+pub returns-clause-tells : goal.returns-clause-tells
+returns-clause-tells g c =
+    let still =
+    text_kept _ _ c.args.call.expected c.schedule_of.ensures.kept c.requires.expected
+    ∙ text_kept _ _ c.args.call.expected c.script_of.ensures.kept c.requires.expected in
+    let has = rw (← c.deref.ensures.value) at c.in_ok-script.ensures.found in
+    let all = rw (still, ← c.deref-3.ensures.value) at c.in_ok-expected.ensures.found in
+    heard_answer g.G.Progress.hears c.args.progress.now c.perform.new.progress (g.F.Files.holds c.args.files.now) (view_call c.args.call) _ _
+    c.args.out.now c.perform.new.out c.perform.result (fetches _ _ _ has) all c.perform.ensures.tells

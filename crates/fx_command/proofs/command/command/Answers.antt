@@ -1,7 +1,9 @@
-use Rattle.std.proofs.Common.{refl, sym, ◌∙◌, ap, map, option_map, string_bytes}
-use Rattle.fx_command.specs.Call.{view_call}
+use Rattle.std.proofs.Common.{◌≡◌, Some, None, refl, sym, ◌∙◌, ap, subst, map, option_map, string_bytes}
+use Rattle.std.proofs.lemmas.Option.{same_Some}
+use Rattle.fx_command.specs.Call.{CallView, view_call}
+use Rattle.fx_command.specs.Heard.{HearsAnswer}
 use Rattle.fx_command.specs.CommandAnswer.Runs.{helped, other_words, answered, no_memory, not_taken}
-use Rattle.fx_command.proofs.CommandAnswer.{call_is, refusal_runs, unread_runs, run_fault_runs}
+use Rattle.fx_command.proofs.CommandAnswer.{call_is, refusal_runs, refused_is, unread_runs, unread_is, run_fault_runs, run_fault_is}
 use Rattle.fx_command.specs.Call.{call_of}
 use Rattle.fx_command.proofs.Heard.{silent_call, heard_call}
 use Rattle.fx_command.proofs.command.command.Goals as goal
@@ -106,3 +108,34 @@ returns-clause-hears g c =
     let words = call_of (map string_bytes c.args.words.now) in
     heard_call g.G.Progress.hears c.args.progress.now c.answer.new.progress call words
     (call_is (map string_bytes c.args.words.now) _ call c.of.ensures.call c.in-Some-of.is) c.answer.ensures.hears
+
+pub returns-in-Some-clause-tells : goal.returns-in-Some-clause-tells
+returns-in-Some-clause-tells g c = λ call none is ends.
+    absurd (let no : Some c.in-Some.topic.now ≡ None = sym (sym c.topic_of.ensures ∙ ap (option_map (λ topic. topic.now)) c.in-Some.is) ∙ none in cc)
+
+pub returns-in_default-of-clause-tells : goal.returns-in_default-of-clause-tells
+returns-in_default-of-clause-tells g c = λ call none is ends.
+    absurd (let no : None ≡ Some call = sym (sym c.of.ensures.call ∙ ap (option_map view_call) c.in_default-of.is) ∙ is in cc)
+
+pub returns-in-Ok-clause-tells : goal.returns-in-Ok-clause-tells
+returns-in-Ok-clause-tells g c = λ call none is ends.
+    let made = c.in-Some-of.call in
+    let same : view_call made ≡ call =
+    same_Some (view_call made) call (sym (call_is (map string_bytes c.args.words.now) _ made c.of.ensures.call c.in-Some-of.is) ∙ is) in
+    subst (λ (it : CallView). HearsAnswer g.G.Progress.hears c.args.progress.now c.answer.new.progress (g.F.Files.holds c.args.files.now) it
+    c.args.out.now c.answer.new.out) same c.in-Ok.ensures.tells
+
+pub returns-in-Refused-clause-tells : goal.returns-in-Refused-clause-tells
+returns-in-Refused-clause-tells g c = λ call none is ends. absurd (refused_is _ _ _ _ _ _ _ c.tell_refusal.ensures ends)
+
+pub returns-in-Unreadable-clause-tells : goal.returns-in-Unreadable-clause-tells
+returns-in-Unreadable-clause-tells g c = λ call none is ends. absurd (unread_is _ _ _ _ c.tell_unreadable.ensures ends)
+
+pub returns-in-Memory-clause-tells : goal.returns-in-Memory-clause-tells
+returns-in-Memory-clause-tells g c = λ call none is ends. absurd (ends.2 refl)
+
+pub returns-in-Run-clause-tells : goal.returns-in-Run-clause-tells
+returns-in-Run-clause-tells g c = λ call none is ends. absurd (run_fault_is _ _ _ _ c.tell_run_fault.ensures ends)
+
+pub returns-clause-tells : goal.returns-clause-tells
+returns-clause-tells g c = λ call none is ends. absurd (ends.2 refl)

@@ -15,3 +15,11 @@ returns-clause-performs g c source picks = record {
   answer = compared_with_status _ _ _ _ _ _ _ _ c.in_ok-found.ensures.explored c.new.ensures.bytes c.in_ok-text.ensures.status;
   taken = rw (c.deref.ensures, c.in_ok-text.ensures.text) at c.in_ok-write.ensures.whole;
 }
+
+pub returns-clause-tells : goal.returns-clause-tells
+returns-clause-tells g c = record {
+  found = c.in_ok-found.found;
+  is = c.in_ok-found.ensures.explored;
+  printed = rw (c.deref.ensures, c.in_ok-text.ensures.text) at c.in_ok-write.ensures.whole;
+  heard = c.in_ok-found.ensures.tells;
+}

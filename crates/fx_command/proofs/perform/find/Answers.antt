@@ -15,3 +15,11 @@ returns-clause-performs g c source picks expected = record {
   answer = explored_with_status _ _ _ _ _ _ _ _ c.in_ok-explored.ensures.explored c.new.ensures.bytes c.explored_status.ensures;
   taken = rw (c.deref.ensures, c.in_ok-text.ensures) at c.in_ok-write.ensures.whole;
 }
+
+pub returns-clause-tells : goal.returns-clause-tells
+returns-clause-tells g c = record {
+  found = c.in_ok-explored.explored;
+  is = c.in_ok-explored.ensures.explored;
+  printed = rw (c.deref.ensures, c.in_ok-text.ensures) at c.in_ok-write.ensures.whole;
+  heard = c.in_ok-explored.ensures.tells;
+}
