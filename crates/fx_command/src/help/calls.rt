@@ -268,8 +268,10 @@ const SCHEDULE: &str = "\
 A schedule chooses one run of a script. It is the text of a file, with words
 that spaces or line ends part, and is followed from left to right:
 
-  12    fiber 12 makes one step; passed over where it has not started, or waits
-  c12   the cancellation of fiber 12 is requested, also before it has started
+  12    fiber 12 makes one step; passed over where it has not started, waits or
+        has ended, and where there is no such number
+  c12   the cancellation of fiber 12 is requested, also before it has started;
+        passed over where there is no such number
 
 After the last word the fiber with the least number that can step makes one
 step, again and again, until none can. Main is fiber 0, and fibers check says
