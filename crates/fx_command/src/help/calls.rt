@@ -45,7 +45,9 @@ on each form, as bracket.
 
 Status  when
   0     all fibers have ended, a check passed, or help was printed
-  1     some fiber waits for good; standard error says where (not of explore)
+  0     of expect FILE: all runs were visited, and FILE has all their reports
+  1     some fiber waits for good; standard error says where (not of explore);
+        not of expect FILE
   1     of expect FILE: a run was found with a report that FILE does not have
   2     other words
   3     the script or the schedule is refused; standard error says where and why
