@@ -1,5 +1,5 @@
 -- What closes a place.
-use Rattle.std.specs.Prelude.{ℕ, Bool, true, false, if◌then◌else◌, ◌==◌, List, [], ◌∷◌}
+use Rattle.std.specs.Prelude.{ℕ, Bool, true, false, if◌then◌else◌, ◌==◌, Option, Some, None, List, [], ◌∷◌}
 
 -- what closes a position: the region of a mask, by the number of its entry, or a seal, which nothing takes off
 pub data Closing : Type 0 where
@@ -15,3 +15,13 @@ without_region r (Region s ∷ outer) = if s == r then outer else Region s ∷ o
 abbrev pub is_none_closed : List Closing → Bool
 is_none_closed [] = true
 is_none_closed (c ∷ cs) = false
+
+-- the number of the region, if it is one
+abbrev pub region_in : Closing → Option ℕ
+region_in (Region r) = Some r
+region_in Seal = None
+
+-- the number of the innermost one, if that is a region
+abbrev pub innermost_region : List Closing → Option ℕ
+innermost_region [] = None
+innermost_region (c ∷ outer) = region_in c

@@ -1,8 +1,8 @@
 //! The closed regions of the place where a fiber stands.
-ghost use Rattle.std.specs.Prelude.{◌≡◌, ◌≢◌, ℕ, ◌-◌, ◌^◌, ◌<◌, List, [], ◌∷◌, IsTrue, MatchBool, OnOk, OnErr, IfOk};
+ghost use Rattle.std.specs.Prelude.{◌≡◌, ◌≢◌, ℕ, ◌-◌, ◌^◌, ◌<◌, List, [], ◌∷◌, IsTrue, MatchBool, OnOk, OnErr, IfOk, option_map};
 ghost use Rattle.std.specs.Bool.{OnTrue};
 ghost use Rattle.fx_mask.specs.Closing as closing;
-ghost use Rattle.fx_mask.specs.Closing.{Closing, without_region, is_none_closed};
+ghost use Rattle.fx_mask.specs.Closing.{Closing, innermost_region, without_region, is_none_closed};
 ghost use Rattle.fx_mask.specs.Masks.{closed_by, entered, IsOpened};
 
 use crate::member::Member;
@@ -69,6 +69,14 @@ impl Masks {
         ensures { result ≡ self.now.entries }
     {
         self.entries
+    }
+
+    /// The innermost of what closes the place, if it is a region.
+    pub fn innermost(&self) -> Option<Region>
+        ensures { option_map (λ region. region.0) result ≡ innermost_region self.now.regions }
+    {
+        let member = self.members.last()?;
+        member.as_region()
     }
 
     /// The same masks in memory of their own, with room for each opened region.

@@ -1,7 +1,8 @@
 //! One thing that closes a place.
-ghost use Rattle.std.specs.Prelude.{◌≡◌, ◌<◌, ◌-◌, ◌^◌};
+ghost use Rattle.std.specs.Prelude.{◌≡◌, ◌<◌, ◌-◌, ◌^◌, option_map};
 ghost use Rattle.std.specs.Bool.{Decides};
 ghost use Rattle.fx_mask.specs.Closing as closing;
+ghost use Rattle.fx_mask.specs.Closing.{region_in};
 ghost use Rattle.fx_mask.specs.View.{closing_of};
 
 use crate::masks::Region;
@@ -37,5 +38,15 @@ impl Member {
         ensures { Decides result (closing_of self.now ≡ closing.Region region.0) }
     {
         self.number == region.0 && region.0 != u64::MAX
+    }
+
+    /// The region that it is, if it is one.
+    pub fn as_region(&self) -> Option<Region>
+        ensures { option_map (λ region. region.0) result ≡ region_in (closing_of self.now) }
+    {
+        if self.number == u64::MAX {
+            return None;
+        }
+        Some(Region(self.number))
     }
 }
