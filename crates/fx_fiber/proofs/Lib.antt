@@ -30,3 +30,8 @@ pub mod LeavesBelow
 pub mod WaitsBelow
 pub mod NodePlaces
 pub mod Turns
+pub mod Heads
+pub mod Pieces
+pub mod WrittenPlaces
+pub mod SameResources
+pub mod HeadNumbers

@@ -29,3 +29,7 @@ pub mod Telling
 pub mod QueueSteps
 pub mod LeafBelow
 pub mod NodePlaces
+pub mod Heads
+pub mod HeadNumbers
+pub mod Standing
+pub mod Pieces

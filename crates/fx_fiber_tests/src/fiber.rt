@@ -76,6 +76,7 @@ mod masking;
 mod parting;
 mod queues;
 mod resources;
+mod standing;
 mod unwinding;
 
 /// How many looks there were, at which the fiber is requested, from 1 on, the end that was told, and what

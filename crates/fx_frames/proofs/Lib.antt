@@ -1,2 +1,1 @@
-pub mod SameFrames
 pub mod LastFrame

@@ -1,6 +1,5 @@
 //! The contexts that a fiber has entered.
 ghost use Rattle.std.specs.Prelude.{◌≡◌, ℕ, ◌+◌, ◌^◌, ◌<◌, List, [], ◌∷◌, IfOk, OnOk, OnErr, MatchOption};
-ghost use Rattle.std.specs.Bool.{Decides};
 ghost use Rattle.fx_frames.specs.Frames.{cleanups_of};
 
 use crate::frame::Frame;
@@ -56,13 +55,6 @@ impl Frames {
         Ok(Frames {
             items: Vec::from_slice(alloc, &self.items)?,
         })
-    }
-
-    /// Whether these are the same contexts.
-    pub fn is_same(&self, other: &Frames) -> bool
-        ensures { Decides result (self.now ≡ other.now) }
-    {
-        self.items == other.items
     }
 
     /// The innermost context.

@@ -1,6 +1,5 @@
 //! The clean-ups of contexts that were given up.
 ghost use Rattle.std.specs.Prelude.{◌≡◌, [], ◌∷◌, reverse, option_to_list, IfOk, MatchOption};
-ghost use Rattle.std.specs.Bool.{OnTrue};
 ghost use Rattle.fx_frames.specs.Frames.{cleanups_of};
 
 use crate::cleanup::Cleanup;
@@ -60,13 +59,6 @@ impl Unwinding {
         Ok(Unwinding {
             items: Vec::from_slice(alloc, &self.items)?,
         })
-    }
-
-    /// Whether these are the same clean-ups, left by the same contexts. The same ones may have been left by others.
-    pub fn is_same(&self, other: &Unwinding) -> bool
-        ensures { OnTrue result (self.now ≡ other.now) }
-    {
-        self.items == other.items
     }
 
     /// Takes the next clean-up.

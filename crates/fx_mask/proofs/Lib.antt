@@ -1,2 +1,1 @@
 pub mod Closing
-pub mod Members

@@ -92,14 +92,6 @@ impl Masks {
         })
     }
 
-    /// Whether the same regions and seals are closed, and as many regions were ever entered.
-    pub fn is_same(&self, other: &Masks) -> bool
-        ensures { OnTrue result ((self.now.regions ≡ other.now.regions)
-            × (self.now.entries ≡ other.now.entries)) }
-    {
-        other.entries == self.entries && self.members == other.members
-    }
-
     /// Closes a new region, and gives its number.
     #[inline(always)]
     pub fn enter(&mut self) -> Result<Region, Memory>

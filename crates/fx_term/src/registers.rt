@@ -1,6 +1,5 @@
 //! The numbers of the names in scope.
 ghost use Rattle.std.specs.Prelude.{◌≡◌, ◌<◌, ◌≤◌, Some, [], length, slice_get, IfOk, OnOk, OnErr};
-ghost use Rattle.std.specs.Bool.{Decides};
 ghost use Rattle.fx_term.specs.declared.node.Arg.TheVariants.{Number};
 ghost use Rattle.fx_term.specs.Fill.{fill_arg};
 ghost use Rattle.fx_term.specs.Scope.{IsArgBelow};
@@ -50,13 +49,6 @@ impl Registers {
             numbers: Vec::from_slice(alloc, &self.numbers[..self.live])?,
             live: self.live,
         })
-    }
-
-    /// Whether these are the same numbers.
-    pub fn is_same(&self, other: &Registers) -> bool
-        ensures { Decides result (self.now ≡ other.now) }
-    {
-        self.numbers[..self.live] == other.numbers[..other.live]
     }
 
     /// Gives the binder's name the number. The numbers of names above it are gone.

@@ -1,6 +1,5 @@
 //! The clean-ups of a fiber that was canceled.
 ghost use Rattle.std.specs.Prelude.{◌≡◌, ◌∷◌, [], IfOk, MatchOption};
-ghost use Rattle.std.specs.Bool.{OnTrue};
 ghost use Rattle.fx_fiber.specs.Machine.{resource_of};
 
 use fx_frames::{Cleanup, Unwinding};
@@ -25,13 +24,6 @@ impl Unwound {
             resource: self.resource,
             left: self.left.copied(alloc)?,
         })
-    }
-
-    /// Whether these are the same.
-    pub fn is_same(&self, other: &Unwound) -> bool
-        ensures { OnTrue result (self.now ≡ other.now) }
-    {
-        self.resource == other.resource && self.left.is_same(&other.left)
     }
 
     /// Takes the next clean-up, which is the one that the fiber is in from now on.

@@ -3,7 +3,7 @@ ghost use Rattle.std.specs.Prelude.{◌≡◌};
 
 use super::{Looks, TestPort, main_fiber, stepped};
 use fx_fiber::Fiber;
-use fx_term::{Arg, Code, CodeBrand, Node, NodeId};
+use fx_term::{Arg, Code, CodeBrand, Memory, Node, NodeId};
 use std::alloc::Global;
 use std::marker::Brand;
 use std::test::Fail;
@@ -21,6 +21,17 @@ struct Forked {
     traces: bool,
 }
 
+/// Whether the two stand at one place.
+fn stand_alike<J: CodeBrand>(
+    code: &Code,
+    one: &Fiber<TestPort<J>>,
+    other: &Fiber<TestPort<J>>,
+) -> Result<bool, Memory>
+    requires { code.now.nodes ≡ J.nodes }
+{
+    Ok(one.standing(code)?.is_same(&other.standing(code)?))
+}
+
 /// Forks the main fiber of a code after so many steps, and has first the fork and then the fiber step.
 fn fork<J: CodeBrand>(
     alloc: Global,
@@ -35,14 +46,14 @@ fn fork<J: CodeBrand>(
     stepped(alloc, code, &mut fiber, &mut looks, steps)?;
     let port: TestPort<J> = fiber.port().copied()?;
     let mut fork = fiber.fork(port)?;
-    let at_first = fork.stands_as(&fiber);
+    let at_first = stand_alike(code, &fork, &fiber)?;
     stepped(alloc, code, &mut fork, &mut looks, 1)?;
-    let ahead = fork.stands_as(&fiber);
+    let ahead = stand_alike(code, &fork, &fiber)?;
     stepped(alloc, code, &mut fiber, &mut looks, 1)?;
     Ok(Forked {
         at_first,
         ahead,
-        level: fork.stands_as(&fiber),
+        level: stand_alike(code, &fork, &fiber)?,
         traces: fork.trace() == fiber.trace(),
     })
 }
