@@ -10,3 +10,5 @@ mod printed;
 mod searched_once;
 #[cfg(test)]
 mod small_scripts;
+#[cfg(test)]
+mod unused_names;
