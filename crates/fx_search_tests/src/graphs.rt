@@ -15,7 +15,7 @@ struct Graph {
 impl Space<Numbered> for Graph {
     ghost has = { λ graph state. Unit {0} };
 
-    ghost leads = { λ graph from to. Unit {0} };
+    ghost leads = { λ graph from asleep to. Unit {0} };
 
     ghost covers = { λ graph from asleep next. Unit {0} };
 

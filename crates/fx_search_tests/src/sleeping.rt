@@ -33,7 +33,7 @@ fn set_of(numbers: &[u32]) -> MoveSet {
 impl Space<Numbered> for Moves {
     ghost has = { λ graph state. Unit {0} };
 
-    ghost leads = { λ graph from to. Unit {0} };
+    ghost leads = { λ graph from asleep to. Unit {0} };
 
     ghost covers = { λ graph from asleep next. Unit {0} };
 
