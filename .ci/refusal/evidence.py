@@ -19,7 +19,7 @@ def against(said, crate, found):
     - A goal of its lines is not proved.
     - The search for its proof did not prove a goal.
     - Its own Answers, Invariants or Proof have an error that is no mere matter of names. A cycle of calls has one such
-      file, in which the goal's name begins with the function's.
+      file, in which the goal's name begins with the function's, and a function that calls itself has it in a folder +NAME.
 
     That it calls what is not proved is no goal of its own: every caller of a wrong body says that."""
     shown = {}
@@ -39,8 +39,8 @@ def in_line(line, crate, found):
     elif (answer := ANSWER.match(line)) and not OF_NAMES.search(answer[2]):
         goal = (re.match(r"`([^`]+)`", answer[2]) or ["", answer[2][:90]])[1].removeprefix("goal.")
         folder = answer[1].split("/")[-1]
-        path = in_cycle(folder[1:], goal, found) if folder.startswith("+") else owner(answer[1].replace("/", "::"), found)
-        yield path or f"proofs/{answer[1]}", goal
+        cycle = in_cycle(folder[1:], goal, found) if folder.startswith("+") else None
+        yield cycle or owner(answer[1].replace("+", "").replace("/", "::"), found), goal
 
 
 def owner(path, found):

@@ -2,4 +2,6 @@
 #![tactic(auto)]
 
 #[cfg(test)]
+mod queues;
+#[cfg(test)]
 mod steps;
