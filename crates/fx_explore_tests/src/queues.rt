@@ -1,6 +1,7 @@
 //! The values in the queues of a state, which one number tells where they are few and small.
 
-use fx_explore::{Note, State};
+use fx_explore::{NumberedStep, State};
+use fx_term::Event;
 use std::alloc::Global;
 use std::test::Fail;
 
@@ -16,17 +17,26 @@ use Done::{Puts, Takes};
 /// The second queue's number in a state.
 const QUEUE: u8 = 1;
 
+/// A step of a fiber that stays where it is.
+fn step_that_shows(event: Event) -> NumberedStep {
+    NumberedStep {
+        place: 0,
+        child: None,
+        shown: Some(event),
+    }
+}
+
 /// The state after these steps, where a queue on each side holds a large value.
 fn state_after(alloc: Global, done: &[Done]) -> Result<State, Fail> {
     let mut state = State::opening(alloc, 1, 3, 0)?;
-    state.go_on(0, Some(Note::Put(0, 300)), 0, None)?;
-    state.go_on(0, Some(Note::Put(2, 400)), 0, None)?;
+    state.go_on(0, &step_that_shows(Event::Put(0, 300)))?;
+    state.go_on(0, &step_that_shows(Event::Put(2, 400)))?;
     for &it in done {
-        let note = match it {
-            Puts(value) => Note::Put(QUEUE, value),
-            Takes => Note::Got(QUEUE, 0),
+        let shown = match it {
+            Puts(value) => Event::Put(QUEUE, value),
+            Takes => Event::Got(QUEUE, 0),
         };
-        state.go_on(0, Some(note), 0, None)?;
+        state.go_on(0, &step_that_shows(shown))?;
     }
     Ok(state)
 }
