@@ -8,3 +8,5 @@ mod one_end;
 mod pairs;
 #[cfg(test)]
 mod searched;
+#[cfg(test)]
+mod twins;

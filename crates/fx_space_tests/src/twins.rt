@@ -1,0 +1,58 @@
+//! Three fibers at one queue, from which each takes something, or into which each puts something.
+
+use crate::searched::{searched, set_of};
+use fx_search::Ending;
+use fx_space::Choices;
+use fx_text::parse;
+use std::test::Fail;
+
+/// Whether in a search of the script these fibers are asleep, by state in the order in which they are met.
+fn sleep_so(rt: &HostRuntime, text: &[u8], asleep: &[&[u32]]) -> Result<bool, Fail> {
+    let script = parse(rt.alloc(), text)?;
+    let (met, _) = searched(rt.alloc(), &script, Choices::All)?;
+    if met.ending != Ending::Exhausted || met.states.len() != asleep.len() {
+        return Ok(false);
+    }
+    for index in 0..asleep.len() {
+        if met.asleep.get(index) != Some(&set_of(asleep[index])) {
+            return Ok(false);
+        }
+    }
+    Ok(true)
+}
+
+#[test]
+fn fibers_sleep_after_a_take_of_the_value_that_they_would_take(
+    rt: HostRuntime,
+) -> Result<(), Fail> {
+    let text = b"(queue p 3) (main (seq (offer p 7) (offer p 7) (offer p 7)
+        (start a (take p) (start b (take p) (start c (take p) (pure 0))))))";
+    // before any step, and as three can take; after the take of the first one, the second one and the third one; and at rest,
+    // since who is the last to take does so at once
+    let asleep: [&[u32]; 6] = [&[], &[], &[], &[1], &[1, 2], &[]];
+    assert!(rt; sleep_so(&rt, text, &asleep)?);
+    Ok(())
+}
+
+#[test]
+fn nobody_sleeps_after_a_take_that_leaves_another_value(rt: HostRuntime) -> Result<(), Fail> {
+    let text = b"(queue p 3) (main (seq (offer p 7) (offer p 8) (offer p 7)
+        (start a (take p) (start b (take p) (start c (take p) (pure 0))))))";
+    // before any step, and as three can take; after the take of each; and at rest, as each may have taken the 8
+    let asleep: [&[u32]; 8] = [&[]; 8];
+    assert!(rt; sleep_so(&rt, text, &asleep)?);
+    Ok(())
+}
+
+#[test]
+fn fibers_sleep_after_a_put_of_their_value_where_there_is_room_for_both(
+    rt: HostRuntime,
+) -> Result<(), Fail> {
+    let text = b"(queue p 2) (main
+        (start a (offer p 5) (start b (offer p 5) (start c (offer p 5) (pure 0)))))";
+    // before any step, and as three can put; after the put of the first one, the second one and the third one, where one more
+    // can put; and at rest, as the third one waits, the second one, and the first one
+    let asleep: [&[u32]; 8] = [&[], &[], &[], &[1], &[1, 2], &[], &[], &[]];
+    assert!(rt; sleep_so(&rt, text, &asleep)?);
+    Ok(())
+}
