@@ -25,12 +25,19 @@ fn sleep_so(rt: &HostRuntime, text: &[u8], asleep: &[&[u32]]) -> Result<bool, Fa
 fn fibers_sleep_after_a_take_of_the_value_that_they_would_take(
     rt: HostRuntime,
 ) -> Result<(), Fail> {
-    let text = b"(queue p 3) (main (seq (offer p 7) (offer p 7) (offer p 7)
-        (start a (take p) (start b (take p) (start c (take p) (pure 0))))))";
+    // A value below 16 is told by the number of its queue, where two numbers tell a large one.
+    let texts: [&[u8]; 2] = [
+        b"(queue p 3) (main (seq (offer p 7) (offer p 7) (offer p 7)
+        (start a (take p) (start b (take p) (start c (take p) (pure 0))))))",
+        b"(queue p 3) (main (seq (offer p 5000000070) (offer p 5000000070) (offer p 5000000070)
+        (start a (take p) (start b (take p) (start c (take p) (pure 0))))))",
+    ];
     // before any step, and as three can take; after the take of the first one, the second one and the third one; and at rest,
     // since who is the last to take does so at once
     let asleep: [&[u32]; 6] = [&[], &[], &[], &[1], &[1, 2], &[]];
-    assert!(rt; sleep_so(&rt, text, &asleep)?);
+    for text in texts {
+        assert!(rt; sleep_so(&rt, text, &asleep)?);
+    }
     Ok(())
 }
 
