@@ -7,6 +7,8 @@ mod one_end;
 #[cfg(test)]
 mod pairs;
 #[cfg(test)]
+mod requested;
+#[cfg(test)]
 mod searched;
 #[cfg(test)]
 mod twins;

@@ -1,12 +1,13 @@
 //! What a search of a small script meets.
 ghost use Rattle.std.specs.Prelude.{◌≡◌};
 
-use fx_search::{Met, MoveSet, Nobody, search};
+use fx_search::{Ending, Met, MoveSet, Nobody, search};
 use fx_space::{Choices, Runs};
 use fx_term::{CodeBrand, Memory};
-use fx_text::Script;
+use fx_text::{Script, parse};
 use std::alloc::Global;
 use std::marker::Brand;
+use std::test::Fail;
 
 /// The set of these numbers.
 pub fn set_of(numbers: &[u32]) -> MoveSet {
@@ -46,4 +47,19 @@ pub fn searched(
     choices: Choices,
 ) -> Result<(Met, Vec<usize>), Memory> {
     searched_named::<Brand>(alloc, script, choices)
+}
+
+/// Whether in a search of the script these fibers are asleep, by state in the order in which they are met.
+pub(crate) fn sleep_so(rt: &HostRuntime, text: &[u8], asleep: &[&[u32]]) -> Result<bool, Fail> {
+    let script = parse(rt.alloc(), text)?;
+    let (met, _) = searched(rt.alloc(), &script, Choices::All)?;
+    if met.ending != Ending::Exhausted || met.states.len() != asleep.len() {
+        return Ok(false);
+    }
+    for index in 0..asleep.len() {
+        if met.asleep.get(index) != Some(&set_of(asleep[index])) {
+            return Ok(false);
+        }
+    }
+    Ok(true)
 }

@@ -1,25 +1,7 @@
 //! Three fibers at one queue, from which each takes something, or into which each puts something.
 
-use crate::searched::{searched, set_of};
-use fx_search::Ending;
-use fx_space::Choices;
-use fx_text::parse;
+use crate::searched::sleep_so;
 use std::test::Fail;
-
-/// Whether in a search of the script these fibers are asleep, by state in the order in which they are met.
-fn sleep_so(rt: &HostRuntime, text: &[u8], asleep: &[&[u32]]) -> Result<bool, Fail> {
-    let script = parse(rt.alloc(), text)?;
-    let (met, _) = searched(rt.alloc(), &script, Choices::All)?;
-    if met.ending != Ending::Exhausted || met.states.len() != asleep.len() {
-        return Ok(false);
-    }
-    for index in 0..asleep.len() {
-        if met.asleep.get(index) != Some(&set_of(asleep[index])) {
-            return Ok(false);
-        }
-    }
-    Ok(true)
-}
 
 #[test]
 fn fibers_sleep_after_a_take_of_the_value_that_they_would_take(
