@@ -8,7 +8,7 @@
 //!    schedule makes, and the findings of that one come first.
 //! 2. Each state at rest that was met is told once, in the order of the search: those first in which a fiber
 //!    is blocked. What is told of it has a row of numbers, and it is compared with what was told before only
-//!    where that row is known.
+//!    where that row is known: first with the finding whose row that is.
 //! 3. A schedule is looked for by going back from a state to the start, and it is followed before it is told:
 //!    it leads where it says. Where a fiber learns of the right one of two that have both ended, which no schedule makes,
 //!    the end of the left one is put behind that step. The last picks are left out, as far as their steps are made without
